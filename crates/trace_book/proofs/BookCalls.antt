@@ -12,7 +12,7 @@ use Rattle.trace_history.specs.LateMemory.{TakesMemoryLate}
 use Rattle.trace_state.proofs.Histories.{IsLegal-push, length-past_of}
 use Rattle.trace_live.specs.Lives.{limited_answer}
 use Rattle.trace_live.proofs.BookAnswers.{book-answer}
-use Rattle.trace_live.proofs.Limits.{early-with_room, limited-done, limited-late}
+use Rattle.trace_live.proofs.Limits.{limited-done, limited-late}
 use Rattle.trace_book.specs.BookSeen.{BookSeen}
 use Rattle.trace_book.specs.private.BookCalls.{IsBookCall}
 
@@ -65,23 +65,6 @@ memory-call old new entry reply legal config entries given room =
       reply = λ other. absurd (other refl);
       early = λ early. absurd (late old.config past request reply given early);
       late_memory = λ takes. rw is tt;
-      done = tt;
-      refused = entries;
-      config = config;
-      legal = legal_still old new legal config entries;
-    }
-
--- one for which memory is refused after what is found early was looked at
-pub out_of_memory-call : (old new : BookSeen) (entry : Entry) → IsLegal old.config old.entries → new.config ≡ old.config → new.entries ≡ old.entries
-    → (IsFoundEarly (answer_with_room old.config (past_of old.entries) (request_of entry.command)) → ⊥)
-    → (TakesMemoryLate (request_of entry.command) → ⊥) → IsBookCall old new entry (Err Memory)
-out_of_memory-call old new entry legal config entries not_early not_late =
-    let past = past_of old.entries in
-    let request = request_of entry.command in record {
-      reply = λ other. absurd (other refl);
-      early = λ early. absurd (not_early (early-with_room old.config.history_limit old.config past request
-          (subst IsFoundEarly (book-answer old.config past request) early)));
-      late_memory = λ takes. absurd (not_late takes);
       done = tt;
       refused = entries;
       config = config;

@@ -10,10 +10,6 @@
 //! ```
 //!
 //! So a command that is refused leaves nothing, and one that is done leaves its entry.
-//!
-//! Most emissions are plain (`plain.rt`): they run a shorter way, with the same two phases.
-
-mod plain;
 
 ghost use Rattle.std.specs.Prelude.{◌≡◌, ◌<◌, [], ◌∷◌, ◌++◌, All, length, is_some, IfOk, IfErr, IfSome, OnOk, OnErr, ◌≢◌};
 ghost use Rattle.std.specs.List.{slice_get};
@@ -35,7 +31,7 @@ use std::slice;
 use trace_command::{BorrowedEmission, Command, Config, Refusal, Reply};
 use trace_format::{EventDef, Pair, borrowed};
 use trace_instance::Instance;
-use trace_live::{Live, let_go, let_go_change, let_go_delivery, single};
+use trace_live::{Live, let_go, let_go_change, single};
 use trace_log::{Entries, History};
 
 /// A tracer and the history of the commands done. Commands name files as in ftrace.rst and run one at a time.
@@ -156,15 +152,12 @@ impl Book {
         ensures config { self.new.config ≡ self.old.config }
         ensures legal { IsLegal self.new.config self.new.entries }
     {
-        if self.ask_plain(ticket, by, emission)? {
-            return Ok(Reply::Done);
-        }
-        self.ask_any(ticket, by, emission)
+        self.run_emission(ticket, by, emission)
     }
 
-    // As `ask_emission`, for an emission of any kind. Out of line, so that plain ones don't pay for its locals.
-    #[inline(never)]
-    fn ask_any(
+    // As `ask_emission`, whose clauses are here in one word.
+    #[inline(always)]
+    fn run_emission(
         &mut self,
         ticket: u64,
         by: u32,
@@ -175,18 +168,17 @@ impl Book {
     {
         let limit = self.live.config().history_limit;
         let (event, cpu, pid, pairs) = emission.parts();
-        let delivery = match self.live.prepare_emission(limit, event, cpu, pid, pairs) {
-            Ok(delivery) => delivery,
+        match self.live.prepare_emission(limit, event, cpu, pid, pairs) {
+            Ok(()) => {}
             Err(refusal) => return Err(refusal),
-        };
+        }
         let Ok(()) = self
             .history
             .write_emission_ahead(ticket, by, event, cpu, pid, pairs)
         else {
-            let_go_delivery(delivery);
             return Err(Refusal::Memory);
         };
-        self.live.deliver(delivery);
+        self.live.deliver();
         self.history.append_written();
         Ok(Reply::Done)
     }

@@ -10,10 +10,9 @@ pub mod OperandLemmas
 pub mod OrderLemmas
 pub mod PairLemmas
 pub mod PartLemmas
-pub mod PatternLemmas
+pub mod MagnitudeLemmas
 pub mod Patterns
 mod Complements
-pub mod PayloadLemmas
 pub mod Payloads
 pub mod ReadingLemmas
 pub mod RefusalLemmas

@@ -1,32 +1,38 @@
 //! Pairs that name the fields of an event in order, as most emissions write them: one pass reads their values.
 
-ghost use Rattle.std.specs.Prelude.{◌≡◌, true, map, IfOk, Some, option_map};
+ghost use Rattle.std.specs.Prelude.{◌≡◌, ◌+◌, ◌<◌, true, map, IfOk, Some, vec_len, vec_capacity};
 ghost use Rattle.trace_format.specs.Cells.{datum_of};
-ghost use Rattle.trace_format.specs.private.InOrder.{named_value as value_where_named, values_in_order};
+ghost use Rattle.trace_format.specs.private.InOrder.{named_value as value_where_named, values_in_order, IsPushed};
 
 use crate::borrowed_pair::BorrowedPair;
 use crate::event::Field;
 use crate::kind::Kind;
-use crate::value::{Value, read_value};
+use crate::value::{Value, push_value};
 use std::alloc::{AllocError, Global};
 
-/// The value that a pair gives to a field, if it names it.
-fn named_value(
+/// Adds the value that a pair gives to a field to a list with room for it, if it names the field and gives one. Whether it does.
+#[inline(always)]
+fn push_named(
     alloc: Global,
     field: &Field,
     pair: &BorrowedPair<'_>,
-) -> Result<Option<Value>, AllocError>
-    ensures { IfOk result (λ found. option_map datum_of found ≡ value_where_named field.now pair.now) }
+    values: &mut Vec<Value>,
+) -> Result<bool, AllocError>
+    requires { vec_len values.old < vec_capacity values.old }
+    ensures pushed { IfOk result (λ is. is ≡ true → IsPushed (value_where_named field.now pair.now) values.old.items values.new.items) }
+    ensures len { IfOk result (λ is. is ≡ true → vec_len values.new ≡ vec_len values.old + 1) }
+    ensures capacity { IfOk result (λ is. is ≡ true → vec_capacity values.new ≡ vec_capacity values.old) }
 {
     if field.name.as_bytes() == pair.name() {
-        read_value(alloc, field.kind, pair.value())
+        push_value(alloc, field.kind, pair.value(), values)
     } else {
-        Ok(None)
+        Ok(false)
     }
 }
 
 /// Fills two lists with the types of the fields and the values of the pairs, and tells whether the pairs name the fields in order. Otherwise
 /// what the lists hold doesn't matter. A list that has had as many elements before takes no allocation.
+#[inline(always)]
 pub(crate) fn read_in_order(
     alloc: Global,
     fields: &[Field],
@@ -45,11 +51,10 @@ pub(crate) fn read_in_order(
     kinds.reserve_exact(fields.len())?;
     values.reserve_exact(fields.len())?;
     for (i, field) in fields.iter().enumerate() {
-        let Some(value) = named_value(alloc, field, &pairs[i])? else {
+        if !push_named(alloc, field, &pairs[i], values)? {
             return Ok(false);
-        };
+        }
         kinds.push_reserved(field.kind);
-        values.push_reserved(value);
     }
     Ok(true)
 }

@@ -1,7 +1,9 @@
 //! Rows: the values of an event's fields.
 
-ghost use Rattle.std.specs.Prelude.{◌≡◌, ◌≤◌, ◌↔◌, List, ℕ, [], IfOk, IfErr, IfSome, IsSome, OnOk, Some, None, Ok, Err, length, map};
-ghost use Rattle.trace_format.specs.Cells.{IsRow, datum_of};
+ghost use Rattle.std.specs.Prelude.{◌≡◌, ◌≤◌, ◌↔◌, List, ℕ, [], IfOk, IfErr, IfSome, IsSome, OnOk, OnErr, Some, None, Ok, Err, length, map};
+ghost use Rattle.std.specs.Result.{result_and};
+ghost use Rattle.trace_format.specs.Cells.{IsRow, IsRowOf, datum_of};
+ghost use Rattle.trace_format.specs.Definitions.{IsDefinition};
 ghost use Rattle.trace_format.specs.Rows.{first_wrong, first_missing, row_of, IsBuilt};
 
 use crate::borrowed_pair::{BorrowedPair, borrowed};
@@ -73,6 +75,16 @@ impl Row {
     ghost use Rattle.trace_format.specs.Pairs.{Give, IsRefusedRow};
     ghost use Rattle.trace_format.specs.Decoding.{row_from};
 
+    /// A row of no field.
+    pub fn new(alloc: Global) -> Row
+        ensures { result ≡ record { kinds = []; values = [] } }
+    {
+        Row {
+            kinds: Vec::new(alloc),
+            values: Vec::new(alloc),
+        }
+    }
+
     /// The row that pairs of field names and texts give. Each field is in one pair, in any order.
     ///
     /// It is refused as `BadRow` at the first pair whose name is unknown or repeated or whose text is no value of its field, and with
@@ -91,66 +103,39 @@ impl Row {
         ensures exact { IsBuilt result (row_of def.now pairs.now) }
     {
         let pairs = borrowed(alloc, pairs)?;
-        Row::build_in(alloc, &mut RowMemory::new(alloc), def, &pairs)
+        let mut row = Row::new(alloc);
+        match row.rebuild(alloc, def, &pairs) {
+            Ok(()) => Ok(row),
+            Err(fault) => Err(fault),
+        }
     }
 
-    /// The row that `build` makes, in the memory of an earlier one. Pairs that name the fields in order take one pass and no search. The row takes
-    /// the memory's room with it; after a refusal the memory keeps what room it has. It means nothing, so contracts see no change of it.
-    pub fn build_in(
+    /// Makes it the row that `build` makes, in its own memory: a row of no more fields takes no allocation for the lists of its types and values.
+    /// Pairs that name the fields in order take one pass and no search. After a refusal it has no field.
+    #[inline(never)]
+    pub fn rebuild(
+        &mut self,
         alloc: Global,
-        memory: &mut RowMemory,
         def: &EventDef,
         pairs: &[BorrowedPair<'_>],
-    ) -> Result<Row, RowFault>
-        ensures row { IfOk result (IsRowOf def.now) }
-        ensures map { IfOk result (Give def.now.fields pairs.now) }
-        ensures only { (row : Cells) → IsRowOf def.now row → Give def.now.fields pairs.now row → IsBuilt result (Ok row) }
+    ) -> Result<(), RowFault>
+        ensures row { OnOk result (IsRowOf def.now self.new) }
+        ensures map { OnOk result (Give def.now.fields pairs.now self.new) }
+        ensures only { (row : Cells) → IsRowOf def.now row → Give def.now.fields pairs.now row
+            → IsBuilt (result_and result (Ok self.new)) (Ok row) }
         ensures refused { IfErr result (IsRefusedRow def.now pairs.now) }
-        ensures names { IfOk result (λ row. StandByName def.now.fields row.values) }
-        ensures exact { IsBuilt result (row_of def.now pairs.now) }
-        ensures memory { memory.new ≡ memory.old }
+        ensures names { OnOk result (StandByName def.now.fields self.new.values) }
+        ensures exact { IsBuilt (result_and result (Ok self.new)) (row_of def.now pairs.now) }
+        ensures empty { OnErr result (self.new ≡ record { kinds = []; values = [] }) }
     {
-        Row::read_in(alloc, memory, def, pairs)
-    }
-
-    /// The row: in one pass where the pairs name the fields in order, else field by field.
-    fn read_in(
-        alloc: Global,
-        memory: &mut RowMemory,
-        def: &EventDef,
-        pairs: &[BorrowedPair<'_>],
-    ) -> Result<Row, RowFault>
-        ensures definition { IsDefinition def.now }
-        ensures row { IfOk result (IsRowOf def.now) }
-        ensures exact { IsBuilt result (row_of def.now pairs.now) }
-    {
-        let fields = def.fields();
-        if read_in_order(alloc, fields, pairs, &mut memory.kinds, &mut memory.values)? {
-            return Ok(row_in(alloc, &mut memory.kinds, &mut memory.values));
+        match fill(alloc, def, pairs, &mut self.kinds, &mut self.values) {
+            Ok(()) => Ok(()),
+            Err(fault) => {
+                self.kinds.clear();
+                self.values.clear();
+                Err(fault)
+            }
         }
-        Row::read(alloc, def, pairs, memory)
-    }
-
-    /// The row, field by field.
-    fn read(
-        alloc: Global,
-        def: &EventDef,
-        pairs: &[BorrowedPair<'_>],
-        memory: &mut RowMemory,
-    ) -> Result<Row, RowFault>
-        ensures definition { IsDefinition def.now }
-        ensures row { IfOk result (IsRowOf def.now) }
-        ensures exact { IsBuilt result (row_of def.now pairs.now) }
-    {
-        let fields = def.fields();
-        if !given_values(alloc, fields, pairs, &mut memory.values)? {
-            return Err(refusal(alloc, def, pairs));
-        }
-        if !are_new(fields, pairs) {
-            return Err(refusal(alloc, def, pairs));
-        }
-        fill_kinds(fields, &mut memory.kinds)?;
-        Ok(row_in(alloc, &mut memory.kinds, &mut memory.values))
     }
 
     /// Writes the row's payload: the fields in order of declaration with nothing between them, numbers in two's complement with the
@@ -201,6 +186,52 @@ impl Row {
     {
         self.values.as_slice()
     }
+}
+
+/// Fills two lists with the types of an event's fields and the values that pairs give them: in one pass where the pairs name the fields in order,
+/// else field by field. After a refusal what the lists hold doesn't matter.
+#[inline(always)]
+fn fill(
+    alloc: Global,
+    def: &EventDef,
+    pairs: &[BorrowedPair<'_>],
+    kinds: &mut Vec<Kind>,
+    values: &mut Vec<Value>,
+) -> Result<(), RowFault>
+    ensures definition { IsDefinition def.now }
+    ensures row { OnOk result (IsRowOf def.now (record { kinds = kinds.new.items; values = map datum_of values.new.items })) }
+    ensures exact { IsBuilt (result_and result (Ok (record { kinds = kinds.new.items; values = map datum_of values.new.items })))
+        (row_of def.now pairs.now) }
+{
+    let fields = def.fields();
+    if read_in_order(alloc, fields, pairs, kinds, values)? {
+        return Ok(());
+    }
+    fill_by_name(alloc, def, pairs, kinds, values)
+}
+
+/// Likewise, field by field.
+#[inline(never)]
+fn fill_by_name(
+    alloc: Global,
+    def: &EventDef,
+    pairs: &[BorrowedPair<'_>],
+    kinds: &mut Vec<Kind>,
+    values: &mut Vec<Value>,
+) -> Result<(), RowFault>
+    ensures row { OnOk result (IsRowOf def.now (record { kinds = kinds.new.items; values = map datum_of values.new.items })) }
+    ensures exact { IsBuilt (result_and result (Ok (record { kinds = kinds.new.items; values = map datum_of values.new.items })))
+        (row_of def.now pairs.now) }
+{
+    let fields = def.fields();
+    if !given_values(alloc, fields, pairs, values)? {
+        return Err(refusal(alloc, def, pairs));
+    }
+    if !are_new(fields, pairs) {
+        return Err(refusal(alloc, def, pairs));
+    }
+    fill_kinds(fields, kinds)?;
+    Ok(())
 }
 
 /// Why pairs give no row of an event: the first that is wrong, else the first field that is missing.

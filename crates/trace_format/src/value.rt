@@ -1,14 +1,16 @@
 //! The values of fields, and the texts that write them.
 
-ghost use Rattle.std.specs.Prelude.{◌≡◌, if◌then◌else◌, IfOk, Some, None, is_some, option_map};
+ghost use Rattle.std.specs.Prelude.{◌≡◌, ◌+◌, ◌<◌, true, if◌then◌else◌, IfOk, Some, None, is_some, option_map, vec_len, vec_capacity};
 ghost use Rattle.std.specs.List.{list_all};
 ghost use Rattle.trace_format.specs.declared.kind.Kind.TheVariants as kinds;
 ghost use Rattle.trace_format.specs.Cells.{Datum, Whole, Bytes, datum_of, is_printable as spec_printable};
 ghost use Rattle.trace_format.specs.Rows.{value_of};
+ghost use Rattle.trace_format.specs.private.NumberPatterns.{magnitude_in};
+ghost use Rattle.trace_format.specs.private.InOrder.{IsPushed};
 
 use crate::kind::{Kind, NumberType};
 use std::alloc::{AllocError, Global};
-use trace_lex::number;
+use trace_lex::{magnitude, number};
 
 /// The value of a field.
 #[derive(Drop)]
@@ -80,5 +82,94 @@ pub(crate) fn read_value(
                 Ok(None)
             }
         }
+    }
+}
+
+/// Adds the value that a text gives to a field of a type to a list with room for it. Whether it gives one.
+#[inline(always)]
+pub(crate) fn push_value(
+    alloc: Global,
+    kind: Kind,
+    text: &[u8],
+    values: &mut Vec<Value>,
+) -> Result<bool, AllocError>
+    requires { vec_len values.old < vec_capacity values.old }
+    ensures pushed { IfOk result (λ is. is ≡ true → IsPushed (value_of kind text.now) values.old.items values.new.items) }
+    ensures len { IfOk result (λ is. is ≡ true → vec_len values.new ≡ vec_len values.old + 1) }
+    ensures capacity { IfOk result (λ is. is ≡ true → vec_capacity values.new ≡ vec_capacity values.old) }
+{
+    match kind {
+        Kind::Number(number_type) => Ok(push_number(number_type, text, values)),
+        Kind::Char(_) => push_text(alloc, kind, text, values),
+    }
+}
+
+/// Likewise, for a number. Without a `-` it is read as one of 64 bits.
+#[inline(always)]
+fn push_number(number_type: NumberType, text: &[u8], values: &mut Vec<Value>) -> bool
+    requires { vec_len values.old < vec_capacity values.old }
+    ensures pushed { result ≡ true → IsPushed (value_of (kinds.Number number_type) text.now) values.old.items values.new.items }
+    ensures len { result ≡ true → vec_len values.new ≡ vec_len values.old + 1 }
+    ensures capacity { result ≡ true → vec_capacity values.new ≡ vec_capacity values.old }
+{
+    match text {
+        [b'-', ..] => push_signed(number_type, text, values),
+        _ => match held_magnitude(number_type, text) {
+            Some(value) => {
+                values.push_reserved(Value::Num(i128::from(value)));
+                true
+            }
+            None => false,
+        },
+    }
+}
+
+/// Likewise, by way of a signed number of 128 bits.
+#[inline(never)]
+fn push_signed(number_type: NumberType, text: &[u8], values: &mut Vec<Value>) -> bool
+    requires { vec_len values.old < vec_capacity values.old }
+    ensures pushed { result ≡ true → IsPushed (value_of (kinds.Number number_type) text.now) values.old.items values.new.items }
+    ensures len { result ≡ true → vec_len values.new ≡ vec_len values.old + 1 }
+    ensures capacity { result ≡ true → vec_capacity values.new ≡ vec_capacity values.old }
+{
+    match number_value(number_type, text) {
+        Some(number) => {
+            values.push_reserved(Value::Num(number));
+            true
+        }
+        None => false,
+    }
+}
+
+/// Likewise, for a type of any kind.
+#[inline(never)]
+fn push_text(
+    alloc: Global,
+    kind: Kind,
+    text: &[u8],
+    values: &mut Vec<Value>,
+) -> Result<bool, AllocError>
+    requires { vec_len values.old < vec_capacity values.old }
+    ensures pushed { IfOk result (λ is. is ≡ true → IsPushed (value_of kind text.now) values.old.items values.new.items) }
+    ensures len { IfOk result (λ is. is ≡ true → vec_len values.new ≡ vec_len values.old + 1) }
+    ensures capacity { IfOk result (λ is. is ≡ true → vec_capacity values.new ≡ vec_capacity values.old) }
+{
+    match read_value(alloc, kind, text)? {
+        Some(value) => {
+            values.push_reserved(value);
+            Ok(true)
+        }
+        None => Ok(false),
+    }
+}
+
+/// The value of a numeral without a sign, if the type has it.
+#[inline(always)]
+fn held_magnitude(number_type: NumberType, text: &[u8]) -> Option<u64>
+    ensures { result ≡ magnitude_in number_type text.now }
+{
+    match magnitude(text) {
+        Some(value) if value <= number_type.greatest_magnitude() => Some(value),
+        _ => None,
     }
 }

@@ -36,7 +36,6 @@ use Rattle.trace_instance.proofs.KeptLists.{AllOfEach}
 use Rattle.trace_instance.proofs.TableStands.{table-hit}
 use Rattle.trace_instance.specs.declared.hists.AttachedHist.{AttachedHist}
 use Rattle.trace_instance.specs.declared.change.Delivery.{Delivery}
-use Rattle.trace_instance.specs.declared.change.Pending.{Pending}
 use Rattle.trace_instance.specs.declared.change.Reach.{Reach}
 use Rattle.trace_instance.specs.declared.trigger.Trigger.{Trigger}
 
@@ -198,16 +197,14 @@ can-fire g name past e index reach i stands indexed fires = λ is.
     by (Some side) stood = refl
 
 -- the live side's rings with the record
-written-rings : (name : Option (List ℕ)) (past : List Request) (e : Emitted) (records overwrite : Bool) (bytes_of : Option Pending) (family : List (List ring.Event))
-    → records ≡ is_recorded name past e → overwrite ≡ overwrites name past
-    → ((p : Pending) → bytes_of ≡ Some p → (p.bytes.items ≡ emitted_bytes e) × (p.cpu ≡ e.cpu)) → (bytes_of ≡ None → records ≡ false)
-    → recorded_in records overwrite bytes_of family ≡ with_emitted name past (Some e) family
-written-rings name past e records overwrite None family is over bytes none =
-    let quiet : is_recorded name past e ≡ false = sym is ∙ none refl in
-    rw quiet refl
-written-rings name past e records overwrite (Some p) family is over bytes none =
-    let own = bytes p refl in
-    rw (is, over, own.0, own.1) refl
+written-rings : (name : Option (List ℕ)) (past : List Request) (e : Emitted) (records overwrite : Bool) (cpu : ℕ) (bytes : List ℕ)
+    (family : List (List ring.Event)) → records ≡ is_recorded name past e → overwrite ≡ overwrites name past → cpu ≡ e.cpu
+    → (records ≡ true → bytes ≡ emitted_bytes e)
+    → recorded_in records overwrite cpu bytes family ≡ with_emitted name past (Some e) family
+written-rings name past e false overwrite cpu bytes family is over on_cpu own = rw (← is) refl
+written-rings name past e true overwrite cpu bytes family is over on_cpu own =
+    let same = own refl in
+    rw (← is, over, on_cpu, same) refl
 
 -- the families of both sides after an emission
 sides-after : (g : Config) (name : Option (List ℕ)) (past : List Request) (ename : List ℕ) (cpu : ℕ) (pid : ℤ) (pairs : List Pair) (e : Emitted)
@@ -287,13 +284,12 @@ pub delivered-stands : (g : Config) (name : Option (List ℕ)) (past : List Requ
     (old new : InstanceSeen) → emitted past request ≡ Some e → AreEvents [] (declared_events past) → InstanceStandsFor g name past old
     → IsIndexOf (declared_events past) e.k.event.name d.event e.k.event → reach.records ≡ is_recorded name past e
     → reach.fires ≡ is_exchanged_by name past (Some e)
-    → ((p : Pending) → d.record ≡ Some p → (p.bytes.items ≡ emitted_bytes e) × (p.cpu ≡ e.cpu)) → (d.record ≡ None → reach.records ≡ false)
-    → row_of d ≡ counted_row e → IsDelivered d reach old new → InstanceStandsFor g name (request ∷ past) new
-delivered-stands g name past (Emission ename cpu pid pairs) e d reach old new is are stands indexed records fires bytes none row came =
+    → d.cpu ≡ e.cpu → (reach.records ≡ true → d.record.items ≡ emitted_bytes e) → row_of d ≡ counted_row e → IsDelivered d reach old new → InstanceStandsFor g name (request ∷ past) new
+delivered-stands g name past (Emission ename cpu pid pairs) e d reach old new is are stands indexed records fires on_cpu bytes row came =
     let request : Request = Emission ename cpu pid pairs in
     let spare : reach.fires ≡ true → has_spare name past ≡ true = λ on. spare-there g name past e d.event stands.spared indexed (sym fires ∙ on) in
-    let written = written-rings name past e reach.records old.overwrite d.record (rings g name past) records stands.overwrite bytes none in
-    let families = sides-after g name past ename cpu pid pairs e (recorded_in reach.records old.overwrite d.record (rings g name past)) reach.fires is written
+    let written = written-rings name past e reach.records old.overwrite d.cpu d.record.items (rings g name past) records stands.overwrite on_cpu bytes in
+    let families = sides-after g name past ename cpu pid pairs e (recorded_in reach.records old.overwrite d.cpu d.record.items (rings g name past)) reach.fires is written
     (sym fires) spare in
     let keeps : KeepsHists name past request = record { alive = refl; unwritten = refl } in
     let one : length past + 1 ≡ suc (length past) = omega arith in record {
@@ -314,4 +310,4 @@ delivered-stands g name past (Emission ename cpu pid pairs) e d reach old new is
       offered = subst (λ (n : ℕ). WereOffered n new.sides) one (came.offered (length past) stands.offered);
       spared = rw append-nil (spared-after g name past ename cpu pid pairs e reach.fires is (sym fires) spare stands.spared);
     }
-delivered-stands g name past request e d reach old new is are stands indexed records fires bytes none row came = absurd (cc)
+delivered-stands g name past request e d reach old new is are stands indexed records fires on_cpu bytes row came = absurd (cc)

@@ -14,7 +14,6 @@ use Rattle.trace_instance.specs.Instances.{HasShape, InstanceSeen, IsShaped, Was
 use Rattle.trace_instance.specs.Deliveries.{IsDelivered, IsExchanged, IsOffered, IsWritten, counted_down, recorded_in, row_of}
 use Rattle.trace_instance.specs.declared.change.Delivery.{Delivery}
 use Rattle.trace_instance.specs.declared.change.InstanceChange.TheVariants.{Clear, ClearSpare, TakeSnapshot}
-use Rattle.trace_instance.specs.declared.change.Pending.{Pending}
 use Rattle.trace_instance.specs.declared.change.Reach.{Reach}
 use Rattle.trace_instance.specs.KeptHists.{AreHit}
 use Rattle.trace_instance.specs.declared.tables.Table.{Table}
@@ -192,32 +191,32 @@ like kept lent new lends cpus pages page_bytes = record {
 }
 
 -- a record was put there
-pub written : (p : Pending) (reach : Reach) (value old : InstanceSeen) (lent new : buffers.Seen) (bytes : List ℕ) → old ≡ value → lent ≡ old.sides.live
-    → bytes ≡ p.bytes.items → reach.records ≡ true → p.cpu < buffers.cpus value.sides.live
-    → ((family : List (List Event)) → buffers.StandsFor lent family → buffers.StandsFor new (with_events p.cpu (Put bytes old.overwrite ∷ []) family))
+pub written : (d : Delivery) (reach : Reach) (value old : InstanceSeen) (lent new : buffers.Seen) (bytes : List ℕ) → old ≡ value → lent ≡ old.sides.live
+    → bytes ≡ d.record.items → reach.records ≡ true → d.cpu < buffers.cpus value.sides.live
+    → ((family : List (List Event)) → buffers.StandsFor lent family → buffers.StandsFor new (with_events d.cpu (Put bytes old.overwrite ∷ []) family))
     → buffers.cpus new ≡ buffers.cpus lent → new.pages ≡ lent.pages → new.page_bytes ≡ lent.page_bytes
-    → buffers.offers new ≡ set (buffers.offers lent) p.cpu (get_or (buffers.offers lent) p.cpu 0 + 1)
-    → IsWritten p reach value (record old { sides = record old.sides { live = new } })
-written p reach value old lent new bytes view lends copied records room stands cpus pages page_bytes offers =
-    subst (λ (v : InstanceSeen). IsWritten p reach v (record old { sides = record old.sides { live = new } })) view (record {
+    → buffers.offers new ≡ set (buffers.offers lent) d.cpu (get_or (buffers.offers lent) d.cpu 0 + 1)
+    → IsWritten d reach value (record old { sides = record old.sides { live = new } })
+written d reach value old lent new bytes view lends copied records room stands cpus pages page_bytes offers =
+    subst (λ (v : InstanceSeen). IsWritten d reach v (record old { sides = record old.sides { live = new } })) view (record {
       rest = refl;
-      sides = λ f s. rw records (live-stands old.sides new f (with_events p.cpu (Put p.bytes.items old.overwrite ∷ []) f.live) s
-          (subst (λ (bs : List ℕ). buffers.StandsFor new (with_events p.cpu (Put bs old.overwrite ∷ []) f.live)) copied
+      sides = λ f s. rw records (live-stands old.sides new f (with_events d.cpu (Put d.record.items old.overwrite ∷ []) f.live) s
+          (subst (λ (bs : List ℕ). buffers.StandsFor new (with_events d.cpu (Put bs old.overwrite ∷ []) f.live)) copied
           (stands f.live (subst (λ (b : buffers.Seen). buffers.StandsFor b f.live) (sym lends) s.live))));
       spare = refl;
       shaped = λ g s. live-shaped g old.sides new (like old.sides.live lent new lends cpus pages page_bytes) s;
-      offered = λ most all. live_offered_more old.sides new p.cpu most inside
-          (offers ∙ ap (λ (b : buffers.Seen). set (buffers.offers b) p.cpu (get_or (buffers.offers b) p.cpu 0 + 1)) lends) all;
+      offered = λ most all. live_offered_more old.sides new d.cpu most inside
+          (offers ∙ ap (λ (b : buffers.Seen). set (buffers.offers b) d.cpu (get_or (buffers.offers b) d.cpu 0 + 1)) lends) all;
     })
   where
-    here : p.cpu < buffers.cpus old.sides.live
-    here = subst (λ (v : InstanceSeen). p.cpu < buffers.cpus v.sides.live) (sym view) room
+    here : d.cpu < buffers.cpus old.sides.live
+    here = subst (λ (v : InstanceSeen). d.cpu < buffers.cpus v.sides.live) (sym view) room
 
-    inside : p.cpu < length (buffers.offers old.sides.live)
+    inside : d.cpu < length (buffers.offers old.sides.live)
     inside = omega (arith, here, length-map old.sides.live.rings ring.offered)
 
-pub unwritten : (p : Pending) (reach : Reach) (i : InstanceSeen) → reach.records ≡ false → IsWritten p reach i i
-unwritten p reach i none = record {
+pub unwritten : (d : Delivery) (reach : Reach) (i : InstanceSeen) → reach.records ≡ false → IsWritten d reach i i
+unwritten d reach i none = record {
   rest = refl;
   sides = λ f s. rw none s;
   spare = refl;
@@ -288,47 +287,22 @@ emptied value old new view live spare stands shape =
 
 -- ---- an emission
 
--- the record, if there is one, came to the live side if it is written here
-pub record IsAccepted (pending : Option Pending) (reach : Reach) (old new : InstanceSeen) : Type 0 where
-  pub rest : new ≡ record old { sides = new.sides }
-  pub sides : (f : SideFamilies) → StandsFor old.sides f
-      → StandsFor new.sides (record { live = recorded_in reach.records old.overwrite pending f.live; spare = f.spare })
-  pub shaped : (g : Config) → IsShaped g old.sides → IsShaped g new.sides
-  pub offered : (most : ℕ) → WereOffered most old.sides → WereOffered (most + 1) new.sides
-
-pub accepted_none : (pending : Option Pending) (reach : Reach) (i : InstanceSeen) → pending ≡ None → IsAccepted pending reach i i
-accepted_none pending reach i none = record {
-  rest = refl;
-  sides = λ f s. rw none s;
-  shaped = λ g s. s;
-  offered = λ most all. offered_more most i.sides all;
-}
-
-pub accepted_some : (pending : Option Pending) (p : Pending) (reach : Reach) (old new : InstanceSeen) → pending ≡ Some p → IsWritten p reach old new
-    → IsAccepted pending reach old new
-accepted_some pending p reach old new some w = record {
-  rest = w.rest;
-  sides = λ f s. rw some (w.sides f s);
-  shaped = w.shaped;
-  offered = w.offered;
-}
-
--- and then the row was offered to the hist triggers of the event
+-- the record was written, if it is written here, and then the row was offered to the hist triggers of the event
 pub record IsTakenIn (d : Delivery) (reach : Reach) (old new : InstanceSeen) : Type 0 where
   pub rest : new ≡ record old { tables = new.tables; sides = new.sides }
   pub tables : AreHit (row_of d) (get_or old.hists d.event []) old.tables new.tables
   pub sides : (f : SideFamilies) → StandsFor old.sides f
-      → StandsFor new.sides (record { live = recorded_in reach.records old.overwrite d.record f.live; spare = f.spare })
+      → StandsFor new.sides (record { live = recorded_in reach.records old.overwrite d.cpu d.record.items f.live; spare = f.spare })
   pub shaped : (g : Config) → IsShaped g old.sides → IsShaped g new.sides
   pub offered : (most : ℕ) → WereOffered most old.sides → WereOffered (most + 1) new.sides
 
-pub taken_in : (d : Delivery) (reach : Reach) (old between new : InstanceSeen) → IsAccepted d.record reach old between → IsOffered d between new
+pub taken_in : (d : Delivery) (reach : Reach) (old between new : InstanceSeen) → IsWritten d reach old between → IsOffered d between new
     → IsTakenIn d reach old new
 taken_in d reach old between new a o = record {
   rest = o.rest ∙ ap (λ (i : InstanceSeen). record i { tables = new.tables }) a.rest
       ∙ ap (λ (s : SidesSeen). record old { tables = new.tables; sides = s }) (sym same);
   tables = subst (λ (i : InstanceSeen). AreHit (row_of d) (get_or i.hists d.event []) i.tables new.tables) a.rest o.tables;
-  sides = λ f s. subst (λ (n : SidesSeen). StandsFor n (record { live = recorded_in reach.records old.overwrite d.record f.live; spare = f.spare }))
+  sides = λ f s. subst (λ (n : SidesSeen). StandsFor n (record { live = recorded_in reach.records old.overwrite d.cpu d.record.items f.live; spare = f.spare }))
       (sym same) (a.sides f s);
   shaped = λ g s. subst (IsShaped g) (sym same) (a.shaped g s);
   offered = λ most all. subst (WereOffered (most + 1)) (sym same) (a.offered most all);
@@ -365,7 +339,7 @@ delivered_exchanged d reach old between new a on x = record {
   tables = subst (λ (t : List Table). AreHit (row_of d) (get_or old.hists d.event []) old.tables t) (sym (ap (λ (i : InstanceSeen). i.tables) x.rest)) a.tables;
   overwrite = ap (λ (i : InstanceSeen). i.overwrite) x.rest ∙ ap (λ (i : InstanceSeen). i.overwrite) a.rest;
   tracing = ap (λ (i : InstanceSeen). i.tracing) x.rest ∙ ap (λ (i : InstanceSeen). i.tracing) a.rest;
-  sides = λ f s. rw on (x.sides (record { live = recorded_in reach.records old.overwrite d.record f.live; spare = f.spare }) (a.sides f s));
+  sides = λ f s. rw on (x.sides (record { live = recorded_in reach.records old.overwrite d.cpu d.record.items f.live; spare = f.spare }) (a.sides f s));
   shaped = λ g s. x.shaped g (a.shaped g s);
   offered = λ most all. x.offered (most + 1) (a.offered most all);
 }

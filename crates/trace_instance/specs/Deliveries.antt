@@ -1,5 +1,5 @@
 -- When an emission can be delivered to an instance, and what it does there.
-use Rattle.std.specs.Prelude.{◌≡◌, ℕ, ◌+◌, ◌-◌, ◌<◌, ◌≤◌, Bool, true, if◌then◌else◌, List, [], ◌∷◌, length, slice_index_or, slice_set, All, is_some, Option, Some, None, ⊤}
+use Rattle.std.specs.Prelude.{◌≡◌, ℕ, ◌+◌, ◌-◌, ◌<◌, ◌≤◌, Bool, true, if◌then◌else◌, List, [], ◌∷◌, length, slice_index_or, slice_set, All, is_some, Option, Some, None}
 use Rattle.std.specs.List.{AllByRecursion, Any}
 use Rattle.std.specs.Option.{option_map}
 use Rattle.trace_record.specs.Record.{IsRecord}
@@ -15,7 +15,6 @@ use Rattle.trace_instance.specs.KeptHists.{AreHit, CanCount, HasRoomToCount, Nee
 use Rattle.trace_instance.specs.declared.hists.AttachedHist.{AttachedHist}
 use Rattle.trace_instance.specs.Instances.{InstanceSeen, IsShaped, WereOffered}
 use Rattle.trace_instance.specs.declared.change.Delivery.{Delivery}
-use Rattle.trace_instance.specs.declared.change.Pending.{Pending}
 use Rattle.trace_instance.specs.declared.change.Reach.{Reach}
 use Rattle.trace_instance.specs.declared.trigger.Trigger.{Trigger}
 
@@ -26,16 +25,15 @@ abbrev pub counted_down : Option Trigger → Option Trigger
 counted_down None = None
 counted_down (Some t) = Some (record { number = t.number; left = option_map (λ times. times - 1) t.left; filter = t.filter })
 
--- the live side's rings after an emission: with its record, if there is one and it is written here
-abbrev pub recorded_in : Bool → Bool → Option Pending → List (List ring.Event) → List (List ring.Event)
-recorded_in records overwrite None family = family
-recorded_in records overwrite (Some p) family = if records then with_events p.cpu (ring.Put p.bytes.items overwrite ∷ []) family else family
+-- the live side's rings after an emission: with its record, if it is written here
+abbrev pub recorded_in : Bool → Bool → ℕ → List ℕ → List (List ring.Event) → List (List ring.Event)
+recorded_in records overwrite cpu bytes family = if records then with_events cpu (ring.Put bytes overwrite ∷ []) family else family
 
 -- the record is written, if it is written here
-pub record IsWritten (pending : Pending) (reach : Reach) (old new : InstanceSeen) : Type 0 where
+pub record IsWritten (d : Delivery) (reach : Reach) (old new : InstanceSeen) : Type 0 where
   pub rest : new ≡ record old { sides = new.sides }
   pub sides : (families : SideFamilies) → snapshot.StandsFor old.sides families → snapshot.StandsFor new.sides
-      (record { live = recorded_in reach.records old.overwrite (Some pending) families.live; spare = families.spare })
+      (record { live = recorded_in reach.records old.overwrite d.cpu d.record.items families.live; spare = families.spare })
   pub spare : new.sides.spare ≡ old.sides.spare
   pub shaped : (g : Config) → IsShaped g old.sides → IsShaped g new.sides
   pub offered : (most : ℕ) → WereOffered most old.sides → WereOffered (most + 1) new.sides
@@ -50,7 +48,7 @@ pub record IsExchanged (event : ℕ) (old new : InstanceSeen) : Type 0 where
 -- both sides after it: the record is written before the sides are exchanged
 abbrev pub delivered_to : InstanceSeen → Delivery → Reach → SideFamilies → SideFamilies
 delivered_to i d reach f =
-    let written : SideFamilies = record { live = recorded_in reach.records i.overwrite d.record f.live; spare = f.spare } in
+    let written : SideFamilies = record { live = recorded_in reach.records i.overwrite d.cpu d.record.items f.live; spare = f.spare } in
     if reach.fires then exchanged written else written
 
 -- the row of an emission, as a histogram takes it
@@ -87,11 +85,10 @@ most_requests = most_offered
 abbrev pub HasFew : InstanceSeen → Type 0
 HasFew i = AllByRecursion (λ n. n < most_offered) (buffers.offers i.sides.live)
 
--- a record can be written here
-abbrev pub IsWritable : Option Pending → InstanceSeen → Type 0
-IsWritable None i = ⊤
-IsWritable (Some pending) i =
-    IsRecord pending.bytes.items × (length pending.bytes.items ≤ i.sides.live.page_bytes) × (pending.cpu < buffers.cpus i.sides.live)
+-- its record can be written here, if it is to be
+abbrev pub IsWritable : Delivery → Reach → InstanceSeen → Type 0
+IsWritable d reach i = reach.records ≡ true
+    → IsRecord d.record.items × (length d.record.items ≤ i.sides.live.page_bytes) × (d.cpu < buffers.cpus i.sides.live)
 
 -- the hist triggers of the event at an index have the memory to count an emission
 abbrev pub CanCountRow : Emission → ℕ → InstanceSeen → Type 0

@@ -1,5 +1,5 @@
 -- Which emissions an instance records, and which make a trigger of it act, by what it keeps.
-use Rattle.std.specs.Prelude.{ℕ, ℤ, Bool, true, false, ◌&&◌, slice_index_or, Option, Some, None, ◌==◌, not, [], length, is_some}
+use Rattle.std.specs.Prelude.{ℕ, ℤ, Bool, true, false, ◌&&◌, slice_index_or, Option, Some, None}
 use Rattle.trace_filter.specs.Filters.{Parsed}
 use Rattle.trace_filter.specs.Values.{holds_of}
 use Rattle.trace_format.specs.Cells.{Cells}
@@ -33,9 +33,3 @@ reach_of i event row cpu pid = record {
   records = records i event row cpu pid;
   fires = fires i event row cpu pid;
 }
-
--- whether an instance records each emission of the event at this index, which has no filter and no triggers there
-abbrev pub is_plain : InstanceSeen → ℕ → Bool
-is_plain i event =
-    i.tracing && (slice_index_or i.enabled event false && (not (is_some (slice_index_or i.filters event None))
-    && (not (is_some (slice_index_or i.triggers event None)) && length (slice_index_or i.hists event []) == 0)))

@@ -3,8 +3,9 @@
 ghost use Rattle.std.specs.Prelude.{◌≡◌};
 ghost use Rattle.trace_instance.specs.Changes as changes;
 
-use crate::hists::{AttachedHist, Passed};
+use crate::hists::{AttachedHist, MOST_TRIGGERS, Passed};
 use crate::trigger::Trigger;
+use std::alloc::Global;
 use trace_buffer::CPUS;
 use trace_filter::Filter;
 use trace_format::Row;
@@ -109,29 +110,36 @@ pub struct Reach {
     pub fires: bool,
 }
 
-/// What an emission does in each instance, in their order, and whether any instance records it.
-#[derive(Clone, Copy)]
-pub struct Reaches {
-    pub each: [Reach; INSTANCES],
-    pub recorded: bool,
-}
-
-/// A prepared emission: the index of its event; its row, with CPU and process; what it does in each instance; which hist triggers' filters it passes
-/// there; and its record, if an instance records it.
+/// A prepared emission: the index of its event; its row, with CPU and process; in each instance, in their order, what it does and which hist triggers'
+/// filters it passes; and its record, which is one only if an instance records it.
+///
+/// A tracer keeps one for all its emissions, whose row and record are made anew in the memory of those before.
 #[derive(Drop)]
 pub struct Delivery {
     pub event: usize,
     pub row: Row,
     pub cpu: u32,
     pub pid: i32,
-    pub reaches: Reaches,
+    pub reaches: [Reach; INSTANCES],
     pub passed: [Passed; INSTANCES],
-    pub record: Option<Pending>,
+    pub record: Vec<u8>,
 }
 
-/// The record of an emission that is about to be written, and its CPU.
-#[derive(Drop)]
-pub struct Pending {
-    pub cpu: u32,
-    pub bytes: Vec<u8>,
+impl Delivery {
+    /// A delivery of nothing, which has no memory yet.
+    pub fn new(alloc: Global) -> Delivery {
+        let nothing = Reach {
+            records: false,
+            fires: false,
+        };
+        Delivery {
+            event: 0,
+            row: Row::new(alloc),
+            cpu: 0,
+            pid: 0,
+            reaches: [nothing; INSTANCES],
+            passed: [[false; MOST_TRIGGERS]; INSTANCES],
+            record: Vec::new(alloc),
+        }
+    }
 }

@@ -16,8 +16,7 @@ mod waiting;
 mod write;
 
 pub use change::{
-    Delivery, FilterChange, INSTANCES, InstanceChange, NewHist, Pending, Reach, Reaches,
-    TriggerChange,
+    Delivery, FilterChange, INSTANCES, InstanceChange, NewHist, Reach, TriggerChange,
 };
 pub use file::{File, event_at};
 pub use hists::{AttachedHist, MOST_TRIGGERS, Passed};

@@ -53,17 +53,6 @@ call-memory limit g past new request reply config done room lives =
       refused = lives;
     }
 
--- one for which memory is refused before all was looked at, but after what is found early
-pub call-out_of_memory : (limit : ℕ) (past : List Request) (new : LiveSeen) (request : Request) → (IsFoundEarly (answer_with_room new.config past request) → ⊥)
-    → (TakesMemoryLate request → ⊥) → IsLive new.config past new → IsCallWithin limit past new request (Err Memory)
-call-out_of_memory limit past new request late other lives = record {
-  reply = λ differs. absurd (differs refl);
-  early = λ early. absurd (late (early-with_room limit new.config past request early));
-  late_memory = λ is. absurd (other is);
-  done = tt;
-  refused = lives;
-}
-
 -- one whose change was prepared, and which is done or refused memory then
 pub call-carried : (limit : ℕ) (past : List Request) (old new : LiveSeen) (request : Request) (prepared : Prepared) (result : Result Reply Refusal)
     → new.config ≡ old.config → IsLive old.config past old → IsPrepared old.config past request old.state (Ok prepared) → old.done < limit

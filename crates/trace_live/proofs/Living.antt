@@ -9,12 +9,10 @@ use Rattle.trace_history.specs.History.{answer_with_room}
 use Rattle.trace_instance.specs.Deliveries.{HasFew, HasFewRows}
 use Rattle.trace_instance.specs.declared.change.Delivery.{Delivery}
 use Rattle.trace_state.specs.States.{IsEmitted, IsPrepared, IsPreparedEmission, IsStateAlike, IsStep, IsUnchanged, IsUsable, StandsFor}
-use Rattle.trace_state.specs.Plain.{IsPreparedPlain, IsWrittenPlain}
 use Rattle.trace_state.specs.declared.state.Named.{Named}
 use Rattle.trace_state.specs.declared.state.Prepared.{Prepared}
 use Rattle.trace_state.specs.declared.state.State.{State}
 use Rattle.trace_state.proofs.Alike.{state_alike-stands, unchanged-stands}
-use Rattle.trace_state.proofs.PlainRuns.{stands-after}
 use Rattle.trace_state.proofs.Stands.{stands_after, stands_after_emission}
 use Rattle.trace_state.proofs.Usable.{few_from_stands, few_rows_from_stands, usable_from_stands}
 use Rattle.trace_live.specs.LiveSeen.{LiveSeen}
@@ -48,11 +46,6 @@ with_state g past old new is done stands = record {
   stands = stands;
 }
 
-pub live-same : (g : Config) (past : List Request) (old new : LiveSeen) → IsLive g past old → new.done ≡ old.done → new.state ≡ old.state
-    → IsLive g past new
-live-same g past old new is done state =
-    with_state g past old new is done (subst (λ (s : State). StandsFor g s past) (sym state) is.stands)
-
 pub live-alike : (g : Config) (past : List Request) (old new : LiveSeen) → IsLive g past old → new.done ≡ old.done → IsStateAlike old.state new.state
     → IsLive g past new
 live-alike g past old new is done alike = with_state g past old new is done (state_alike-stands g old.state new.state past alike is.stands)
@@ -81,19 +74,12 @@ live-changed g past old new request prepared is room done ready step =
     more g past old new request prepared.reply is room done ready.0
     (stands_after g old.state new.state past request prepared is.in_range is.stands ready step)
 
-pub live-emitted : (g : Config) (past : List Request) (old new : LiveSeen) (request : Request) (delivery : Delivery) → IsLive g past old
-    → old.done < most_done → new.done ≡ old.done + 1 → IsPreparedEmission g past request old.state (Ok delivery)
-    → IsEmitted old.state new.state delivery → IsLive g (request ∷ past) new
-live-emitted g past old new request delivery is room done ready emitted =
+pub live-emitted : (g : Config) (past : List Request) (old new : LiveSeen) (request : Request) → IsLive g past old → old.done < most_done
+    → new.done ≡ old.done + 1 → IsPreparedEmission g past request old.state old.delivery → IsEmitted old.state new.state old.delivery
+    → IsLive g (request ∷ past) new
+live-emitted g past old new request is room done ready emitted =
     more g past old new request Done is room done ready.0
-    (stands_after_emission g old.state new.state past request delivery is.stands ready emitted)
-
-pub live-plain : (g : Config) (past : List Request) (old new : LiveSeen) (request : Request) (cpu : ℕ) (pid : ℤ) (event : ℕ) → IsLive g past old
-    → old.done < most_done → new.done ≡ old.done + 1 → IsPreparedPlain g old.state request cpu pid event old.pending
-    → IsWrittenPlain old.state new.state old.pending → IsLive g (request ∷ past) new
-live-plain g past old new request cpu pid event is room done ready wrote =
-    more g past old new request Done is room done (ready.prepared past is.stands).0
-    (stands-after g old.state new.state past request cpu pid event old.pending is.stands ready wrote)
+    (stands_after_emission g old.state new.state past request old.delivery is.stands ready emitted)
 
 -- ---- a new one
 

@@ -4,7 +4,7 @@ use Rattle.trace_live.specs.Lives.{WasLedTo}
 use Rattle.trace_live.specs.declared.live.Live.TheInside.{Inside}
 
 abbrev pub seen : Inside → LiveSeen
-seen live = record { config = live.config; state = live.state; pending = live.pending; done = live.done }
+seen live = record { config = live.config; state = live.state; delivery = live.delivery; done = live.done }
 
 -- some requests led to it
 abbrev pub IsLed : Inside → Type 0

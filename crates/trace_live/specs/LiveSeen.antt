@@ -1,12 +1,12 @@
 -- A tracer that keeps no history, as contracts see it.
 use Rattle.std.specs.Prelude.{ℕ}
 use Rattle.trace_command.specs.declared.command.Config.{Config}
-use Rattle.trace_instance.specs.declared.change.Pending.{Pending}
+use Rattle.trace_instance.specs.declared.change.Delivery.{Delivery}
 use Rattle.trace_state.specs.declared.state.State.{State}
 
--- what it was made with, what the commands done led to, the record of the plain emission that was prepared last, and how many commands were done
+-- what it was made with, what the commands done led to, the emission that was prepared last, and how many commands were done
 pub record LiveSeen : Type 0 where
   pub config : Config
   pub state : State
-  pub pending : Pending
+  pub delivery : Delivery
   pub done : ℕ

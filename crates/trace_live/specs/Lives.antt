@@ -1,5 +1,5 @@
 -- A tracer that keeps no history: when these requests led to it, and what it answers after them. The newest request comes first.
-use Rattle.std.specs.Prelude.{◌≡◌, ℕ, ℤ, ◌≤◌, List, ◌∷◌, length, Result, Ok, Err, IfErr, OnOk, OnErr}
+use Rattle.std.specs.Prelude.{◌≡◌, ℕ, ◌≤◌, List, ◌∷◌, length, Result, Ok, Err, IfErr, OnOk, OnErr}
 use Rattle.trace_command.specs.Configs.{IsInRange}
 use Rattle.trace_command.specs.Refusals.{IsFoundEarly, IsRefusal, OrMemory}
 use Rattle.trace_command.specs.Requests.{Request}
@@ -10,9 +10,7 @@ use Rattle.trace_history.specs.History.{answer_with_room, unless_full}
 use Rattle.trace_history.specs.LateMemory.{TakesMemoryLate}
 use Rattle.trace_history.specs.Pasts.{AreDone}
 use Rattle.trace_instance.specs.Deliveries.{most_requests}
-use Rattle.trace_instance.specs.declared.change.Delivery.{Delivery}
 use Rattle.trace_state.specs.States.{IsPrepared, IsPreparedEmission, StandsFor}
-use Rattle.trace_state.specs.Plain.{IsPreparedPlain}
 use Rattle.trace_state.specs.declared.state.Prepared.{Prepared}
 use Rattle.trace_state.specs.declared.state.State.{State}
 use Rattle.trace_live.specs.LiveSeen.{LiveSeen}
@@ -53,11 +51,6 @@ abbrev pub IsPreparedWithin : ℕ → Config → List Request → Request → St
 IsPreparedWithin limit g past request state (Ok prepared) = IsPrepared g past request state (Ok prepared)
 IsPreparedWithin limit g past request state (Err refusal) = IsRefusal refusal (limited_answer limit g past request)
 
--- the same of an emission
-abbrev pub IsDeliveryWithin : ℕ → Config → List Request → Request → State → Result Delivery Refusal → Type 0
-IsDeliveryWithin limit g past request state (Ok delivery) = IsPreparedEmission g past request state (Ok delivery)
-IsDeliveryWithin limit g past request state (Err refusal) = IsRefusal refusal (limited_answer limit g past request)
-
 -- this was prepared for some request
 pub record IsReadyFor (live : LiveSeen) (prepared : Prepared) : Type 0 where
   pub past : List Request
@@ -65,19 +58,12 @@ pub record IsReadyFor (live : LiveSeen) (prepared : Prepared) : Type 0 where
   pub lives : IsLive live.config past live
   pub is : IsPrepared live.config past request live.state (Ok prepared)
 
--- the same of an emission
-pub record CanDeliver (live : LiveSeen) (delivery : Delivery) : Type 0 where
+-- the emission that was prepared last was prepared for some request
+pub record CanDeliver (live : LiveSeen) : Type 0 where
   pub past : List Request
   pub request : Request
   pub lives : IsLive live.config past live
-  pub is : IsPreparedEmission live.config past request live.state (Ok delivery)
-
--- the same of a plain one, of the event at this index
-pub record CanDeliverPlain (live : LiveSeen) (event : ℕ) : Type 0 where
-  pub request : Request
-  pub cpu : ℕ
-  pub pid : ℤ
-  pub is : IsPreparedPlain live.config live.state request cpu pid event live.pending
+  pub is : IsPreparedEmission live.config past request live.state live.delivery
 
 -- ---- calls
 

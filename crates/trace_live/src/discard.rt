@@ -1,7 +1,6 @@
 //! Dropping what is not needed any more, out of line, so that calls that do without don't pay for the code.
 
 use trace_command::Command;
-use trace_instance::Delivery;
 use trace_state::Prepared;
 
 /// Drops a command, out of line.
@@ -12,8 +11,3 @@ pub fn let_go(_command: Command) {}
 #[cold]
 #[inline(never)]
 pub fn let_go_change(_prepared: Prepared) {}
-
-/// Drops what was prepared for an emission that is refused.
-#[cold]
-#[inline(never)]
-pub fn let_go_delivery(_delivery: Delivery) {}

@@ -4,7 +4,7 @@
 //!
 //! ```text
 //!                        emission                       any other command
-//!   prepare   looks      prepare_emission: Delivery     prepare: Change and Reply      refusals are found here, in their order
+//!   prepare   looks      prepare_emission: delivery     prepare: Change and Reply      refusals are found here, in their order
 //!             grows      row, hists, record             the change itself              may be refused memory
 //!                                                                                      HistoryFull comes last
 //!   commit    changes    deliver                        carry_out                      an emission's takes no memory
@@ -12,17 +12,16 @@
 //! ```
 //!
 //! `carry_out` can be refused memory only for a spare side, a hist trigger and its table, an event or an instance, and it allocates all of that
-//! before it changes anything. Nothing is ever undone. The two phases pass on data (`Change`, `Delivery`), so `carry_out` never looks at the command
-//! again: it makes a step of the state, and `prepare` has shown that this is the step that the definitions give the command.
+//! before it changes anything. Nothing is ever undone. The two phases pass on data (a `Change`; the `Delivery` that the tracer keeps), so the second
+//! never looks at the command again: it makes a step of the state, and the first has shown that this is the step that the definitions give the command.
 //!
 //! The phases are public (`phases.rt`), for a caller that has something of its own to do between them, as a book writes its entry ahead. `ask.rt` has
-//! whole calls. Most emissions are plain (`plain.rt`): they run a shorter way, with the same two phases.
+//! whole calls.
 //!
 //! No clause speaks of a history, since none is kept. Each holds for every list of requests of which `IsLive` held before the call.
 
 mod ask;
 mod phases;
-mod plain;
 
 ghost use Rattle.std.specs.Prelude.{◌≡◌, ◌≢◌, ◌<◌, [], List, drop, length, is_some, IfOk, IfErr, IfSome, OnOk};
 ghost use Rattle.std.specs.List.{slice_get};
@@ -41,8 +40,8 @@ use std::alloc::Global;
 use std::marker::Model;
 use trace_command::{Config, Refusal};
 use trace_format::EventDef;
-use trace_instance::{Instance, Pending, event_at};
-use trace_state::{EmissionMemory, Named, State};
+use trace_instance::{Delivery, Instance, event_at};
+use trace_state::{Named, State};
 
 /// How many commands a tracer does.
 pub const MOST_DONE: u64 = 1 << 60;
@@ -53,9 +52,8 @@ pub struct Live {
     alloc: Global,
     config: Config,
     state: State,
-    memory: EmissionMemory,
-    // The record of the plain emission that was prepared last, whose memory serves the next one.
-    pending: Pending,
+    // The emission that was prepared last, whose memory serves the next one.
+    delivery: Delivery,
     done: u64,
 }
 
@@ -66,8 +64,7 @@ impl Drop for Live {
             alloc: _,
             config: _,
             state: _,
-            memory: _,
-            pending: _,
+            delivery: _,
             done: _,
         } = self;
     }
@@ -102,11 +99,7 @@ impl Live {
             alloc,
             config,
             state,
-            memory: EmissionMemory::new(alloc),
-            pending: Pending {
-                cpu: 0,
-                bytes: Vec::new(alloc),
-            },
+            delivery: Delivery::new(alloc),
             done: 0,
         })
     }

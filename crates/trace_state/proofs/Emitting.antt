@@ -1,5 +1,5 @@
 -- What an emission that is prepared leaves of the instances is what the requests say of it.
-use Rattle.std.proofs.Common.{◌≡◌, ℕ, zero, suc, ℤ, ◌+◌, ◌<◌, ◌≤◌, Bool, false, ◌&&◌, List, [], ◌∷◌, ◌++◌, length, take, get_or, All, Option, Some, None, Result, Ok, Err, OnErr, refl, sym, ap, ◌∙◌, subst, arith}
+use Rattle.std.proofs.Common.{◌≡◌, ℕ, zero, suc, ℤ, ◌+◌, ◌<◌, ◌≤◌, Bool, true, false, ◌&&◌, List, [], ◌∷◌, ◌++◌, length, take, get_or, All, Option, Some, None, Result, Ok, Err, OnErr, refl, sym, ap, ◌∙◌, subst, arith}
 use Rattle.std.proofs.Math.Seq.{take-append_seam}
 use Rattle.std.specs.List.{AllByRecursion}
 use Rattle.std.specs.Option.{option_map}
@@ -27,36 +27,22 @@ use Rattle.trace_instance.specs.Instances.{InstanceSeen, InstanceStandsFor, kept
 use Rattle.trace_instance.specs.Rows.{fires, kept_acts, kept_holds, records}
 use Rattle.trace_instance.specs.KeptHists.{passed}
 use Rattle.trace_instance.specs.declared.hists.AttachedHist.{AttachedHist}
-use Rattle.trace_state.specs.States.{ArePassed, CanBeWritten, CanEmit, IsEmission, StandsFor, reach_at, IsStateAlike}
-use Rattle.trace_instance.specs.Deliveries.{CanCountRow}
+use Rattle.trace_state.specs.States.{AllReached, ArePassed, CanEmit, IsEmission, StandsFor, reach_at, IsStateAlike}
+use Rattle.trace_instance.specs.Deliveries as deliveries
+use Rattle.trace_instance.specs.Deliveries.{CanCountRow, IsWritable}
 use Rattle.trace_state.specs.private.Emissions.{AreReached, IsAhead}
 use Rattle.trace_state.specs.private.Found.{numbered}
-use Rattle.trace_instance.specs.declared.change.Pending.{Pending}
+use Rattle.trace_instance.specs.declared.change.Delivery.{Delivery}
 use Rattle.trace_instance.specs.declared.change.Reach.{Reach}
-use Rattle.trace_instance.specs.declared.change.Reaches.{Reaches}
 use Rattle.trace_state.specs.declared.resolve.Found.{Found}
 use Rattle.trace_state.specs.declared.state.Named.{Named}
 use Rattle.trace_state.specs.declared.state.State.{State}
 use Rattle.trace_instance.specs.declared.trigger.Trigger.{Trigger}
 use Rattle.trace_instance.proofs.Delivered.{can-fire, self, trigger-at}
 
--- ---- what is written ahead
-
 -- what is written over all of a vector's elements
 pub written-over : {X : Type 0} (n : ℕ) (out rest : List X) → length out ≡ n → take n (out ++ rest) ≡ out
 written-over n out rest is = subst (λ (k : ℕ). take k (out ++ rest) ≡ out) is (take-append_seam out rest)
-
--- a record was written ahead
-pub is-ahead : (state : State) (event : ℕ) (row : Cells) (cpu : ℕ) (pid : ℤ) (reaches : Reaches) (p : Pending)
-    → p.cpu ≡ cpu → p.bytes.items ≡ record_bytes (state.clock + 1) pid (event + 1) row → IsRecord p.bytes.items
-    → IsAhead state event row cpu pid reaches (Some p)
-is-ahead state event row cpu pid reaches p is bytes is_record = record {
-  bytes = λ q e.
-      let same : p ≡ q = cc in
-      subst (λ (r : Pending). (r.cpu ≡ cpu) × (r.bytes.items ≡ record_bytes (state.clock + 1) pid (event + 1) row) × IsRecord r.bytes.items) same
-      (is, bytes, is_record);
-  none = λ e. absurd (cc);
-}
 
 -- ---- an event that was found
 
@@ -144,32 +130,37 @@ found-late g past name cpu pairs k inside there early = by (row_of k.event pairs
     by (Ok row) late = late
     by (Err field) late = false≢true late
 
+-- where an instance records it, some instance does
+recorded-at : (instances : List Named) (reaches : List Reach) (recorded : Bool) (k : ℕ)
+    → (recorded ≡ false → AllReached (λ reach i. reach.records ≡ false) reaches instances) → k < length instances → (n : Named)
+    → (reach_at reaches k).records ≡ true → recorded ≡ true
+recorded-at instances reaches true k none inside n on = refl
+recorded-at instances reaches false k none inside n on = absurd (false≢true (sym (none refl k n inside) ∙ on))
+
 -- what is written ahead is the record of the emission
-pub is-emission : (g : Config) (old new : State) (past : List Request) (name : List ℕ) (cpu : ℕ) (pid : ℤ) (pairs : List Pair) (found : Found) (row : Cells)
-    (reaches : Reaches) (passed : List (List Bool)) (pending : Option Pending) → StandsFor g old past → Some (numbered found) ≡ event_named_in old.catalog name
-    → IsIndexOf old.catalog name found.index found.event.now → row_of found.event.now pairs ≡ Ok row → IsStateAlike old new
-    → AreReached found.index row cpu pid reaches old.instances.items → IsAhead new found.index row cpu pid reaches pending
-    → IsEmission g past (Emission name cpu pid pairs) new.instances.items
-    (record { event = found.index; row = row; cpu = cpu; pid = pid; reaches = reaches; passed = passed; «record» = pending })
-is-emission g old new past name cpu pid pairs found row reaches passed pending stands named indexed built alike are ahead = record {
+pub is-emission : (g : Config) (old new : State) (past : List Request) (name : List ℕ) (pairs : List Pair) (found : Found) (d : Delivery) (recorded : Bool)
+    → d.event ≡ found.index → StandsFor g old past → Some (numbered found) ≡ event_named_in old.catalog name
+    → IsIndexOf old.catalog name found.index found.event.now → row_of found.event.now pairs ≡ Ok d.row → IsStateAlike old new
+    → AreReached found.index d.row d.cpu d.pid d.reaches recorded old.instances.items → IsAhead new found.index d.row d.pid recorded d.record.items
+    → IsEmission g past (Emission name d.cpu d.pid pairs) new.instances.items d
+is-emission g old new past name pairs found d recorded at stands named indexed built alike are ahead = record {
   declares = refl;
   made = refl;
   removed = refl;
   ticks = refl;
   e = e;
   emitted = rw (there, built) refl;
-  index = own;
+  index = rw at own;
   row = refl;
   cpu = refl;
   pid = refl;
   records = recording;
   fires = firing;
-  bytes = λ p is. let of = ahead.bytes p is in (rw (← clock) of.1, of.0);
-  none = λ is k d inside. are.none (ahead.none is) k d (within k inside);
+  bytes = λ k n inside on. rw (← clock) (ahead.is (recorded-at old.instances.items d.reaches recorded k are.none (within k inside) n on));
 }
   where
     e : Emitted
-    e = record { k = numbered found; row = row; cpu = cpu; pid = pid; timestamp = now_of past + 1 }
+    e = record { k = numbered found; row = d.row; cpu = d.cpu; pid = d.pid; timestamp = now_of past + 1 }
 
     clock : new.clock ≡ now_of past
     clock = alike.clock ∙ stands.clock
@@ -186,29 +177,31 @@ is-emission g old new past name cpu pid pairs found row reaches passed pending s
     within : (k : ℕ) → k < length new.instances.items → k < length old.instances.items
     within k inside = omega (arith, inside, alike.instances.many)
 
-    recording : (k : ℕ) (d : Named) → k < length new.instances.items
-        → (reach_at reaches k).records ≡ is_recorded (get_or new.instances.items k d).name past e
-    recording k d inside =
-        let was = get_or old.instances.items k d in
-        let named_so = alike.instances.names k d (within k inside) in
-        rw named_so (ap (λ (r : Reach). r.records) (are.each k d (within k inside))
-        ∙ records-found g was.name past was.instance found name row cpu pid (now_of past + 1) (stands.each k d (within k inside)) declared)
+    recording : (k : ℕ) (n : Named) → k < length new.instances.items
+        → (reach_at d.reaches k).records ≡ is_recorded (get_or new.instances.items k n).name past e
+    recording k n inside =
+        let was = get_or old.instances.items k n in
+        let named_so = alike.instances.names k n (within k inside) in
+        rw named_so (ap (λ (r : Reach). r.records) (are.each k n (within k inside))
+        ∙ records-found g was.name past was.instance found name d.row d.cpu d.pid (now_of past + 1) (stands.each k n (within k inside)) declared)
 
-    firing : (k : ℕ) (d : Named) → k < length new.instances.items
-        → (reach_at reaches k).fires ≡ is_exchanged_by (get_or new.instances.items k d).name past (Some e)
-    firing k d inside =
-        let was = get_or old.instances.items k d in
-        let named_so = alike.instances.names k d (within k inside) in
-        rw named_so (ap (λ (r : Reach). r.fires) (are.each k d (within k inside))
-        ∙ fires-found g was.name past was.instance e found.index (stands.each k d (within k inside)) own)
+    firing : (k : ℕ) (n : Named) → k < length new.instances.items
+        → (reach_at d.reaches k).fires ≡ is_exchanged_by (get_or new.instances.items k n).name past (Some e)
+    firing k n inside =
+        let was = get_or old.instances.items k n in
+        let named_so = alike.instances.names k n (within k inside) in
+        rw named_so (ap (λ (r : Reach). r.fires) (are.each k n (within k inside))
+        ∙ fires-found g was.name past was.instance e found.index (stands.each k n (within k inside)) own)
 
--- a record that was written ahead can be written
-can-be-written : (g : Config) (state : State) (past : List Request) (event : ℕ) (row : Cells) (cpu : ℕ) (pid : ℤ) (reaches : Reaches)
-    (pending : Option Pending) → StandsFor g state past → cpu < g.cpus → IsAhead state event row cpu pid reaches pending
-    → ((p : Pending) → pending ≡ Some p → length p.bytes.items ≤ g.page_bytes) → CanBeWritten g state.instances.items pending
-can-be-written g state past event row cpu pid reaches None stands inside ahead short = tt
-can-be-written g state past event row cpu pid reaches (Some p) stands inside ahead short =
-    let of = ahead.bytes p refl in (of.2, short p refl, λ k d within. rw (of.0, (stands.each k d within).shaped.live.cpus) inside)
+-- a record that was written ahead can be written wherever it is to be
+can-be-written : (g : Config) (old new : State) (past : List Request) (d : Delivery) (recorded : Bool) → StandsFor g new past → IsStateAlike old new
+    → d.cpu < g.cpus → AreReached d.event d.row d.cpu d.pid d.reaches recorded old.instances.items → IsAhead new d.event d.row d.pid recorded d.record.items
+    → (recorded ≡ true → length d.record.items ≤ g.page_bytes) → AllReached (IsWritable d) d.reaches new.instances.items
+can-be-written g old new past d recorded stands alike inside are ahead short = λ k n within on.
+    let before : k < length old.instances.items = omega (arith, within, alike.instances.many) in
+    let did = recorded-at old.instances.items d.reaches recorded k are.none before n on in
+    let shaped = (stands.each k n within).shaped.live in
+    (ahead.is_record did, omega (arith, short did, shaped.page_bytes), omega (arith, inside, shaped.cpus))
 
 -- the filters of which hist triggers it passes are known still where their memory grew
 passed-still : (old new : State) (emission : Row) (event : ℕ) (known : List (List Bool)) → IsStateAlike old new
@@ -219,21 +212,18 @@ passed-still old new emission event known alike are k d inside =
     are k d within ∙ ap (λ (hists : List (List AttachedHist)). passed emission (get_or hists event [])) (sym same)
 
 -- and so all is there for the emission
-pub ready-emission : (g : Config) (old new : State) (past : List Request) (request : Request) (event : ℕ) (row : Cells) (cpu : ℕ) (pid : ℤ)
-    (reaches : Reaches) (known : List (List Bool)) (pending : Option Pending) → StandsFor g new past
-    → IsEmission g past request new.instances.items
-    (record { event = event; row = row; cpu = cpu; pid = pid; reaches = reaches; passed = known; «record» = pending })
-    → IsStateAlike old new → cpu < g.cpus → ArePassed (record { values = row.values; cpu = cpu; pid = pid }) event known old.instances.items
-    → All (λ (n : Named). CanCountRow (record { values = row.values; cpu = cpu; pid = pid }) event n.instance) new.instances.items
-    → IsAhead new event row cpu pid reaches pending → ((p : Pending) → pending ≡ Some p → length p.bytes.items ≤ g.page_bytes)
-    → CanEmit g new (record { event = event; row = row; cpu = cpu; pid = pid; reaches = reaches; passed = known; «record» = pending })
-ready-emission g old new past request event row cpu pid reaches known pending stands emission alike inside are counted ahead short = (
+pub ready-emission : (g : Config) (old new : State) (past : List Request) (request : Request) (d : Delivery) (recorded : Bool) → StandsFor g new past
+    → IsEmission g past request new.instances.items d → IsStateAlike old new → d.cpu < g.cpus
+    → AreReached d.event d.row d.cpu d.pid d.reaches recorded old.instances.items → IsAhead new d.event d.row d.pid recorded d.record.items
+    → (recorded ≡ true → length d.record.items ≤ g.page_bytes) → ArePassed (deliveries.row_of d) d.event d.passed old.instances.items
+    → All (λ (n : Named). CanCountRow (deliveries.row_of d) d.event n.instance) new.instances.items → CanEmit new d
+ready-emission g old new past request d recorded stands emission alike inside are ahead short passed counted = (
   rw stands.events emission.index.inside,
-  can-be-written g new past event row cpu pid reaches pending stands inside ahead short,
-  λ k d within.
-      let n = get_or new.instances.items k d in
-      can-fire g n.name past emission.e event (reach_at reaches k) n.instance (stands.each k d within) emission.index (emission.fires k d within),
-  passed-still old new (record { values = row.values; cpu = cpu; pid = pid }) event known alike are,
+  can-be-written g old new past d recorded stands alike inside are ahead short,
+  λ k n within.
+      can-fire g (get_or new.instances.items k n).name past emission.e d.event (reach_at d.reaches k) (get_or new.instances.items k n).instance
+      (stands.each k n within) emission.index (emission.fires k n within),
+  passed-still old new (deliveries.row_of d) d.event d.passed alike passed,
   counted,
 )
 

@@ -1,5 +1,4 @@
 pub mod RecordBytes
-pub mod PlainRecords
 pub mod EachInstance
 pub mod ReservedEach
 pub mod Stands
@@ -8,8 +7,6 @@ pub mod Alike
 pub mod Histories
 pub mod Resolving
 pub mod Emitting
-pub mod Plain
-pub mod PlainRuns
 pub mod MadeNames
 pub mod Making
 pub mod Dispatch

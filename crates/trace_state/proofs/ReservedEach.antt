@@ -38,18 +38,12 @@ counted-past e event now i read inside is none before = λ k d h. below_more
     k h d
 
 -- and passes no filter
-pub known-past : (e : Emission) (event : ℕ) (old now : List Named) (known : List (List Bool)) (i : ℕ) (read : Named) → i < length now
-    → read ≡ get_or now i read → get_or read.instance.hists event [] ≡ [] → ((k : ℕ) (d : Named) → i ≤ k → get_or now k d ≡ get_or old k d)
-    → get_or known i [] ≡ false ∷ false ∷ false ∷ false ∷ []
-    → ((k : ℕ) → k < i → (n : Named) → get_or known k [] ≡ passed_in e event (get_or old k n).instance)
-    → (k : ℕ) → k < i + 1 → (n : Named) → get_or known k [] ≡ passed_in e event (get_or old k n).instance
-known-past e event old now known i read inside is none left fresh before = λ k h. below_more
-    (λ (j : ℕ). (n : Named) → get_or known j [] ≡ passed_in e event (get_or old j n).instance) i
-    (λ j below n. before j below n)
-    (λ n.
+pub none-known : (e : Emission) (event : ℕ) (old now : List Named) (i : ℕ) (read : Named) → i < length now → read ≡ get_or now i read
+    → get_or read.instance.hists event [] ≡ [] → ((k : ℕ) (d : Named) → i ≤ k → get_or now k d ≡ get_or old k d)
+    → (n : Named) → false ∷ false ∷ false ∷ false ∷ [] ≡ passed_in e event (get_or old i n).instance
+none-known e event old now i read inside is none left n =
     let same : get_or old i n ≡ read = sym (left i n (omega arith)) ∙ get_or_default now i n read inside ∙ sym is in
-    fresh ∙ sym (ap (λ (m : Named). passed_in e event m.instance) same ∙ ap (λ (l : List AttachedHist). passed e l) none))
-    k h
+    sym (ap (λ (m : Named). passed_in e event m.instance) same ∙ ap (λ (l : List AttachedHist). passed e l) none)
 
 -- what was found out of an instance is known of the one that it was
 pub known-here : (e : Emission) (event : ℕ) (old now : List Named) (known : List Bool) (i : ℕ) (read : Named) → i < length now

@@ -258,7 +258,7 @@ emit_stands g old new past request reply delivery stands given is step =
     → InstanceStandsFor g (get_or old.instances.items k d).name (request ∷ past) (get_or new.instances.items k d).instance = λ k d inside.
     let n = get_or old.instances.items k d in
     delivered-stands g n.name past request is.e delivery (reach_at delivery.reaches k) n.instance (get_or new.instances.items k d).instance is.emitted
-    stands.distinct (stands.each k d inside) is.index (is.records k d inside) (is.fires k d inside) is.bytes (λ none. is.none none k d inside) row
+    stands.distinct (stands.each k d inside) is.index (is.records k d inside) (is.fires k d inside) is.cpu (λ on. is.bytes k d inside on) row
     (came.came k d inside) in
     state-after g old new past request reply None stands given is.declares (none_fresh g past) (catalog-same old new step.0)
     (omega (arith, is.ticks, step.1))
@@ -279,5 +279,5 @@ stands_after g old new past request prepared range stands is step =
     step_stands g old new past request prepared.reply prepared.change stands is.0 is.1 is.2 step
 
 pub stands_after_emission : (g : Config) (old new : State) (past : List Request) (request : Request) (delivery : Delivery) → StandsFor g old past
-    → IsPreparedEmission g past request old (Ok delivery) → IsEmitted old new delivery → StandsFor g new (request ∷ past)
+    → IsPreparedEmission g past request old delivery → IsEmitted old new delivery → StandsFor g new (request ∷ past)
 stands_after_emission g old new past request delivery stands is step = emit_stands g old new past request Done delivery stands is.0 is.1 step

@@ -1,9 +1,7 @@
 -- When the state agrees with the requests that were done, and what a change does to it.
-use Rattle.std.specs.Prelude.{◌≡◌, ℕ, ◌+◌, ◌<◌, ◌≤◌, Bool, false, List, [], ◌∷◌, ◌++◌, length, map, take, drop, slice_index_or, All, IsOk, Option, Some, None, Result, Ok, Err, ⊤}
+use Rattle.std.specs.Prelude.{◌≡◌, ℕ, ◌+◌, ◌<◌, ◌≤◌, Bool, true, false, List, [], ◌∷◌, ◌++◌, length, map, take, drop, slice_index_or, All, IsOk, Option, Some, None, Result, Ok, Err, ⊤}
 use Rattle.std.specs.List.{AllByRecursion, IsDistinct}
 use Rattle.std.specs.Str.{bytes_eq}
-use Rattle.trace_record.specs.Record.{IsRecord}
-use Rattle.trace_buffer.specs.Buffers as buffers
 use Rattle.trace_format.specs.Catalogs.{id_for, IsEvent, AreEvents}
 use Rattle.trace_format.specs.Definitions.{Definition}
 use Rattle.trace_command.specs.Refusals.{IsRefusal}
@@ -25,13 +23,11 @@ use Rattle.trace_state.specs.declared.change.Change.{Change}
 use Rattle.trace_state.specs.declared.change.Change.TheVariants.{Declare, Make, Remove, Instance}
 use Rattle.trace_instance.specs.declared.change.InstanceChange.TheVariants.{Keep}
 use Rattle.trace_instance.specs.declared.change.Delivery.{Delivery}
-use Rattle.trace_instance.specs.declared.change.Pending.{Pending}
 use Rattle.trace_instance.specs.declared.change.Reach.{Reach}
-use Rattle.trace_instance.specs.declared.change.Reaches.{Reaches}
 use Rattle.trace_state.specs.declared.state.Named.{Named}
 use Rattle.trace_state.specs.declared.state.Prepared.{Prepared}
 use Rattle.trace_state.specs.declared.state.State.{State}
-use Rattle.trace_instance.specs.Deliveries.{CanCountRow, CanFire, IsDelivered, most_requests, row_of}
+use Rattle.trace_instance.specs.Deliveries.{CanCountRow, CanFire, IsDelivered, IsWritable, most_requests, row_of}
 
 -- the names of the instances, of which the top one has none
 abbrev pub names_of : List Named → List (Option (List ℕ))
@@ -79,11 +75,11 @@ abbrev pub no_reach : Reach
 no_reach = record { records = false; fires = false }
 
 -- what it does in the instance at an index
-abbrev pub reach_at : Reaches → ℕ → Reach
-reach_at reaches k = slice_index_or reaches.each k no_reach
+abbrev pub reach_at : List Reach → ℕ → Reach
+reach_at reaches k = slice_index_or reaches k no_reach
 
 -- this holds of what it does in each instance, and of that
-abbrev pub AllReached : (Reach → InstanceSeen → Type 0) → Reaches → List Named → Type 0
+abbrev pub AllReached : (Reach → InstanceSeen → Type 0) → List Reach → List Named → Type 0
 AllReached R reaches instances = (k : ℕ) (n : Named) → k < length instances → R (reach_at reaches k) (slice_index_or instances k n).instance
 
 -- each instance has its name still, and this came of it
@@ -185,7 +181,7 @@ pub record IsChanged (g : Config) (past : List Request) (request : Request) (nam
   pub others : (other : Option (List ℕ)) → is_same other name ≡ false → IsEffect g other past request Keep
 
 -- the request emits this row: it is written in each instance that records it, and exchanges the sides of each whose trigger it makes act; and what
--- was prepared for it is its record, if some instance records it
+-- was prepared to be written there is its record
 pub record IsEmission (g : Config) (past : List Request) (request : Request) (instances : List Named) (d : Delivery) : Type 0 where
   pub declares : declares request ≡ None
   pub made : made request ≡ None
@@ -201,8 +197,7 @@ pub record IsEmission (g : Config) (past : List Request) (request : Request) (in
       → (reach_at d.reaches k).records ≡ is_recorded (slice_index_or instances k n).name past e
   pub fires : (k : ℕ) (n : Named) → k < length instances
       → (reach_at d.reaches k).fires ≡ is_exchanged_by (slice_index_or instances k n).name past (Some e)
-  pub bytes : (p : Pending) → d.record ≡ Some p → (p.bytes.items ≡ emitted_bytes e) × (p.cpu ≡ e.cpu)
-  pub none : d.record ≡ None → AllReached (λ reach i. reach.records ≡ false) d.reaches instances
+  pub bytes : AllReached (λ reach i. reach.records ≡ true → d.record.items ≡ emitted_bytes e) d.reaches instances
 
 -- a change says of a request all that the definitions say of it, after this past, in this state
 abbrev pub IsChangeOf : Config → State → List Request → Request → Change → Type 0
@@ -212,13 +207,6 @@ IsChangeOf g state past request (Remove index) = IsRemoved g past request index
 IsChangeOf g state past request (Instance index change) =
     (d : Named) → IsChanged g past request (slice_index_or state.instances.items index d).name
     × IsEffect g (slice_index_or state.instances.items index d).name past request change
-
--- a record can be written wherever it is to be
-abbrev pub CanBeWritten : Config → List Named → Option Pending → Type 0
-CanBeWritten g instances None = ⊤
-CanBeWritten g instances (Some pending) =
-    IsRecord pending.bytes.items × (length pending.bytes.items ≤ g.page_bytes)
-    × All (λ (n : Named). pending.cpu < buffers.cpus n.instance.sides.live) instances
 
 -- of each instance, the filters of which hist triggers of the event an emission passes
 abbrev pub ArePassed : Emission → ℕ → List (List Bool) → List Named → Type 0
@@ -234,9 +222,9 @@ IsReady g state (Instance index change) = (index < length state.instances.items)
     × ((d : Named) → IsLawful (slice_index_or state.instances.items index d).instance change)
 
 -- an emission can be brought to each instance, and what was grown for it is there
-abbrev pub CanEmit : Config → State → Delivery → Type 0
-CanEmit g state delivery =
-    (delivery.event < length state.catalog) × CanBeWritten g state.instances.items delivery.record
+abbrev pub CanEmit : State → Delivery → Type 0
+CanEmit state delivery =
+    (delivery.event < length state.catalog) × AllReached (IsWritable delivery) delivery.reaches state.instances.items
     × AllReached CanFire delivery.reaches state.instances.items
     × ArePassed (row_of delivery) delivery.event delivery.passed state.instances.items
     × All (λ (n : Named). CanCountRow (row_of delivery) delivery.event n.instance) state.instances.items
@@ -247,8 +235,7 @@ IsPrepared g past request state (Ok prepared) =
     (answer_with_room g past request ≡ Ok prepared.reply) × IsChangeOf g state past request prepared.change × IsReady g state prepared.change
 IsPrepared g past request state (Err refusal) = IsRefusal refusal (answer_with_room g past request)
 
--- the same of an emission
-abbrev pub IsPreparedEmission : Config → List Request → Request → State → Result Delivery Refusal → Type 0
-IsPreparedEmission g past request state (Ok delivery) =
-    (answer_with_room g past request ≡ Ok Done) × IsEmission g past request state.instances.items delivery × CanEmit g state delivery
-IsPreparedEmission g past request state (Err refusal) = IsRefusal refusal (answer_with_room g past request)
+-- an emission was prepared for a request
+abbrev pub IsPreparedEmission : Config → List Request → Request → State → Delivery → Type 0
+IsPreparedEmission g past request state delivery =
+    (answer_with_room g past request ≡ Ok Done) × IsEmission g past request state.instances.items delivery × CanEmit state delivery

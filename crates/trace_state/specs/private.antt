@@ -2,4 +2,3 @@
 pub mod Emissions
 pub mod Files
 pub mod Found
-pub mod PlainBytes

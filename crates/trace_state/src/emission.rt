@@ -1,75 +1,69 @@
 //! Emissions: a row is built once, each filter is evaluated once, and each table that counts the row has its memory reserved, before any instance is
-//! written to.
+//! written to. All of it is kept in one `Delivery`, in the memory of the emissions before, so that most take no allocation.
 
-mod plain;
-
-ghost use Rattle.std.specs.Prelude.{◌≡◌, ◌+◌, ◌<◌, ◌≤◌, ◌^◌, List, [], length, All, slice_index_or, Some, IfOk, OnOk};
+ghost use Rattle.std.specs.Prelude.{◌≡◌, ◌<◌, ◌≤◌, ◌^◌, true, List, [], length, All, slice_index_or, IfErr, OnOk};
 ghost use Rattle.trace_command.specs.Configs.{IsInRange};
 ghost use Rattle.trace_command.specs.Refusals.{IsRefusal};
 ghost use Rattle.trace_command.specs.Requests as requests;
 ghost use Rattle.trace_command.specs.Requests.{Request, Emission};
-ghost use Rattle.trace_command.specs.declared.command.Config.{Config};
-ghost use Rattle.trace_format.specs.Cells.{size_of_all};
+ghost use Rattle.trace_format.specs.Cells.{payload_size_of, size_of_all};
 ghost use Rattle.trace_format.specs.declared.pair.Pair.{Pair as PairSeen};
-ghost use Rattle.trace_history.specs.History.{emission_answer};
+ghost use Rattle.trace_history.specs.History.{answer_with_room, emission_answer};
 ghost use Rattle.trace_record.specs.Record.{record_size};
 ghost use Rattle.trace_state.specs.private.Emissions as emissions;
 ghost use Rattle.trace_instance.specs.Instances.{IsAlike};
 ghost use Rattle.trace_instance.specs.KeptHists.{KeysAgree};
-ghost use Rattle.trace_instance.specs.declared.change.Pending.{Pending as PendingHere};
 ghost use Rattle.trace_state.specs.States.{StandsFor, IsPreparedEmission, IsStateAlike, IsUsable, EachCame, ArePassed};
 ghost use Rattle.trace_instance.specs.Deliveries.{CanCountRow, most_requests};
 
-use crate::memory::EmissionMemory;
 use crate::resolve::find_likely;
 use crate::row::record;
 use crate::state::{Named, State};
-use std::alloc::AllocError;
+use std::alloc::{AllocError, Global};
 use trace_command::{Config, Refusal};
-use trace_format::{BorrowedPair, Row, payload_size};
-use trace_instance::{Delivery, INSTANCES, MOST_TRIGGERS, Passed, Pending, Reach, Reaches};
+use trace_format::{BorrowedPair, EventDef, Row, payload_size};
+use trace_instance::{Delivery, INSTANCES, MOST_TRIGGERS, Passed, Reach};
 
 impl State {
     /// Prepares an emission, in this order: its CPU, its event, its row, what it does in each instance, the memory of its hist triggers, and its
-    /// record, if an instance records it.
+    /// record, if an instance records it. A refused one leaves a delivery that means nothing.
     #[tactic(auto, unfolding(trace_history::specs::History::emission_answer))]
     pub fn prepare_emission(
         &mut self,
-        memory: &mut EmissionMemory,
+        alloc: Global,
+        delivery: &mut Delivery,
         config: &Config,
         name: &[u8],
         cpu: u32,
         pid: i32,
         pairs: &[BorrowedPair<'_>],
-    ) -> Result<Delivery, Refusal>
+    ) -> Result<(), Refusal>
         requires usable { IsUsable config.now self.old }
         requires in_range { IsInRange config.now }
         ensures alike { IsStateAlike self.old self.new }
         ensures prepared { (past : List Request) → StandsFor config.now self.old past
-            → IsPreparedEmission config.now past (Emission name.now cpu pid pairs.now) self.new result }
+            → OnOk result (IsPreparedEmission config.now past (Emission name.now cpu pid pairs.now) self.new delivery.new) }
+        ensures refused { (past : List Request) → StandsFor config.now self.old past
+            → IfErr result (λ r. IsRefusal r (answer_with_room config.now past (Emission name.now cpu pid pairs.now))) }
         ensures fits { OnOk result (requests.FitsItsTypes (Emission name.now cpu pid pairs.now)) }
     {
         if cpu >= config.cpus {
             return Err(Refusal::NoSuchCpu);
         }
-        let Some(found) = find_likely(&self.catalog, memory.event(), name) else {
+        let Some(found) = find_likely(&self.catalog, delivery.event, name) else {
             return Err(Refusal::NoSuchEvent);
         };
         let index = found.index;
-        let size = payload_size(found.event);
-        let row = memory.row(found.event, pairs)?;
-        let reaches = reach_each(&self.instances, index, &row, cpu, pid);
-        let passed = self.reserve_hits(index, &row, cpu, pid)?;
-        let pending = self.write_ahead(memory, &reaches, index, cpu, pid, size, &row)?;
-        Ok(Delivery {
-            event: index,
-            row,
-            cpu,
-            pid,
-            reaches,
-            passed,
-            record: pending,
-        })
+        delivery.row.rebuild(alloc, found.event, pairs)?;
+        delivery.event = index;
+        delivery.cpu = cpu;
+        delivery.pid = pid;
+        let row = &delivery.row;
+        let recorded = reach_each(&self.instances, index, row, cpu, pid, &mut delivery.reaches);
+        let size = size_if(recorded, found.event);
+        self.reserve_hits(index, row, cpu, pid, &mut delivery.passed)?;
+        self.write_ahead(recorded, index, pid, size, row, &mut delivery.record)?;
+        Ok(())
     }
 
     /// The refusal of an emission that ran out of memory: a missing CPU or event is reported even so.
@@ -97,65 +91,75 @@ impl State {
         row: &Row,
         cpu: u32,
         pid: i32,
-    ) -> Result<[Passed; INSTANCES], AllocError>
+        passed: &mut [Passed; INSTANCES],
+    ) -> Result<(), AllocError>
         requires few { length self.old.instances.items ≤ 8 }
         requires index { All (λ n. index < length n.instance.hists) self.old.instances.items }
         requires agree { All (λ n. KeysAgree (slice_index_or n.instance.hists index [])) self.old.instances.items }
         ensures alike { IsStateAlike self.old self.new }
-        ensures passed { IfOk result (λ passed. ArePassed (record { values = row.now.values; cpu = cpu; pid = pid }) index passed
+        ensures passed { OnOk result (ArePassed (record { values = row.now.values; cpu = cpu; pid = pid }) index passed.new
             self.old.instances.items) }
         ensures counted { OnOk result (All (λ n. CanCountRow (record { values = row.now.values; cpu = cpu; pid = pid }) index n.instance)
             self.new.instances.items) }
     {
-        reserve_each(&mut self.instances, index, row, cpu, pid)
+        reserve_each(&mut self.instances, index, row, cpu, pid, passed)
     }
 
-    // The record of an emission of the event at this index, which does this in each instance; none if no instance records it.
+    // Makes the record of an emission of the event at this index, if some instance records it.
     fn write_ahead(
         &self,
-        memory: &mut EmissionMemory,
-        reaches: &Reaches,
+        recorded: bool,
         index: usize,
-        cpu: u32,
         pid: i32,
         size: usize,
         row: &Row,
-    ) -> Result<Option<Pending>, AllocError>
+        bytes: &mut Vec<u8>,
+    ) -> Result<(), AllocError>
         requires early { self.now.clock ≤ most_requests }
         requires index { index < 64 }
-        requires size { size ≡ size_of_all row.now.kinds }
+        requires size { recorded ≡ true → size ≡ size_of_all row.now.kinds }
         requires small { size < 2 ^ 12 }
-        ensures ahead { IfOk result (λ pending. emissions.IsAhead self.now index row.now cpu pid reaches.now pending) }
-        ensures length { IfOk result (λ pending. (p : PendingHere) → pending ≡ Some p → length p.bytes.items ≡ record_size size) }
+        ensures ahead { OnOk result (emissions.IsAhead self.now index row.now pid recorded bytes.new.items) }
+        ensures length { OnOk result (recorded ≡ true → length bytes.new.items ≡ record_size size) }
     {
-        if !reaches.recorded {
-            return Ok(None);
+        if !recorded {
+            return Ok(());
         }
-        let bytes = record(memory, self.clock + 1, pid, index as u16 + 1, size, row)?;
-        Ok(Some(Pending { cpu, bytes }))
+        record(self.clock + 1, pid, index as u16 + 1, size, row, bytes)
     }
 }
 
-// What an emission of the event at this index does in each instance, apart from hist triggers.
-fn reach_each(instances: &[Named], event: usize, row: &Row, cpu: u32, pid: i32) -> Reaches
+// How many bytes the payload of an event takes, where its record is to be made.
+fn size_if(recorded: bool, event: &EventDef) -> usize
+    requires { length event.now.fields ≤ 16 }
+    ensures size { recorded ≡ true → result ≡ payload_size_of event.now }
+    ensures small { result < 2 ^ 12 }
+{
+    if recorded { payload_size(event) } else { 0 }
+}
+
+// What an emission of the event at this index does in each instance, apart from hist triggers. Whether any instance records it.
+fn reach_each(
+    instances: &[Named],
+    event: usize,
+    row: &Row,
+    cpu: u32,
+    pid: i32,
+    reaches: &mut [Reach; INSTANCES],
+) -> bool
     requires few { length instances.now ≤ 8 }
     requires enabled { All (λ n. event < length n.instance.enabled) instances.now }
     requires filters { All (λ n. event < length n.instance.filters) instances.now }
     requires triggers { All (λ n. event < length n.instance.triggers) instances.now }
-    ensures { emissions.AreReached event row.now cpu pid result instances.now }
+    ensures { emissions.AreReached event row.now cpu pid reaches.new result instances.now }
 {
-    let nothing = Reach {
-        records: false,
-        fires: false,
-    };
-    let mut each = [nothing; INSTANCES];
     let mut recorded = false;
     for i in 0..instances.len() {
         let reach = instances[i].instance.reach(event, row, cpu, pid);
-        each[i] = reach;
+        reaches[i] = reach;
         recorded |= reach.records;
     }
-    Reaches { each, recorded }
+    recorded
 }
 
 // Evaluates the filters of the hist triggers of the event at this index for a row, in each instance, and reserves memory to count it for those that
@@ -166,19 +170,21 @@ fn reserve_each(
     row: &Row,
     cpu: u32,
     pid: i32,
-) -> Result<[Passed; INSTANCES], AllocError>
+    passed: &mut [Passed; INSTANCES],
+) -> Result<(), AllocError>
     requires few { length instances.old ≤ 8 }
     requires event { All (λ n. event < length n.instance.hists) instances.old }
     requires agree { All (λ n. KeysAgree (slice_index_or n.instance.hists event [])) instances.old }
     ensures alike { EachCame IsAlike instances.old instances.new }
-    ensures passed { IfOk result (λ passed. ArePassed (record { values = row.now.values; cpu = cpu; pid = pid }) event passed instances.old) }
+    ensures passed { OnOk result (ArePassed (record { values = row.now.values; cpu = cpu; pid = pid }) event passed.new instances.old) }
     ensures counted { OnOk result (All (λ n. CanCountRow (record { values = row.now.values; cpu = cpu; pid = pid }) event n.instance) instances.new) }
 {
-    let mut passed = [[false; MOST_TRIGGERS]; INSTANCES];
     for i in 0..instances.len() {
         if instances[i].instance.has_hists(event) {
             passed[i] = instances[i].instance.reserve(event, row, cpu, pid)?;
+        } else {
+            passed[i] = [false; MOST_TRIGGERS];
         }
     }
-    Ok(passed)
+    Ok(())
 }

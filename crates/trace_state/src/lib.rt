@@ -4,7 +4,6 @@
 mod change;
 mod emission;
 mod make;
-mod memory;
 mod prepare;
 mod resolve;
 mod row;
@@ -12,5 +11,4 @@ mod state;
 mod waiting;
 
 pub use change::Change;
-pub use memory::EmissionMemory;
 pub use state::{Named, Prepared, State};

@@ -46,12 +46,16 @@ pub(crate) fn find<'a>(catalog: &'a Catalog, name: &[u8]) -> Option<Found<'a>>
     numbered(catalog, id)
 }
 
-/// Likewise, trying the event with this number first.
-pub(crate) fn find_likely<'a>(catalog: &'a Catalog, id: u16, name: &[u8]) -> Option<Found<'a>>
+/// Likewise, trying the event at this index first.
+#[inline(always)]
+pub(crate) fn find_likely<'a>(catalog: &'a Catalog, likely: usize, name: &[u8]) -> Option<Found<'a>>
     ensures named { option_map numbered result ≡ event_named_in catalog.now name.now }
     ensures index { IfSome result (λ found. IsIndexOf catalog.now name.now found.index found.event.now) }
 {
-    match numbered(catalog, id) {
+    if likely >= catalog.len() {
+        return find(catalog, name);
+    }
+    match numbered(catalog, likely as u16 + 1) {
         Some(found) if found.event.name() == name => Some(found),
         _ => find(catalog, name),
     }

@@ -125,7 +125,7 @@ impl State {
     /// Delivers an emission to all instances. Allocates nothing.
     pub fn deliver(&mut self, config: &Config, delivery: &Delivery)
         requires usable { states.IsUsable config.now self.old }
-        requires ready { states.CanEmit config.now self.old delivery.now }
+        requires ready { states.CanEmit self.old delivery.now }
         requires early { self.old.clock < most_requests }
         requires few { All (λ n. HasFew n.instance) self.old.instances.items }
         requires few_rows { All (λ n. HasFewRows n.instance) self.old.instances.items }
@@ -165,7 +165,7 @@ fn change_one(
 fn deliver_each(instances: &mut [Named], delivery: &Delivery)
     requires few_instances { length instances.old ≤ 8 }
     requires event { All (λ n. delivery.now.event < length n.instance.triggers) instances.old }
-    requires record { All (λ n. IsWritable delivery.now.record n.instance) instances.old }
+    requires record { states.AllReached (IsWritable delivery.now) delivery.now.reaches instances.old }
     requires hists { All (λ n. delivery.now.event < length n.instance.hists) instances.old }
     requires agree { All (λ n. KeysAgree (slice_index_or n.instance.hists delivery.now.event [])) instances.old }
     requires passed { states.ArePassed (row_of delivery.now) delivery.now.event delivery.now.passed instances.old }
@@ -178,6 +178,6 @@ fn deliver_each(instances: &mut [Named], delivery: &Delivery)
     for i in 0..instances.len() {
         instances[i]
             .instance
-            .deliver(delivery, delivery.reaches.each[i], &delivery.passed[i]);
+            .deliver(delivery, delivery.reaches[i], &delivery.passed[i]);
     }
 }

@@ -1,9 +1,10 @@
 -- Pairs that name the fields of an event in order, each once: their values take no search. That these pairs give the row of the values is what
 -- `row_of` of `Rows` says of them.
-use Rattle.std.specs.Prelude.{bytes_eq, if◌then◌else◌, List, [], ◌∷◌, ◌++◌, ℕ, Option, None, Some, option_map, option_and_then}
+use Rattle.std.specs.Prelude.{◌≡◌, bytes_eq, if◌then◌else◌, List, [], ◌∷◌, ◌++◌, ℕ, Option, None, Some, option_map, option_and_then}
 use Rattle.trace_format.specs.declared.event.Field.{Field}
 use Rattle.trace_format.specs.declared.pair.Pair.{Pair}
-use Rattle.trace_format.specs.Cells.{Datum, field_bytes}
+use Rattle.trace_format.specs.declared.value.Value.{Value}
+use Rattle.trace_format.specs.Cells.{Datum, datum_of}
 use Rattle.trace_format.specs.Rows.{value_of}
 
 -- the value that a pair gives to a field, if it names it
@@ -18,14 +19,8 @@ values_in_order (field ∷ fields) [] = None
 values_in_order (field ∷ fields) (pair ∷ pairs) =
     option_and_then (λ value. option_map (λ values. value ∷ values) (values_in_order fields pairs)) (named_value field pair)
 
--- the bytes of the value that a pair gives to a field, if it names it
-abbrev pub named_bytes : Field → Pair → Option (List ℕ)
-named_bytes field pair = option_map (field_bytes field.kind) (named_value field pair)
-
--- the bytes of the values in order, one behind the other
-abbrev pub bytes_in_order : List Field → List Pair → Option (List ℕ)
-bytes_in_order [] [] = Some []
-bytes_in_order [] (pair ∷ pairs) = None
-bytes_in_order (field ∷ fields) [] = None
-bytes_in_order (field ∷ fields) (pair ∷ pairs) =
-    option_and_then (λ front. option_map (λ rest. front ++ rest) (bytes_in_order fields pairs)) (named_bytes field pair)
+-- a value was added to a list: the one that was found
+pub record IsPushed (found : Option Datum) (old new : List Value) : Type 0 where
+  pub value : Value
+  pub is : found ≡ Some (datum_of value)
+  pub items : new ≡ old ++ value ∷ []

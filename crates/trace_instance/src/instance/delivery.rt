@@ -9,32 +9,12 @@ ghost use Rattle.trace_instance.specs.Rows as rows;
 ghost use Rattle.trace_instance.specs.Deliveries.{CanCountRow, NeedsRowMemory, CanFire, HasFewRows, row_of, IsDelivered, IsOffered, IsExchanged, IsWritable, IsWritten, HasFew};
 
 use super::Instance;
-use crate::change::{Delivery, Pending, Reach};
+use crate::change::{Delivery, Reach};
 use crate::hists::Passed;
 use std::alloc::AllocError;
 use trace_format::Row;
 
 impl Instance {
-    /// Whether an emission of the event at this index is plain here: recorded whatever its row, since the event has no filter, and all that comes of
-    /// it, since it has no triggers.
-    #[inline(always)]
-    pub fn is_plain(&self, event: usize) -> bool
-        requires enabled { event < length self.now.enabled }
-        requires filters { event < length self.now.filters }
-        requires triggers { event < length self.now.triggers }
-        requires hists { event < length self.now.hists }
-        ensures { result ≡ rows.is_plain self.now event }
-    {
-        let own = &self.events[event];
-        if !self.tracing || !own.enabled {
-            return false;
-        }
-        if own.filter.is_some() || own.trigger.is_some() {
-            return false;
-        }
-        own.hists.as_slice().is_empty()
-    }
-
     /// Whether the event at this index has hist triggers.
     pub fn has_hists(&self, event: usize) -> bool
         requires { event < length self.now.hists }
@@ -106,34 +86,29 @@ impl Instance {
         requires agree { KeysAgree (slice_index_or self.old.hists delivery.now.event []) }
         requires counted { CanCountRow (row_of delivery.now) delivery.now.event self.old }
         requires few_rows { HasFewRows self.old }
-        requires record { IsWritable delivery.now.record self.old }
+        requires record { IsWritable delivery.now reach self.old }
         requires few { HasFew self.old }
         requires spare { CanFire reach self.old }
         ensures { IsDelivered delivery.now reach self.old self.new }
     {
-        if let Some(pending) = &delivery.record {
-            self.write(pending, reach);
-        }
+        self.write(delivery, reach);
         self.offer(delivery, passed);
         if reach.fires {
             self.exchange(delivery.event);
         }
     }
 
-    /// Writes a record, if this instance records it.
-    #[inline(always)]
-    pub fn write(&mut self, pending: &Pending, reach: Reach)
-        requires is_record { IsRecord pending.now.bytes.items }
-        requires fits { length pending.now.bytes.items ≤ self.old.sides.live.page_bytes }
-        requires cpu { pending.now.cpu < buffers.cpus self.old.sides.live }
+    // Writes an emission's record, if this instance records it.
+    fn write(&mut self, delivery: &Delivery, reach: Reach)
+        requires record { IsWritable delivery.now reach self.old }
         requires few { HasFew self.old }
-        ensures { IsWritten pending.now reach self.old self.new }
+        ensures { IsWritten delivery.now reach self.old self.new }
     {
         if reach.records {
             let _put = self
                 .sides
                 .live_mut()
-                .put(pending.cpu, &pending.bytes, self.overwrite);
+                .put(delivery.cpu, &delivery.record, self.overwrite);
         }
     }
 

@@ -1,16 +1,13 @@
 //! Whole calls: a command is done, or refused.
 
-ghost use Rattle.std.specs.Prelude.{◌≡◌, ◌≤◌, List, Ok, Err, true, false, IfOk, OnErr};
+ghost use Rattle.std.specs.Prelude.{◌≡◌, ◌≤◌, List};
 ghost use Rattle.trace_command.specs.Requests.{Request, Emission, request_of};
-ghost use Rattle.trace_command.specs.declared.command.Reply.TheVariants.{Done};
-ghost use Rattle.trace_command.specs.declared.refusal.Refusal.TheVariants as refusal;
 ghost use Rattle.trace_history.specs.Settings.{ticks};
 ghost use Rattle.trace_live.specs.Lives.{IsLive, IsCall, IsCallWithin, most_done};
 
 use super::{Live, MOST_DONE};
 use crate::discard::let_go;
 use crate::pair::single;
-use std::alloc::AllocError;
 use std::slice;
 use trace_command::{BorrowedEmission, Command, Refusal, Reply};
 use trace_format::{Pair, borrowed};
@@ -93,48 +90,10 @@ impl Live {
             → IsCallWithin limit past self.new (request_of emission.now) result }
         ensures config { self.new.config ≡ self.old.config }
     {
-        if self.ask_plain(limit, emission)? {
-            return Ok(Reply::Done);
-        }
-        self.ask_any(limit, emission)
-    }
-
-    // Runs an emission, if it is of the plain kind. Whether it ran. It fails only if memory is refused.
-    #[inline(always)]
-    fn ask_plain(&mut self, limit: u64, emission: &BorrowedEmission<'_>) -> Result<bool, AllocError>
-        requires { limit ≤ most_done }
-        ensures ran { (past : List Request) → IsLive self.old.config past self.old → IfOk result (λ ran. ran ≡ true
-            → IsCallWithin limit past self.new (request_of emission.now) (Ok Done)) }
-        ensures other { (past : List Request) → IsLive self.old.config past self.old → IfOk result (λ ran. ran ≡ false
-            → IsLive self.new.config past self.new) }
-        ensures refused { (past : List Request) → IsLive self.old.config past self.old
-            → OnErr result (IsCallWithin limit past self.new (request_of emission.now) (Err refusal.Memory)) }
-        ensures config { self.new.config ≡ self.old.config }
-    {
-        let (event, cpu, pid, pairs) = emission.parts();
-        let prepared = match self.prepare_plain(limit, event, cpu, pid, pairs) {
-            Ok(prepared) => prepared,
-            Err(error) => return Err(error),
-        };
-        let Some(index) = prepared else {
-            return Ok(false);
-        };
-        self.deliver_plain(index);
-        Ok(true)
-    }
-
-    // As `ask_emission_within`, for an emission of any kind. Out of line, so that plain ones don't pay for its locals.
-    #[inline(never)]
-    fn ask_any(&mut self, limit: u64, emission: &BorrowedEmission<'_>) -> Result<Reply, Refusal>
-        requires { limit ≤ most_done }
-        ensures call { (past : List Request) → IsLive self.old.config past self.old
-            → IsCallWithin limit past self.new (request_of emission.now) result }
-        ensures config { self.new.config ≡ self.old.config }
-    {
         let (event, cpu, pid, pairs) = emission.parts();
         match self.prepare_emission(limit, event, cpu, pid, pairs) {
-            Ok(delivery) => {
-                self.deliver(delivery);
+            Ok(()) => {
+                self.deliver();
                 Ok(Reply::Done)
             }
             Err(refusal) => Err(refusal),

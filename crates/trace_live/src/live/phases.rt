@@ -9,13 +9,12 @@ ghost use Rattle.trace_history.specs.History.{emission_answer};
 ghost use Rattle.trace_history.specs.LateMemory.{TakesMemoryLate};
 ghost use Rattle.trace_history.specs.Settings.{ticks};
 ghost use Rattle.trace_state.specs.States.{IsPrepared, IsPreparedEmission};
-ghost use Rattle.trace_live.specs.Lives.{IsLive, IsPreparedWithin, IsDeliveryWithin, IsReadyFor, CanDeliver, most_done};
+ghost use Rattle.trace_live.specs.Lives.{IsLive, IsPreparedWithin, IsReadyFor, CanDeliver, limited_answer, most_done};
 
 use super::Live;
-use crate::discard::{let_go_change, let_go_delivery};
+use crate::discard::let_go_change;
 use trace_command::{Command, Refusal, Reply};
 use trace_format::BorrowedPair;
-use trace_instance::Delivery;
 use trace_state::Prepared;
 
 impl Live {
@@ -65,8 +64,8 @@ impl Live {
         }
     }
 
-    /// Looks at an emission, and allocates what it needs: what is delivered, or its refusal, `HistoryFull` as for `prepare`. Nothing changes but
-    /// memory reserved for tables.
+    /// Looks at an emission, and allocates what it needs: what is delivered, which the tracer keeps, or its refusal, `HistoryFull` as for `prepare`.
+    /// Nothing else changes but memory reserved for tables.
     #[inline(always)]
     pub fn prepare_emission(
         &mut self,
@@ -75,41 +74,46 @@ impl Live {
         cpu: u32,
         pid: i32,
         pairs: &[BorrowedPair<'_>],
-    ) -> Result<Delivery, Refusal>
+    ) -> Result<(), Refusal>
         ensures prepared { (past : List Request) → IsLive self.old.config past self.old
-            → IsDeliveryWithin limit self.new.config past (Emission name.now cpu pid pairs.now) self.new.state result }
-        ensures ready { IfOk result (CanDeliver self.new) }
+            → OnOk result (IsPreparedEmission self.new.config past (Emission name.now cpu pid pairs.now) self.new.state self.new.delivery) }
+        ensures refused { (past : List Request) → IsLive self.old.config past self.old
+            → IfErr result (λ r. IsRefusal r (limited_answer limit self.new.config past (Emission name.now cpu pid pairs.now))) }
+        ensures ready { OnOk result (CanDeliver self.new) }
         ensures room { OnOk result (self.new.done < limit) }
         ensures fits { OnOk result (FitsItsTypes (Emission name.now cpu pid pairs.now)) }
         ensures lives { (past : List Request) → IsLive self.old.config past self.old → IsLive self.new.config past self.new }
         ensures config { self.new.config ≡ self.old.config }
     {
-        let delivery = match self
-            .state
-            .prepare_emission(&mut self.memory, &self.config, name, cpu, pid, pairs)
-        {
-            Ok(delivery) => delivery,
+        match self.state.prepare_emission(
+            self.alloc,
+            &mut self.delivery,
+            &self.config,
+            name,
+            cpu,
+            pid,
+            pairs,
+        ) {
+            Ok(()) => {}
             Err(refusal) => return Err(refusal),
-        };
+        }
         if self.done >= limit {
-            let_go_delivery(delivery);
             return Err(Refusal::HistoryFull);
         }
-        Ok(delivery)
+        Ok(())
     }
 
-    /// Delivers an emission that was prepared: it is done. Allocates nothing.
+    /// Delivers the emission that was prepared: it is done. Allocates nothing.
     #[inline(always)]
-    pub fn deliver(&mut self, delivery: Delivery)
-        requires ready { CanDeliver self.old delivery }
+    pub fn deliver(&mut self)
+        requires ready { CanDeliver self.old }
         requires room { self.old.done < most_done }
         ensures done { (past : List Request) (request : Request) → IsLive self.old.config past self.old
-            → IsPreparedEmission self.old.config past request self.old.state (Ok delivery)
+            → IsPreparedEmission self.old.config past request self.old.state self.old.delivery
             → IsLive self.new.config (request ∷ past) self.new }
         ensures config { self.new.config ≡ self.old.config }
     {
-        self.state.deliver(&self.config, &delivery);
-        self.memory.keep(delivery);
+        self.state.deliver(&self.config, &self.delivery);
         self.done += 1;
     }
 

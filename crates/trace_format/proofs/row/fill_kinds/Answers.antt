@@ -1,4 +1,4 @@
-use Rattle.std.proofs.Common.{arith, rules}
+use Rattle.std.proofs.Common.{arith}
 use Rattle.trace_format.proofs.LoopLemmas.{kind_more, kinds_done}
 use Rattle.trace_format.proofs.row.fill_kinds.Goals as goal
 

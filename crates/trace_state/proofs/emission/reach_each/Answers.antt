@@ -17,6 +17,6 @@ loop-i-preserved c =
     (get_or_default instances c.loop-i.i c.index-instances-i.result n (omega arith)) c.reach-reach.ensures in record {
       many = length-set _ _ _ ∙ was.many;
       each = reached_more no_reach (λ k r. (n : Named) → r ≡ reach_of (get_or instances k n).instance c.args.event c.args.row.now c.args.cpu pid)
-          c.loop-i.each c.loop-i.i reach (omega (arith, was.many)) here was.each;
-      none = none_more c.loop-i.each c.loop-i.i reach c.loop-i.recorded (omega (arith, was.many)) was.none;
+          c.loop-i.reaches c.loop-i.i reach (omega (arith, was.many)) here was.each;
+      none = none_more c.loop-i.reaches c.loop-i.i reach c.loop-i.recorded (omega (arith, was.many)) was.none;
     }

@@ -1,23 +1,22 @@
-use Rattle.std.proofs.Common.{◌≡◌, ◌≢◌, ◌<◌, false, [], ◌∷◌, get_or, length, length-set, get_or-set_other, refl, ◌∙◌, arith, to_z, of_z, w32}
-use Rattle.std.proofs.lemmas.List.{get_or-replicate, get_or_default}
+use Rattle.std.proofs.Common.{◌≡◌, ◌≢◌, ◌<◌, false, [], ◌∷◌, get_or, length, length-set, get_or-set_other, refl, ◌∙◌, arith, rules, to_z, of_z, w32}
+use Rattle.std.proofs.lemmas.List.{get_or_default}
 use Rattle.trace_format.specs.Operands.{Emission}
 use Rattle.trace_instance.specs.Instances.{IsAlike, passed_in}
 use Rattle.trace_instance.specs.Deliveries.{CanCountRow}
 use Rattle.trace_state.specs.declared.state.Named.{Named}
 use Rattle.trace_state.proofs.EachInstance.{came_more, held_more, names_more, reached_more}
-use Rattle.trace_state.proofs.ReservedEach.{alike-past, counted-past, known-here, known-past, no-hists}
+use Rattle.trace_state.proofs.ReservedEach.{alike-past, counted-past, known-here, no-hists, none-known}
 use Rattle.trace_state.proofs.emission.reserve_each.Goals as goal
 use Rattle.trace_state.proofs.emission.reserve_each.Goals.{then-has_hists+in_ok-passed, else-has_hists}
 
 pub loop-i-init : goal.loop-i-init
 loop-i-init c = record {
   many = refl;
-  places = refl;
+  places = search rules;
   names = λ k d. refl;
   alike = λ k d below. absurd (omega (arith, below));
   counted = λ k d below. absurd (omega (arith, below));
   known = λ k below n. absurd (omega (arith, below));
-  fresh = λ k above few. get_or-replicate 8 k (false ∷ false ∷ false ∷ false ∷ []) [] few;
   left = λ k d above. refl;
 }
 
@@ -52,7 +51,6 @@ loop-i-preserved c =
             counted = held_more (λ k j. CanCountRow e event j) now i _ inside w.in_ok-passed.ensures.ready was.counted;
             known = reached_more [] (λ k known. (n : Named) → known ≡ passed_in e event (get_or old k n).instance) c.loop-i.passed i
                 w.in_ok-passed.field-0 (omega (arith, was.places, was.many, inside, c.requires.few)) found was.known;
-            fresh = λ k above few. let other : k ≢ i = omega arith in rw get_or-set_other (was.fresh k (omega arith) few);
             left = λ k d above. let other : k ≢ i = omega arith in rw get_or-set_other (was.left k d (omega arith));
           })
       | else-has_hists w ↦
@@ -61,12 +59,13 @@ loop-i-preserved c =
           let none : get_or here.instance.hists event [] ≡ [] = no-hists _ c.has_hists.result c.has_hists.ensures w.if-has_hists.false in
           rw (w.instances-is, w.passed-is) (record {
             many = was.many;
-            places = was.places;
+            places = length-set _ _ _ ∙ was.places;
             names = was.names;
             alike = alike-past old now i was.alike was.left;
             counted = counted-past e event now i here inside is none was.counted;
-            known = known-past e event old now c.loop-i.passed i here inside is none was.left (was.fresh i (omega arith) (omega arith)) was.known;
-            fresh = λ k above few. was.fresh k (omega arith) few;
+            known = reached_more [] (λ k known. (n : Named) → known ≡ passed_in e event (get_or old k n).instance) c.loop-i.passed i
+                (false ∷ false ∷ false ∷ false ∷ []) (omega (arith, was.places, was.many, inside, c.requires.few))
+                (none-known e event old now i here inside is none was.left) was.known;
             left = λ k d above. was.left k d (omega arith);
           })
     ]

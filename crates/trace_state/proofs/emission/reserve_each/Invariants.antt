@@ -15,6 +15,5 @@ invariant-loop-i l = record {
   known : (k : ℕ) → k < l.i → (n : Named)
       → slice_index_or l.passed k [] ≡ passed_in (record { values = l.fn.row.values; cpu = l.fn.cpu; pid = l.fn.pid }) l.fn.event
       (slice_index_or l.fn.instances k n).instance;
-  fresh : (k : ℕ) → l.i ≤ k → k < 8 → slice_index_or l.passed k [] ≡ false ∷ false ∷ false ∷ false ∷ [];
   left : (k : ℕ) (d : Named) → l.i ≤ k → slice_index_or l.instances k d ≡ slice_index_or l.fn.instances k d;
 }

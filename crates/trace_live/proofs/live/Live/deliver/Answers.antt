@@ -9,7 +9,7 @@ deliver-requires-clause-usable c = live-usable _ _ _ c.self.invariant.lives
 
 pub deliver-requires-clause-ready : goal.deliver-requires-clause-ready
 deliver-requires-clause-ready c =
-    let ready : CanDeliver (seen c.self.inside) c.args.delivery = rw (← c.self.view_is) at c.requires.ready in
+    let ready : CanDeliver (seen c.self.inside) = rw (← c.self.view_is) at c.requires.ready in
     ready.is.2
 
 pub deliver-requires-clause-early : goal.deliver-requires-clause-early
@@ -29,14 +29,14 @@ deliver-requires-clause-few_rows c =
 
 pub invariant_of-self : goal.invariant_of-self
 invariant_of-self c =
-    let ready : CanDeliver (seen c.self.inside) c.args.delivery = rw (← c.self.view_is) at c.requires.ready in
+    let ready : CanDeliver (seen c.self.inside) = rw (← c.self.view_is) at c.requires.ready in
     let room : c.self.inside.done < most_done = rw (← c.self.view_is) at c.requires.room in record {
       past = ready.request ∷ ready.past;
-      lives = live-emitted _ ready.past (seen c.self.inside) _ ready.request c.args.delivery ready.lives room refl ready.is c.deliver.ensures;
+      lives = live-emitted _ ready.past (seen c.self.inside) _ ready.request ready.lives room refl ready.is c.deliver.ensures;
     }
 
 pub returns-clause-done : goal.returns-clause-done
 returns-clause-done c =
     let room : c.self.inside.done < most_done = rw (← c.self.view_is) at c.requires.room in
     rw (← c.self.view_is) (λ past request lives prepared.
-    live-emitted _ past (seen c.self.inside) _ request c.args.delivery lives room refl prepared c.deliver.ensures)
+    live-emitted _ past (seen c.self.inside) _ request lives room refl prepared c.deliver.ensures)

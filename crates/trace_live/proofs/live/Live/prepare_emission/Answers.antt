@@ -39,13 +39,13 @@ pub returns-clause-lives : goal.returns-clause-lives
 returns-clause-lives c =
     rw (← c.self.view_is) (λ past lives. live-alike _ past (seen c.self.inside) _ lives refl c.prepare_emission.ensures.alike)
 
-pub returns-in-Err-clause-prepared : goal.returns-in-Err-clause-prepared
-returns-in-Err-clause-prepared c =
+pub returns-in-Err-clause-refused : goal.returns-in-Err-clause-refused
+returns-in-Err-clause-refused c =
     rw (← c.self.view_is) (λ past lives.
-    limited-refusal c.args.limit c.self.inside.config past _ c.in-Err.refusal (c.in-Err.ensures.prepared past lives.stands))
+    limited-refusal c.args.limit c.self.inside.config past _ c.in-Err.refusal (c.in-Err.ensures.refused past lives.stands))
 
-pub returns-then-self-limit-clause-prepared : goal.returns-then-self-limit-clause-prepared
-returns-then-self-limit-clause-prepared c =
+pub returns-then-self-limit-clause-refused : goal.returns-then-self-limit-clause-refused
+returns-then-self-limit-clause-refused c =
     let pid : to_z w32 (of_z w32 c.args.pid) ≡ c.args.pid = to_z-of_z w32 c.args.pid (search rules) in
     rw (← c.self.view_is) (λ past lives.
     full-refusal c.args.limit c.self.inside.config past _ _ (rw pid at c.in-Ok.ensures.prepared past lives.stands).0 (omega (arith, lives.count)))

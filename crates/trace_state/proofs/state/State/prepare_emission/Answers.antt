@@ -1,15 +1,15 @@
-use Rattle.std.proofs.Common.{◌≡◌, ◌<◌, ◌≤◌, ℕ, [], All, Ok, Err, Some, length, arith, rules, refl, ap, ◌∙◌, to_z, of_z, w32}
+use Rattle.std.proofs.Common.{◌≡◌, ◌<◌, ◌≤◌, ℕ, true, [], All, Ok, Err, Some, length, arith, rules, refl, ap, ◌∙◌, to_z, of_z, w32}
 use Rattle.std.proofs.lemmas.Int.{to_z-of_z}
 use Rattle.trace_format.specs.Rows.{row_of}
 use Rattle.trace_record.specs.Record.{record_size}
 use Rattle.trace_state.specs.private.Emissions.{AreReached, IsAhead}
 use Rattle.trace_state.specs.States.{IsStateAlike, ArePassed}
 use Rattle.trace_state.specs.private.Found.{numbered}
-use Rattle.trace_instance.specs.declared.change.Pending.{Pending}
 use Rattle.trace_state.proofs.Emitting.{named-found, answers-emission, is-emission, ready-emission, fit-at}
 use Rattle.trace_command.specs.Requests.{Emission}
 use Rattle.trace_command.specs.declared.refusal.Refusal.TheVariants.{Memory}
 use Rattle.trace_instance.specs.Deliveries.{CanCountRow}
+use Rattle.trace_instance.specs.declared.change.Delivery.{Delivery}
 use Rattle.trace_state.specs.declared.state.Named.{Named}
 use Rattle.trace_state.specs.declared.state.State.{State}
 use Rattle.trace_state.proofs.Alike.{state_alike-stands}
@@ -34,22 +34,22 @@ returns-then-cpu-config-clause-alike c = still c.args.self.now
 pub returns-in_default-clause-alike : goal.returns-in_default-clause-alike
 returns-in_default-clause-alike c = still c.args.self.now
 
-pub returns-in_err-row-clause-alike : goal.returns-in_err-row-clause-alike
-returns-in_err-row-clause-alike c = still c.args.self.now
+pub returns-in_err-rebuild-clause-alike : goal.returns-in_err-rebuild-clause-alike
+returns-in_err-rebuild-clause-alike c = still c.args.self.now
 
-pub reach_each-reaches-requires-clause-few : goal.reach_each-reaches-requires-clause-few
-reach_each-reaches-requires-clause-few c = rw c.deref.ensures.value c.requires.usable.few_instances
+pub reach_each-recorded-requires-clause-few : goal.reach_each-recorded-requires-clause-few
+reach_each-recorded-requires-clause-few c = rw c.deref.ensures.value c.requires.usable.few_instances
 
-pub reach_each-reaches-requires-clause-enabled : goal.reach_each-reaches-requires-clause-enabled
-reach_each-reaches-requires-clause-enabled c =
+pub reach_each-recorded-requires-clause-enabled : goal.reach_each-recorded-requires-clause-enabled
+reach_each-recorded-requires-clause-enabled c =
     rw c.deref.ensures.value (λ k d inside. omega (arith, (c.requires.usable.each k d inside).enabled, c.in-Some.ensures.index.inside))
 
-pub reach_each-reaches-requires-clause-filters : goal.reach_each-reaches-requires-clause-filters
-reach_each-reaches-requires-clause-filters c =
+pub reach_each-recorded-requires-clause-filters : goal.reach_each-recorded-requires-clause-filters
+reach_each-recorded-requires-clause-filters c =
     rw c.deref.ensures.value (λ k d inside. omega (arith, (c.requires.usable.each k d inside).filters, c.in-Some.ensures.index.inside))
 
-pub reach_each-reaches-requires-clause-triggers : goal.reach_each-reaches-requires-clause-triggers
-reach_each-reaches-requires-clause-triggers c =
+pub reach_each-recorded-requires-clause-triggers : goal.reach_each-recorded-requires-clause-triggers
+reach_each-recorded-requires-clause-triggers c =
     rw c.deref.ensures.value (λ k d inside. omega (arith, (c.requires.usable.each k d inside).triggers, c.in-Some.ensures.index.inside))
 
 pub reserve_hits-requires-clause-few : goal.reserve_hits-requires-clause-few
@@ -65,11 +65,11 @@ reserve_hits-requires-clause-agree c =
     let usable = c.requires.usable.each k d inside in
     usable.agree c.in-Some.found.index [] (omega (arith, usable.hists, c.in-Some.ensures.index.inside))
 
-pub returns-in_err-passed-clause-alike : goal.returns-in_err-passed-clause-alike
-returns-in_err-passed-clause-alike c = c.reserve_hits.ensures.alike
+pub returns-in_err-reserve_hits-clause-alike : goal.returns-in_err-reserve_hits-clause-alike
+returns-in_err-reserve_hits-clause-alike c = c.reserve_hits.ensures.alike
 
-pub returns-in_err-pending-clause-alike : goal.returns-in_err-pending-clause-alike
-returns-in_err-pending-clause-alike c = c.reserve_hits.ensures.alike
+pub returns-in_err-write_ahead-clause-alike : goal.returns-in_err-write_ahead-clause-alike
+returns-in_err-write_ahead-clause-alike c = c.reserve_hits.ensures.alike
 
 pub returns-clause-alike : goal.returns-clause-alike
 returns-clause-alike c = c.reserve_hits.ensures.alike
@@ -80,29 +80,29 @@ write_ahead-requires-clause-early c = omega (arith, c.reserve_hits.ensures.alike
 pub write_ahead-requires-clause-index : goal.write_ahead-requires-clause-index
 write_ahead-requires-clause-index c = omega (arith, c.in-Some.ensures.index.inside, c.requires.usable.few_events)
 
-pub returns-in_err-passed-clause-prepared : goal.returns-in_err-passed-clause-prepared
-returns-in_err-passed-clause-prepared c = λ past stands.
+pub returns-in_err-reserve_hits-clause-refused : goal.returns-in_err-reserve_hits-clause-refused
+returns-in_err-reserve_hits-clause-refused c = λ past stands.
     let g = c.args.config.now in
     let name = c.args.name.now in
     let pairs = c.args.pairs.now in
     let found = c.in-Some.found in
-    let row = c.in_ok-row.row in
+    let row = c.rebuild.new.self in
     let inside : c.args.cpu < g.cpus = omega arith in
-    let built : row_of found.event.now pairs ≡ Ok row = c.in_ok-row.ensures.exact in
-    let out : c.from_residual-in_err-passed.result ≡ Err Memory = search rules in
+    let built : row_of found.event.now pairs ≡ Ok row = c.in_ok-rebuild.ensures.exact in
+    let out : c.from_residual-in_err-reserve_hits.result ≡ Err Memory = search rules in
     rw out (done-late _ (answers-emission g past name c.args.cpu pairs (numbered found) row inside
     (named-found g c.args.self.now past name found stands c.in-Some.ensures.named) built))
 
-pub returns-in_err-pending-clause-prepared : goal.returns-in_err-pending-clause-prepared
-returns-in_err-pending-clause-prepared c = λ past stands.
+pub returns-in_err-write_ahead-clause-refused : goal.returns-in_err-write_ahead-clause-refused
+returns-in_err-write_ahead-clause-refused c = λ past stands.
     let g = c.args.config.now in
     let name = c.args.name.now in
     let pairs = c.args.pairs.now in
     let found = c.in-Some.found in
-    let row = c.in_ok-row.row in
+    let row = c.rebuild.new.self in
     let inside : c.args.cpu < g.cpus = omega arith in
-    let built : row_of found.event.now pairs ≡ Ok row = c.in_ok-row.ensures.exact in
-    let out : c.from_residual-in_err-pending.result ≡ Err Memory = search rules in
+    let built : row_of found.event.now pairs ≡ Ok row = c.in_ok-rebuild.ensures.exact in
+    let out : c.from_residual-in_err-write_ahead.result ≡ Err Memory = search rules in
     rw out (done-late _ (answers-emission g past name c.args.cpu pairs (numbered found) row inside
     (named-found g c.args.self.now past name found stands c.in-Some.ensures.named) built))
 
@@ -116,30 +116,36 @@ returns-clause-prepared c = λ past stands.
     let name = c.args.name.now in
     let pairs = c.args.pairs.now in
     let found = c.in-Some.found in
-    let row = c.in_ok-row.row in
-    let pending = c.in_ok-pending.pending in
+    let row = c.rebuild.new.self in
+    let recorded = c.reach_each-recorded.result in
+    let d : Delivery = record {
+      event = found.index;
+      row = row;
+      cpu = c.args.cpu;
+      pid = c.args.pid;
+      reaches = c.reach_each-recorded.new.reaches;
+      passed = c.reserve_hits.new.passed;
+      «record» = c.write_ahead.new.bytes;
+    } in
     let inside : c.args.cpu < g.cpus = omega arith in
-    let built : row_of found.event.now pairs ≡ Ok row = c.in_ok-row.ensures.exact in
+    let built : row_of found.event.now pairs ≡ Ok row = c.in_ok-rebuild.ensures.exact in
     let indexed = c.in-Some.ensures.index in
     let fit = fit-at g.page_bytes old.catalog name found.index found.event.now c.requires.usable.fit indexed in
     let pid : to_z w32 (of_z w32 c.args.pid) ≡ c.args.pid = to_z-of_z w32 c.args.pid c.ranges.pid in
-    let reaches = c.reach_each-reaches.result in
-    let are : AreReached found.index row c.args.cpu c.args.pid reaches old.instances.items = rw (pid, c.deref.ensures.value) at c.reach_each-reaches.ensures in
-    let passed = c.in_ok-passed.passed in
-    let known : ArePassed (record { values = row.values; cpu = c.args.cpu; pid = c.args.pid }) found.index passed old.instances.items =
-    rw pid at c.in_ok-passed.ensures.passed in
-    let ahead : IsAhead new found.index row c.args.cpu c.args.pid reaches pending = rw pid at c.in_ok-pending.ensures.ahead in
+    let are : AreReached found.index row c.args.cpu c.args.pid d.reaches recorded old.instances.items =
+    rw (pid, c.deref.ensures.value) at c.reach_each-recorded.ensures in
+    let known : ArePassed (record { values = row.values; cpu = c.args.cpu; pid = c.args.pid }) found.index d.passed old.instances.items =
+    rw pid at c.in_ok-reserve_hits.ensures.passed in
+    let ahead : IsAhead new found.index row c.args.pid recorded d.record.items = rw pid at c.in_ok-write_ahead.ensures.ahead in
     let counted : All (λ (n : Named). CanCountRow (record { values = row.values; cpu = c.args.cpu; pid = c.args.pid }) found.index n.instance) new.instances.items =
-    rw pid at c.in_ok-passed.ensures.counted in
-    let short : (p : Pending) → pending ≡ Some p → length p.bytes.items ≤ g.page_bytes =
-    λ p is.
-    let long = c.in_ok-pending.ensures.length p is in
-    let size = ap (λ (n : ℕ). record_size n) c.payload_size-size.ensures.size in
+    rw pid at c.in_ok-reserve_hits.ensures.counted in
+    let short : recorded ≡ true → length d.record.items ≤ g.page_bytes =
+    λ on.
+    let long = c.in_ok-write_ahead.ensures.length on in
+    let size = ap (λ (n : ℕ). record_size n) (c.size_if-size.ensures.size on) in
     omega (arith, long ∙ size, fit.size) in
-    let emission = is-emission g old new past name c.args.cpu c.args.pid pairs found row reaches passed pending stands c.in-Some.ensures.named indexed built
-    alike are ahead in rw pid (
+    let emission = is-emission g old new past name pairs found d recorded refl stands c.in-Some.ensures.named indexed built alike are ahead in rw pid (
       answers-emission g past name c.args.cpu pairs (numbered found) row inside (named-found g old past name found stands c.in-Some.ensures.named) built,
       emission,
-      ready-emission g old new past (Emission name c.args.cpu c.args.pid pairs) found.index row c.args.cpu c.args.pid reaches passed pending
-          stands_new emission alike inside known counted ahead short,
+      ready-emission g old new past (Emission name c.args.cpu c.args.pid pairs) d recorded stands_new emission alike inside are ahead short known counted,
     )

@@ -1,0 +1,131 @@
+use Rattle.std.proofs.Common.{List, [], ◌∷◌, ◌++◌, All, subst, ◌≡◌, ◌<◌, length, Ok, arith, rules, refl, ap, sym, ◌∙◌, to_z, of_z, w32}
+use Rattle.std.proofs.lemmas.Int.{to_z-of_z}
+use Rattle.trace_command.specs.Refusals.{IsRefusal}
+use Rattle.trace_command.specs.Requests.{request_of}
+use Rattle.trace_command.specs.declared.command.Config.{Config}
+use Rattle.trace_command.specs.declared.command.Entry.{Entry}
+use Rattle.trace_command.specs.declared.command.Reply.TheVariants.{Done}
+use Rattle.trace_history.specs.History.{answer_with_room, past_of}
+use Rattle.trace_log.specs.HistorySeen.{HistorySeen}
+use Rattle.trace_state.specs.States.{IsPreparedEmission}
+use Rattle.trace_state.proofs.Histories.{length-past_of, past_of-push}
+use Rattle.trace_live.specs.Lives.{limited_answer}
+use Rattle.trace_book.specs.BookSeen.{BookSeen}
+use Rattle.trace_book.specs.Books.{seen}
+use Rattle.trace_book.specs.private.BookCalls.{IsBookCall}
+use Rattle.trace_book.proofs.BookCalls.{refused-call, memory-call, done-call}
+use Rattle.trace_book.proofs.book.Book.run_emission.Goals as goal
+
+pub invariant_of-self : goal.invariant_of-self
+invariant_of-self c = record {
+  legal = rw c.prepare_emission.ensures.config c.self.invariant.legal;
+  lives = c.prepare_emission.ensures.lives (past_of c.self.inside.history.entries) c.self.invariant.lives;
+}
+
+pub returns-in-Err : goal.returns-in-Err
+returns-in-Err c =
+    let book = c.self.inside in
+    let g = book.live.config in
+    let past = past_of book.history.entries in
+    let entry : Entry = record { ticket = c.args.ticket; by = c.args.by; command = c.args.emission.now } in
+    let pid : to_z w32 (of_z w32 c.parts-cpu.result.2) ≡ c.parts-cpu.result.2 = to_z-of_z w32 c.parts-cpu.result.2 (search rules) in
+    let refused : IsRefusal c.in-Err.refusal (limited_answer g.history_limit g past (request_of c.args.emission.now)) =
+    rw c.parts-cpu.ensures
+    (rw (pid, c.config.ensures, c.prepare_emission.ensures.config) at c.in-Err.ensures.refused past c.self.invariant.lives) in
+    rw (← c.self.view_is)
+    (refused-call (seen book) _ entry c.in-Err.refusal c.self.invariant.legal c.prepare_emission.ensures.config refl refused
+    (rw c.parts-cpu.ensures (λ takes. absurd takes)))
+
+pub invariant_of-self-in_default : goal.invariant_of-self-in_default
+invariant_of-self-in_default c =
+    let past = past_of c.self.inside.history.entries in record {
+      legal = rw (c.write_emission_ahead.ensures.entries, c.prepare_emission.ensures.config) c.self.invariant.legal;
+      lives = rw c.write_emission_ahead.ensures.entries (c.prepare_emission.ensures.lives past c.self.invariant.lives);
+    }
+
+pub returns-in_default : goal.returns-in_default
+returns-in_default c =
+    let book = c.self.inside in
+    let g = book.live.config in
+    let past = past_of book.history.entries in
+    let entry : Entry = record { ticket = c.args.ticket; by = c.args.by; command = c.args.emission.now } in
+    let live = c.prepare_emission.new.self in
+    let lives = c.prepare_emission.ensures.lives past c.self.invariant.lives in
+    let limit = ap (λ (k : Config). k.history_limit) c.config.ensures in
+    let pid : to_z w32 (of_z w32 c.parts-cpu.result.2) ≡ c.parts-cpu.result.2 = to_z-of_z w32 c.parts-cpu.result.2 (search rules) in
+    let prepared : IsPreparedEmission live.config past (request_of c.args.emission.now) live.state live.delivery =
+    rw c.parts-cpu.ensures (rw pid at c.in-Ok.ensures.prepared past c.self.invariant.lives) in
+    let given : answer_with_room g past (request_of c.args.emission.now) ≡ Ok Done = rw c.prepare_emission.ensures.config at prepared.0 in
+    let room : length book.history.entries < g.history_limit =
+    omega (arith, length-past_of book.history.entries, lives.count, c.in-Ok.ensures.room, limit) in
+    rw (← c.self.view_is)
+    (memory-call (seen book) _ entry Done c.self.invariant.legal c.prepare_emission.ensures.config c.write_emission_ahead.ensures.entries given room)
+
+pub deliver-requires-clause-room : goal.deliver-requires-clause-room
+deliver-requires-clause-room c =
+    let limit = ap (λ (k : Config). k.history_limit) c.config.ensures in
+    omega (arith, c.in-Ok.ensures.room, limit, c.self.invariant.lives.in_range.few_entries)
+
+pub invariant_of-self-2 : goal.invariant_of-self-2
+invariant_of-self-2 c =
+    let book = c.self.inside in
+    let g = book.live.config in
+    let past = past_of book.history.entries in
+    let request = request_of c.args.emission.now in
+    let entry : Entry = record { ticket = c.args.ticket; by = c.args.by; command = c.args.emission.now } in
+    let written : c.write_emission_ahead.new.self.ahead ≡ entry ∷ [] = search rules in
+    let items : c.append_written.new.self.entries ≡ book.history.entries ++ entry ∷ [] =
+    ap (λ (h : HistorySeen). h.entries) c.append_written.ensures ∙ rw (c.write_emission_ahead.ensures.entries, written) refl in
+    let live = c.prepare_emission.new.self in
+    let lives = c.prepare_emission.ensures.lives past c.self.invariant.lives in
+    let limit = ap (λ (k : Config). k.history_limit) c.config.ensures in
+    let pid : to_z w32 (of_z w32 c.parts-cpu.result.2) ≡ c.parts-cpu.result.2 = to_z-of_z w32 c.parts-cpu.result.2 (search rules) in
+    let prepared : IsPreparedEmission live.config past request live.state live.delivery =
+    rw c.parts-cpu.ensures (rw pid at c.in-Ok.ensures.prepared past c.self.invariant.lives) in
+    let given : answer_with_room g past request ≡ Ok Done = rw c.prepare_emission.ensures.config at prepared.0 in
+    let room : length book.history.entries < g.history_limit =
+    omega (arith, length-past_of book.history.entries, lives.count, c.in-Ok.ensures.room, limit) in
+    let Below : BookSeen → Type 0 = λ before. All (λ (e : Entry). e.ticket < c.args.ticket) before.entries in
+    let below : All (λ (e : Entry). e.ticket < c.args.ticket) book.history.entries = subst Below (sym c.self.view_is) c.requires in
+    let after : BookSeen = record { config = c.deliver.new.self.config; entries = c.append_written.new.self.entries } in
+    let call : IsBookCall (seen book) after entry (Ok Done) =
+    done-call (seen book) after entry Done c.self.invariant.legal (c.deliver.ensures.config ∙ c.prepare_emission.ensures.config) items
+    (c.ranges.ticket.fits, c.ranges.by.fits, rw c.parts-cpu.ensures (rw pid at c.in-Ok.ensures.fits)) below given room in
+    record {
+      legal = call.legal;
+      lives = rw (items, past_of-push) (c.deliver.ensures.done past request lives prepared);
+    }
+
+pub returns : goal.returns
+returns c =
+    let book = c.self.inside in
+    let g = book.live.config in
+    let past = past_of book.history.entries in
+    let request = request_of c.args.emission.now in
+    let entry : Entry = record { ticket = c.args.ticket; by = c.args.by; command = c.args.emission.now } in
+    let written : c.write_emission_ahead.new.self.ahead ≡ entry ∷ [] = search rules in
+    let items : c.append_written.new.self.entries ≡ book.history.entries ++ entry ∷ [] =
+    ap (λ (h : HistorySeen). h.entries) c.append_written.ensures ∙ rw (c.write_emission_ahead.ensures.entries, written) refl in
+    let live = c.prepare_emission.new.self in
+    let lives = c.prepare_emission.ensures.lives past c.self.invariant.lives in
+    let limit = ap (λ (k : Config). k.history_limit) c.config.ensures in
+    let pid : to_z w32 (of_z w32 c.parts-cpu.result.2) ≡ c.parts-cpu.result.2 = to_z-of_z w32 c.parts-cpu.result.2 (search rules) in
+    let prepared : IsPreparedEmission live.config past request live.state live.delivery =
+    rw c.parts-cpu.ensures (rw pid at c.in-Ok.ensures.prepared past c.self.invariant.lives) in
+    let given : answer_with_room g past request ≡ Ok Done = rw c.prepare_emission.ensures.config at prepared.0 in
+    let room : length book.history.entries < g.history_limit =
+    omega (arith, length-past_of book.history.entries, lives.count, c.in-Ok.ensures.room, limit) in
+    let Below : BookSeen → Type 0 = λ before. All (λ (e : Entry). e.ticket < c.args.ticket) before.entries in
+    let below : All (λ (e : Entry). e.ticket < c.args.ticket) book.history.entries = subst Below (sym c.self.view_is) c.requires in
+    rw (← c.self.view_is)
+    (done-call (seen book) _ entry Done c.self.invariant.legal (c.deliver.ensures.config ∙ c.prepare_emission.ensures.config) items
+    (c.ranges.ticket.fits, c.ranges.by.fits, rw c.parts-cpu.ensures (rw pid at c.in-Ok.ensures.fits)) below given room)
+
+pub append_written-requires : goal.append_written-requires
+append_written-requires c =
+    let book = c.self.inside in
+    let entry : Entry = record { ticket = c.args.ticket; by = c.args.by; command = c.args.emission.now } in
+    let written : c.write_emission_ahead.new.self.ahead ≡ entry ∷ [] = search rules in
+    let ahead = ap (λ (entries : List Entry). length entries) written in
+    let entries = ap (λ (entries : List Entry). length entries) c.write_emission_ahead.ensures.entries in
+    omega (arith, ahead, entries, length-past_of book.history.entries, c.self.invariant.lives.few)
