@@ -1,12 +1,14 @@
 -- An emission's hist triggers in each instance: what a loop keeps that passes an instance in which the event has none.
 use Rattle.std.proofs.Common.{◌≡◌, ◌≢◌, ℕ, ◌+◌, ◌<◌, ◌≤◌, ◌==◌, Bool, false, not, List, [], ◌∷◌, length, get_or, refl, sym, ap, ◌∙◌, arith, below_more}
+use Rattle.std.specs.Prelude.{Result, Ok, Err, OnErr}
 use Rattle.std.proofs.lemmas.Bool.{false≢true, ne_eqb}
 use Rattle.std.proofs.lemmas.List.{get_or_default}
 use Rattle.trace_format.specs.Operands.{Emission}
 use Rattle.trace_instance.specs.Instances.{IsAlike, passed_in}
 use Rattle.trace_instance.specs.KeptHists.{passed}
-use Rattle.trace_instance.specs.Deliveries.{CanCountRow}
+use Rattle.trace_instance.specs.Deliveries.{CanCountRow, NeedsRowMemory}
 use Rattle.trace_instance.specs.declared.hists.AttachedHist.{AttachedHist}
+use Rattle.trace_state.specs.States.{NeedsHitMemory}
 use Rattle.trace_state.specs.declared.state.Named.{Named}
 
 pub no-hists : (hists : List AttachedHist) (has : Bool) → has ≡ not (length hists == 0) → has ≡ false → hists ≡ []
@@ -52,3 +54,10 @@ pub known-here : (e : Emission) (event : ℕ) (old now : List Named) (known : Li
 known-here e event old now known i read inside is left found n =
     let same : get_or old i n ≡ read = sym (left i n (omega arith)) ∙ get_or_default now i n read inside ∙ sym is in
     found ∙ sym (ap (λ (m : Named). passed_in e event m.instance) same)
+
+-- the instance for whose row memory is refused needed it before the first of them
+pub needed-here : {A E : Type 0} (e : Emission) (event : ℕ) (old now : List Named) (i : ℕ) (read : Named) (result : Result A E) → i < length old
+    → read ≡ get_or now i read → get_or now i read ≡ get_or old i read → NeedsRowMemory e event read.instance
+    → OnErr result (NeedsHitMemory e event old)
+needed-here e event old now i read (Ok value) inside is left needs = tt
+needed-here e event old now i read (Err error) inside is left needs = (i, read, inside, sym (is ∙ left), needs)

@@ -1,5 +1,5 @@
 -- When the state agrees with the requests that were done, and what a change does to it.
-use Rattle.std.specs.Prelude.{◌≡◌, ℕ, ◌+◌, ◌<◌, ◌≤◌, Bool, true, false, List, [], ◌∷◌, ◌++◌, length, map, take, drop, slice_index_or, All, IsOk, Option, Some, None, Result, Ok, Err, ⊤}
+use Rattle.std.specs.Prelude.{◌≡◌, ℕ, ◌+◌, ◌<◌, ◌≤◌, Bool, true, false, List, [], ◌∷◌, ◌++◌, length, map, take, drop, slice_index_or, All, Any, IsOk, Option, Some, None, Result, Ok, Err, ⊤}
 use Rattle.std.specs.List.{AllByRecursion, IsDistinct}
 use Rattle.std.specs.Str.{bytes_eq}
 use Rattle.trace_format.specs.Catalogs.{id_for, IsEvent, AreEvents}
@@ -27,7 +27,7 @@ use Rattle.trace_instance.specs.declared.change.Reach.{Reach}
 use Rattle.trace_state.specs.declared.state.Named.{Named}
 use Rattle.trace_state.specs.declared.state.Prepared.{Prepared}
 use Rattle.trace_state.specs.declared.state.State.{State}
-use Rattle.trace_instance.specs.Deliveries.{CanCountRow, CanFire, IsDelivered, IsWritable, most_requests, row_of}
+use Rattle.trace_instance.specs.Deliveries.{CanCountRow, CanFire, IsDelivered, NeedsRowMemory, IsWritable, most_requests, row_of}
 
 -- the names of the instances, of which the top one has none
 abbrev pub names_of : List Named → List (Option (List ℕ))
@@ -61,6 +61,10 @@ pub record IsUsable (g : Config) (state : State) : Type 0 where
   pub top : (d : Named) → (slice_index_or state.instances.items 0 d).name ≡ None
   pub distinct_names : IsDistinct is_same (names_of state.instances.items)
   pub each : All (λ (n : Named). IsUsableInstance g (length state.catalog) n.instance) state.instances.items
+
+-- an emission needs memory to be counted: in some instance the table of a hist trigger needs a new entry for it
+abbrev pub NeedsHitMemory : Emission → ℕ → List Named → Type 0
+NeedsHitMemory emission event instances = Any (λ (n : Named). NeedsRowMemory emission event n.instance) instances
 
 -- ---- what a change does
 

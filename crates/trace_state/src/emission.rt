@@ -1,7 +1,7 @@
 //! Emissions: a row is built once, each filter is evaluated once, and each table that counts the row has its memory reserved, before any instance is
 //! written to. All of it is kept in one `Delivery`, in the memory of the emissions before, so that most take no allocation.
 
-ghost use Rattle.std.specs.Prelude.{◌≡◌, ◌<◌, ◌≤◌, ◌^◌, true, List, [], length, All, slice_index_or, IfErr, OnOk};
+ghost use Rattle.std.specs.Prelude.{◌≡◌, ◌<◌, ◌≤◌, ◌^◌, true, List, [], length, All, slice_index_or, IfErr, OnOk, OnErr};
 ghost use Rattle.trace_command.specs.Configs.{IsInRange};
 ghost use Rattle.trace_command.specs.Refusals.{IsRefusal};
 ghost use Rattle.trace_command.specs.Requests as requests;
@@ -13,7 +13,7 @@ ghost use Rattle.trace_record.specs.Record.{record_size};
 ghost use Rattle.trace_state.specs.private.Emissions as emissions;
 ghost use Rattle.trace_instance.specs.Instances.{IsAlike};
 ghost use Rattle.trace_instance.specs.KeptHists.{KeysAgree};
-ghost use Rattle.trace_state.specs.States.{StandsFor, IsPreparedEmission, IsStateAlike, IsUsable, EachCame, ArePassed};
+ghost use Rattle.trace_state.specs.States.{StandsFor, IsPreparedEmission, IsStateAlike, IsUsable, EachCame, ArePassed, NeedsHitMemory};
 ghost use Rattle.trace_instance.specs.Deliveries.{CanCountRow, most_requests};
 
 use crate::resolve::find_likely;
@@ -101,6 +101,9 @@ impl State {
             self.old.instances.items) }
         ensures counted { OnOk result (All (λ n. CanCountRow (record { values = row.now.values; cpu = cpu; pid = pid }) index n.instance)
             self.new.instances.items) }
+        // Memory is taken, and may be refused, only for a row that needs a new entry in some table.
+        ensures memory { OnErr result (NeedsHitMemory (record { values = row.now.values; cpu = cpu; pid = pid }) index
+            self.old.instances.items) }
     {
         reserve_each(&mut self.instances, index, row, cpu, pid, passed)
     }
@@ -178,6 +181,7 @@ fn reserve_each(
     ensures alike { EachCame IsAlike instances.old instances.new }
     ensures passed { OnOk result (ArePassed (record { values = row.now.values; cpu = cpu; pid = pid }) event passed.new instances.old) }
     ensures counted { OnOk result (All (λ n. CanCountRow (record { values = row.now.values; cpu = cpu; pid = pid }) event n.instance) instances.new) }
+    ensures memory { OnErr result (NeedsHitMemory (record { values = row.now.values; cpu = cpu; pid = pid }) event instances.old) }
 {
     for i in 0..instances.len() {
         if instances[i].instance.has_hists(event) {

@@ -1,11 +1,12 @@
 use Rattle.std.proofs.Common.{◌≡◌, ◌≢◌, ◌<◌, false, [], ◌∷◌, get_or, length, length-set, get_or-set_other, refl, ◌∙◌, arith, rules, to_z, of_z, w32}
+use Rattle.std.proofs.lemmas.Int.{to_z-of_z}
 use Rattle.std.proofs.lemmas.List.{get_or_default}
 use Rattle.trace_format.specs.Operands.{Emission}
 use Rattle.trace_instance.specs.Instances.{IsAlike, passed_in}
 use Rattle.trace_instance.specs.Deliveries.{CanCountRow}
 use Rattle.trace_state.specs.declared.state.Named.{Named}
 use Rattle.trace_state.proofs.EachInstance.{came_more, held_more, names_more, reached_more}
-use Rattle.trace_state.proofs.ReservedEach.{alike-past, counted-past, known-here, no-hists, none-known}
+use Rattle.trace_state.proofs.ReservedEach.{alike-past, counted-past, known-here, needed-here, no-hists, none-known}
 use Rattle.trace_state.proofs.emission.reserve_each.Goals as goal
 use Rattle.trace_state.proofs.emission.reserve_each.Goals.{then-has_hists+in_ok-passed, else-has_hists}
 
@@ -27,6 +28,21 @@ returns-clause-alike c =
       names = λ k d inside. was.names k d;
       came = λ k d inside. was.alike k d (omega (arith, inside, was.many));
     }
+
+pub returns-in_err-passed-clause-memory : goal.returns-in_err-passed-clause-memory
+returns-in_err-passed-clause-memory c =
+    let was = c.loop-i.invariant in
+    let old = c.args.instances.now in
+    let now = c.loop-i.instances in
+    let i = c.loop-i.i in
+    let e : Emission = record { values = c.args.row.now.values; cpu = c.args.cpu; pid = c.args.pid } in
+    let pid : to_z w32 (of_z w32 c.args.pid) ≡ c.args.pid = to_z-of_z w32 c.args.pid (search rules) in
+    let inside : i < length old = omega (arith, was.many) in
+    let within : i < length now = omega (arith, was.many) in
+    let at = c.index-instances-i-then-has_hists.result in
+    let here = get_or now i at in
+    needed-here e c.args.event old now i here c.from_residual.result inside (get_or_default now i at here within) (was.left i here (omega arith))
+    (rw pid at c.in_err-passed.ensures.memory)
 
 pub loop-i-preserved : goal.loop-i-preserved
 loop-i-preserved c =

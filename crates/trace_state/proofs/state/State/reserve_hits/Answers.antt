@@ -30,3 +30,8 @@ returns-clause-counted c =
     let many : length new ≡ len = search rules in
     let pid : to_z w32 (of_z w32 c.args.pid) ≡ c.args.pid = to_z-of_z w32 c.args.pid (search rules) in
     rw (written-over len new _ many) (rw pid at c.reserve_each.ensures.counted)
+
+pub returns-clause-memory : goal.returns-clause-memory
+returns-clause-memory c =
+    let pid : to_z w32 (of_z w32 c.args.pid) ≡ c.args.pid = to_z-of_z w32 c.args.pid (search rules) in
+    rw (pid, c.deref_mut.ensures.value) at c.reserve_each.ensures.memory
