@@ -1,5 +1,5 @@
 -- What a writer has heard of the items of a session.
-use Rattle.std.proofs.Common.{◌≡◌, ◌≢◌, ℕ, zero, suc, ◌+◌, ◌-◌, ◌≤◌, ◌<◌, Bool, true, false, List, [], ◌∷◌, ◌++◌, length, take, drop, map, Option, Some, None, Result, Ok, Err, IsSome, slice_get, refl, ap, sym, subst, ◌∙◌, append_assoc, arith}
+use Rattle.std.proofs.Common.{◌≡◌, ℕ, zero, suc, ◌+◌, ◌-◌, ◌≤◌, ◌<◌, Bool, true, false, List, [], ◌∷◌, ◌++◌, length, take, drop, map, Option, Some, None, Result, Ok, Err, IsSome, slice_get, refl, ap, sym, subst, ◌∙◌, append_assoc, arith}
 use Rattle.std.proofs.lemmas.List.{append-nil, take_at}
 use Rattle.std.proofs.lemmas.Option.{slice_get_past}
 use Rattle.std.specs.List.{concat, list_any}
@@ -22,13 +22,12 @@ use Rattle.trace_script.specs.declared.outcome.Outcome.TheVariants as outcomes
 use Rattle.trace_parts.specs.declared.outcome_at.OutcomeAt.{OutcomeAt}
 use Rattle.trace_session.specs.Devices.{Passes}
 use Rattle.trace_session.specs.Fronts.{HasGiven}
-use Rattle.trace_session.specs.Heard.{Heard, Hears, heard_of, line_at, heard_lines, numbers_in, numbers_told, HoldsTexts, IsHeard, HearsAll}
+use Rattle.trace_session.specs.Heard.{Heard, Hears, heard_of, line_at, heard_lines, numbers_in, numbers_told, IsWrittenFirst, HoldsTexts, IsHeard, HearsAll}
 use Rattle.trace_session.specs.private.HeardItems.{AreInOrder, heard_each, HearsItem}
 use Rattle.trace_session.specs.Parts.{Given, MayGive}
 use Rattle.trace_session.specs.PartTexts.{AreOutcomesOf}
 use Rattle.trace_session.specs.Sessions.{Progress, turn_of, status_of}
 use Rattle.trace_session.specs.declared.status.Status.{Status}
-use Rattle.trace_session.specs.declared.status.Status.TheVariants as statuses
 use Rattle.trace_session.proofs.Hearing.{line_is}
 use Rattle.trace_session.proofs.PartLines.{has_its_lines}
 
@@ -175,34 +174,34 @@ item_heard g number all text (reads.Fault at line) rest before after given held 
 -- ---- the items of a session
 
 -- what is held after an item is a front of all texts, and all of them where nothing waits
-pub holds : (old held : Option (List ℕ)) (waits texts : List ℕ) (status : Status) → Passes old [] held waits texts → (status ≢ statuses.Done → waits ≡ [])
-    → HoldsTexts old held texts status
-holds old held waits texts status (front, is, appends) none = (
+pub holds : (wants : Bool) (old held : Option (List ℕ)) (waits texts : List ℕ) (status : Status) → Passes old [] held waits texts
+    → (IsWrittenFirst wants status → waits ≡ []) → HoldsTexts wants old held texts status
+holds wants old held waits texts status (front, is, appends) none = (
   (front, waits, is, appends),
   λ not.
       let all : texts ≡ front = is ∙ ap (λ (more : List ℕ). front ++ more) (none not) ∙ append-nil front in
       subst (λ (text : List ℕ). Appends old held text) (sym all) appends,
 )
 
-module _ (script : List ℕ) (old : Option (List ℕ)) where
+module _ (wants : Bool) (script : List ℕ) (old : Option (List ℕ)) where
   abbrev texts_in : List Given → List ℕ
   texts_in given = concat (map (λ (one : Given). one.text) given)
 
-  none_heard : (texts : List ℕ) (items : List Item) → IsHeard script old texts items [] []
+  none_heard : (texts : List ℕ) (items : List Item) → IsHeard wants script old texts items [] []
   none_heard texts [] = refl
   none_heard texts (item ∷ items) = refl
 
   -- one item more
   heard_more : (g : Config) (items rest : List Item) (given : List Given) (before now : Progress) (item : Item) (one : Given) (texts : List ℕ) (heard : List Heard)
-      (held : Option (List ℕ)) → HasGiven g before items given now → IsHeard script old texts items given heard
-      → HoldsTexts old held ((texts ++ texts_in given) ++ one.text) (status_of one.outcomes)
-      → IsHeard script old texts (items ++ item ∷ rest) (given ++ one ∷ []) (heard ++ heard_lines 1 (lines_of script) held (numbers_told item) one.outcomes)
+      (held : Option (List ℕ)) → HasGiven g before items given now → IsHeard wants script old texts items given heard
+      → HoldsTexts wants old held ((texts ++ texts_in given) ++ one.text) (status_of one.outcomes)
+      → IsHeard wants script old texts (items ++ item ∷ rest) (given ++ one ∷ []) (heard ++ heard_lines 1 (lines_of script) held (numbers_told item) one.outcomes)
   heard_more g [] rest [] before now item one texts heard held has is holds =
       let more : List Heard = heard_lines 1 (lines_of script) held (numbers_told item) one.outcomes in (
         held,
         [],
         ap (λ (h : List Heard). h ++ more) is ∙ sym (append-nil more),
-        subst (λ (t : List ℕ). HoldsTexts old held (t ++ one.text) (status_of one.outcomes)) (append-nil texts) holds,
+        subst (λ (t : List ℕ). HoldsTexts wants old held (t ++ one.text) (status_of one.outcomes)) (append-nil texts) holds,
         none_heard (texts ++ one.text) rest,
       )
   heard_more g [] rest (other ∷ given) before now item one texts heard held has is holds = absurd has
@@ -215,12 +214,12 @@ module _ (script : List ℕ) (old : Option (List ℕ)) where
         ap (λ (h : List Heard). h ++ more) is ∙ append_assoc own later more,
         holds_first,
         heard_more g items rest given next now item one (texts ++ other.text) later held has is_later
-            (subst (λ (t : List ℕ). HoldsTexts old held (t ++ one.text) (status_of one.outcomes)) (sym (append_assoc texts other.text (texts_in given))) holds),
+            (subst (λ (t : List ℕ). HoldsTexts wants old held (t ++ one.text) (status_of one.outcomes)) (sym (append_assoc texts other.text (texts_in given))) holds),
       )
 
   -- later items gave nothing
   heard_front : (g : Config) (items rest : List Item) (given : List Given) (before now : Progress) (texts : List ℕ) (heard : List Heard) → HasGiven g before items given now
-      → IsHeard script old texts items given heard → IsHeard script old texts (items ++ rest) given heard
+      → IsHeard wants script old texts items given heard → IsHeard wants script old texts (items ++ rest) given heard
   heard_front g [] [] [] before now texts heard has is = is
   heard_front g [] (item ∷ rest) [] before now texts heard has is = is
   heard_front g [] rest (one ∷ given) before now texts heard has is = absurd has
@@ -228,15 +227,15 @@ module _ (script : List ℕ) (old : Option (List ℕ)) where
   heard_front g (first ∷ items) rest (one ∷ given) before now texts heard (next, may, on, has) (held, later, same, holds_first, is_later) =
       (held, later, same, holds_first, heard_front g items rest given next now (texts ++ one.text) later has is_later)
 
-  pub hears_none : (items : List Item) (heard : Option (List Heard)) → HearsAll script old items [] heard heard
+  pub hears_none : (items : List Item) (heard : Option (List Heard)) → HearsAll wants script old items [] heard heard
   hears_none items None = tt
   hears_none items (Some heard) = ([], sym (append-nil heard), none_heard [] items)
 
   pub hears_more : (g : Config) (items rest : List Item) (given : List Given) (before now : Progress) (item : Item) (one : Given) (held : Option (List ℕ))
-      (first mid new : Option (List Heard)) → HasGiven g before items given now → HearsAll script old items given first mid
+      (first mid new : Option (List Heard)) → HasGiven g before items given now → HearsAll wants script old items given first mid
       → Hears mid new (heard_lines 1 (lines_of script) held (numbers_told item) one.outcomes)
-      → (IsSome mid → HoldsTexts old held (texts_in given ++ one.text) (status_of one.outcomes))
-      → HearsAll script old (items ++ item ∷ rest) (given ++ one ∷ []) first new
+      → (IsSome mid → HoldsTexts wants old held (texts_in given ++ one.text) (status_of one.outcomes))
+      → HearsAll wants script old (items ++ item ∷ rest) (given ++ one ∷ []) first new
   hears_more g items rest given before now item one held None mid new has so_far next holds = tt
   hears_more g items rest given before now item one held (Some first) None new has so_far next holds = absurd so_far
   hears_more g items rest given before now item one held (Some first) (Some mid) None has so_far next holds = absurd next
@@ -248,7 +247,7 @@ module _ (script : List ℕ) (old : Option (List ℕ)) where
       )
 
   pub hears_front : (g : Config) (items rest : List Item) (given : List Given) (before now : Progress) (first mid : Option (List Heard)) → HasGiven g before items given now
-      → HearsAll script old items given first mid → HearsAll script old (items ++ rest) given first mid
+      → HearsAll wants script old items given first mid → HearsAll wants script old (items ++ rest) given first mid
   hears_front g items rest given before now None mid has heard = tt
   hears_front g items rest given before now (Some first) None has heard = absurd heard
   hears_front g items rest given before now (Some first) (Some mid) has (more, is, heard) =

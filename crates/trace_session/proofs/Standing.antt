@@ -14,7 +14,7 @@ use Rattle.trace_items.specs.ScriptLines.{lines_of, lines_left}
 use Rattle.trace_items.proofs.PartThreads.{parts_have_few_threads}
 use Rattle.trace_script.specs.declared.outcome.Outcome.{Outcome}
 use Rattle.trace_session.specs.Devices.{AppendsFront, Passes}
-use Rattle.trace_session.specs.Heard.{Heard, Hears, heard_lines, numbers_told, HoldsTexts, HearsAll}
+use Rattle.trace_session.specs.Heard.{Heard, Hears, heard_lines, numbers_told, IsWrittenFirst, HoldsTexts, HearsAll}
 use Rattle.trace_session.specs.Gated.{LetsPass, Stops, LetsGivenPass}
 use Rattle.trace_session.specs.Fronts.{HasGiven, IsStopped, AppendsBegun, AppendsBegunFront, AppendsStopped, AppendsSession}
 use Rattle.trace_session.specs.private.StepFronts.{PassesItem, AppendsItem, PassesSession, PassesBegun, PassesStopped}
@@ -153,16 +153,16 @@ IsWhole-status_of outcomes = whole_cases (list_any is_fault outcomes) (list_any 
 -- ---- a session that was stopped
 
 -- where the item after what was done is a part
-stopped_at : (g : Config) (may : ℕ → ℕ → Point → Bool → Type 0) (script : List ℕ) (done rest : List Item) (given : List Given) (after : Progress) (item : Item)
+stopped_at : (g : Config) (may : ℕ → ℕ → Point → Bool → Type 0) (wants : Bool) (script : List ℕ) (done rest : List Item) (given : List Given) (after : Progress) (item : Item)
     (before : Option (List ℕ)) (first hears : Option (List Heard)) → items_of script ≡ done ++ item ∷ rest
-    → HasGiven g beginning done given after → LetsGivenPass may done given → HearsAll script before done given first hears → Stops may item
-    → (is : IsStopped g may script (texts_in given)) × HearsAll script before is.done is.given first hears
-stopped_at g may script done rest given after (Single number line) before first hears items gives passed heard is = absurd is
-stopped_at g may script done rest given after (Threads threads) before first hears items gives passed heard is = (
+    → HasGiven g beginning done given after → LetsGivenPass may done given → HearsAll wants script before done given first hears → Stops may item
+    → (is : IsStopped g may script (texts_in given)) × HearsAll wants script before is.done is.given first hears
+stopped_at g may wants script done rest given after (Single number line) before first hears items gives passed heard is = absurd is
+stopped_at g may wants script done rest given after (Threads threads) before first hears items gives passed heard is = (
   record { done = done; part = threads; rest = rest; items = items; given = given; after = after; gives = gives; told = refl; passed = passed; stopped = is },
   heard,
 )
-stopped_at g may script done rest given after (Faulty at) before first hears items gives passed heard is = absurd is
+stopped_at g may wants script done rest given after (Faulty at) before first hears items gives passed heard is = absurd is
 
 -- what was done is what the first items may give
 stopped_begun : (g : Config) (may : ℕ → ℕ → Point → Bool → Type 0) (script : List ℕ) (texts : List (List ℕ)) → IsStopped g may script texts
@@ -178,7 +178,7 @@ stopped_begun g may script texts s =
 -- ---- where a session is
 
 -- these items gave this, none of them a fault, and it was written but for what waits
-pub record Stands (g : Config) (may : ℕ → ℕ → Point → Bool → Type 0) (script : List ℕ) (before now : Option (List ℕ)) (waiting : List ℕ) (first hears : Option (List Heard)) (progress : Progress) (left : Option (List ℕ)) (number : ℕ) (status : Status) : Type 0 where
+pub record Stands (g : Config) (may : ℕ → ℕ → Point → Bool → Type 0) (wants : Bool) (script : List ℕ) (before now : Option (List ℕ)) (waiting : List ℕ) (first hears : Option (List Heard)) (progress : Progress) (left : Option (List ℕ)) (number : ℕ) (status : Status) : Type 0 where
   pub done : List Item
   pub given : List Given
   pub items : items_of script ≡ done ++ items_from number 0 (lines_left left)
@@ -189,22 +189,22 @@ pub record Stands (g : Config) (may : ℕ → ℕ → Point → Bool → Type 0)
   pub passed : LetsGivenPass may done given
   pub some : 1 ≤ number
   pub is_left : lines_left left ≡ drop (number - 1) (lines_of script)
-  pub heard : HearsAll script before done given first hears
+  pub heard : HearsAll wants script before done given first hears
 
-pub begins : (g : Config) (may : ℕ → ℕ → Point → Bool → Type 0) (script : List ℕ) (before : Option (List ℕ)) (first : Option (List Heard)) (progress : Progress) → progress ≡ beginning
-    → Stands g may script before before [] first first progress (Some script) 1 statuses.Done
+pub begins : (g : Config) (may : ℕ → ℕ → Point → Bool → Type 0) (wants : Bool) (script : List ℕ) (before : Option (List ℕ)) (first : Option (List Heard)) (progress : Progress) → progress ≡ beginning
+    → Stands g may wants script before before [] first first progress (Some script) 1 statuses.Done
 unfolding items_of
-begins g may script before first progress e =
-    record { done = []; given = []; items = refl; gives = e; faultless = refl; told = refl; written = ([], refl, Appends_nothing before); passed = tt; some = omega arith; is_left = refl; heard = hears_none script before [] first }
+begins g may wants script before first progress e =
+    record { done = []; given = []; items = refl; gives = e; faultless = refl; told = refl; written = ([], refl, Appends_nothing before); passed = tt; some = omega arith; is_left = refl; heard = hears_none wants script before [] first }
 
-module _ (g : Config) (may : ℕ → ℕ → Point → Bool → Type 0) (script : List ℕ) (before now : Option (List ℕ)) (waiting : List ℕ) (first hears : Option (List Heard))
-    (progress : Progress) (text : List ℕ) (number : ℕ) (status : Status) (s : Stands g may script before now waiting first hears progress (Some text) number status) where
+module _ (g : Config) (may : ℕ → ℕ → Point → Bool → Type 0) (wants : Bool) (script : List ℕ) (before now : Option (List ℕ)) (waiting : List ℕ) (first hears : Option (List Heard))
+    (progress : Progress) (text : List ℕ) (number : ℕ) (status : Status) (s : Stands g may wants script before now waiting first hears progress (Some text) number status) where
   -- what was heard so far
-  begun_heard : (hears_new : Option (List Heard)) → hears_new ≡ hears → HearsAll script before (items_of script) s.given first hears_new
+  begun_heard : (hears_new : Option (List Heard)) → hears_new ≡ hears → HearsAll wants script before (items_of script) s.given first hears_new
   begun_heard hears_new unheard =
-      subst (λ (h : Option (List Heard)). HearsAll script before (items_of script) s.given first h) (sym unheard)
-      (subst (λ (xs : List Item). HearsAll script before xs s.given first hears) (sym s.items)
-      (hears_front script before g s.done (items_from number 0 (lines_of text)) s.given beginning progress first hears s.gives s.heard))
+      subst (λ (h : Option (List Heard)). HearsAll wants script before (items_of script) s.given first h) (sym unheard)
+      (subst (λ (xs : List Item). HearsAll wants script before xs s.given first hears) (sym s.items)
+      (hears_front wants script before g s.done (items_from number 0 (lines_of text)) s.given beginning progress first hears s.gives s.heard))
 
   module _ (item : Item) (after : Option (List ℕ)) (next_number : ℕ) (e : items_from number 0 (lines_of text) ≡ item ∷ items_from next_number 0 (lines_left after)) where
     abbrev rest : List Item
@@ -238,22 +238,22 @@ module _ (g : Config) (may : ℕ → ℕ → Point → Bool → Type 0) (script 
           (Passes_append before now new [] waiting waits (concat (texts_in s.given)) one.text s.written more.3)
 
       -- what the writer holds as it hears of the item
-      holds_here : (IsSome hears → item_is ≢ statuses.Done → waits ≡ []) → IsSome hears → HoldsTexts before new (concat (texts_in s.given) ++ one.text) (status_of one.outcomes)
+      holds_here : (IsSome hears → IsWrittenFirst wants item_is → waits ≡ []) → IsSome hears → HoldsTexts wants before new (concat (texts_in s.given) ++ one.text) (status_of one.outcomes)
       holds_here flushed tells =
-          holds before new waits (concat (texts_in s.given) ++ one.text) (status_of one.outcomes)
+          holds wants before new waits (concat (texts_in s.given) ++ one.text) (status_of one.outcomes)
           (Passes_append before now new [] waiting waits (concat (texts_in s.given)) one.text s.written more.3)
-          (λ not. flushed tells (λ is. not (sym more.2 ∙ is)))
+          (λ first. flushed tells (subst (IsWrittenFirst wants) (sym more.2) first))
 
       hears_here : (hears_new : Option (List Heard)) (others : List Item) → Hears hears hears_new (heard_lines 1 (lines_of script) new (numbers_told item) one.outcomes)
-          → (IsSome hears → item_is ≢ statuses.Done → waits ≡ []) → HearsAll script before (s.done ++ item ∷ others) (s.given ++ one ∷ []) first hears_new
+          → (IsSome hears → IsWrittenFirst wants item_is → waits ≡ []) → HearsAll wants script before (s.done ++ item ∷ others) (s.given ++ one ∷ []) first hears_new
       hears_here hears_new others heard flushed =
-          hears_more script before g s.done others s.given beginning progress item one new first hears hears_new s.gives s.heard heard (holds_here flushed)
+          hears_more wants script before g s.done others s.given beginning progress item one new first hears hears_new s.gives s.heard heard (holds_here flushed)
 
       -- an item that is no fault
       pub keeps : (later : Status) (hears_new : Option (List Heard)) → LetsPass may item
-          → Hears hears hears_new (heard_lines 1 (lines_of script) new (numbers_told item) one.outcomes) → (IsSome hears → item_is ≢ statuses.Done → waits ≡ [])
+          → Hears hears hears_new (heard_lines 1 (lines_of script) new (numbers_told item) one.outcomes) → (IsSome hears → IsWrittenFirst wants item_is → waits ≡ [])
           → 1 ≤ next_number → lines_left after ≡ drop (next_number - 1) (lines_of script) → item_is ≢ statuses.Fault → (item_is ≡ statuses.Refused → later ≡ statuses.Refused) → (item_is ≢ statuses.Refused → later ≡ status)
-          → Stands g may script before new waits first hears_new next after next_number later
+          → Stands g may wants script before new waits first hears_new next after next_number later
       keeps later hears_new lets heard flushed positive left no_fault refused other =
           let goes_on : ends one ≡ false = no_fault_is (list_any is_fault one.outcomes) (list_any is_refusal one.outcomes) item_is more.2 no_fault in
           let outcomes : outcomes_given (s.given ++ one ∷ []) ≡ outcomes_given s.given ++ one.outcomes = outcomes_push s.given one in
@@ -279,8 +279,8 @@ module _ (g : Config) (may : ℕ → ℕ → Point → Bool → Type 0) (script 
 
       -- an item that is a fault
       pub at_fault : (hears_new : Option (List Heard)) → LetsPass may item
-          → Hears hears hears_new (heard_lines 1 (lines_of script) new (numbers_told item) one.outcomes) → (IsSome hears → item_is ≢ statuses.Done → waits ≡ [])
-          → item_is ≡ statuses.Fault → PassesSession g may script statuses.Fault before new waits first hears_new
+          → Hears hears hears_new (heard_lines 1 (lines_of script) new (numbers_told item) one.outcomes) → (IsSome hears → IsWrittenFirst wants item_is → waits ≡ [])
+          → item_is ≡ statuses.Fault → PassesSession g may wants script statuses.Fault before new waits first hears_new
       at_fault hears_new lets heard flushed fault =
           let ended : ends one ≡ true = fault_is (list_any is_fault one.outcomes) (list_any is_refusal one.outcomes) item_is more.2 fault in
           let all : MayGiveAll g beginning (items_of script) (s.given ++ one ∷ []) =
@@ -297,12 +297,12 @@ module _ (g : Config) (may : ℕ → ℕ → Point → Bool → Type 0) (script 
             sym status_is,
             passes,
             all_passed one lets,
-            subst (λ (xs : List Item). HearsAll script before xs (s.given ++ one ∷ []) first hears_new) (sym all_items) (hears_here hears_new rest heard flushed),
+            subst (λ (xs : List Item). HearsAll wants script before xs (s.given ++ one ∷ []) first hears_new) (sym all_items) (hears_here hears_new rest heard flushed),
           )
 
     -- a write failed
     pub at_device : (new : Option (List ℕ)) (next : Progress) (hears_new : Option (List Heard)) → hears_new ≡ hears → LetsPass may item
-        → AppendsItem g item progress next now waiting new → AppendsBegunFront g may script before new first hears_new
+        → AppendsItem g item progress next now waiting new → AppendsBegunFront g may wants script before new first hears_new
     at_device new next hears_new unheard lets (one, can, cut) =
         let given : List Given = s.given ++ one ∷ [] in
         let taken : take (length (s.done ++ item ∷ [])) (items_of script) ≡ s.done ++ item ∷ [] =
@@ -316,19 +316,19 @@ module _ (g : Config) (may : ℕ → ℕ → Point → Bool → Type 0) (script 
               (Passes_front before now new [] waiting (concat (texts_in s.given)) one.text s.written cut),
           all_passed one lets,
           length s.given,
-          subst (λ (xs : List Given). HearsAll script before (items_of script) xs first hears_new) (sym (first_given s.given (one ∷ []))) (begun_heard hears_new unheard),
+          subst (λ (xs : List Given). HearsAll wants script before (items_of script) xs first hears_new) (sym (first_given s.given (one ∷ []))) (begun_heard hears_new unheard),
         )
 
     -- a part was stopped
     pub at_part : (new : Option (List ℕ)) (waits : List ℕ) (hears_new : Option (List Heard)) → hears_new ≡ hears → Stops may item → Passes now waiting new waits []
-        → PassesStopped g may script before new waits first hears_new
+        → PassesStopped g may wants script before new waits first hears_new
     at_part new waits hears_new unheard is more =
-        let stopped = stopped_at g may script s.done rest s.given progress item before first hears all_items s.gives s.passed s.heard is in (
+        let stopped = stopped_at g may wants script s.done rest s.given progress item before first hears all_items s.gives s.passed s.heard is in (
           texts_in s.given,
           stopped.0,
           subst (λ (t : List ℕ). Passes before [] new waits t) (append-nil (concat (texts_in s.given)))
               (Passes_append before now new [] waiting waits (concat (texts_in s.given)) [] s.written more),
-          subst (λ (h : Option (List Heard)). HearsAll script before stopped.0.done stopped.0.given first h) (sym unheard) stopped.1,
+          subst (λ (h : Option (List Heard)). HearsAll wants script before stopped.0.done stopped.0.given first h) (sym unheard) stopped.1,
         )
 
   -- the first items, as many as were done
@@ -345,7 +345,7 @@ module _ (g : Config) (may : ℕ → ℕ → Point → Bool → Type 0) (script 
 
   -- no more of the script was done
   pub at_stop : (new : Option (List ℕ)) (waits : List ℕ) (hears_new : Option (List Heard)) → hears_new ≡ hears → Passes now waiting new waits []
-      → PassesBegun g may script before new waits first hears_new
+      → PassesBegun g may wants script before new waits first hears_new
   unfolding begun
   at_stop new waits hears_new unheard more = (
     texts_in s.given,
@@ -356,15 +356,15 @@ module _ (g : Config) (may : ℕ → ℕ → Point → Bool → Type 0) (script 
     begun_heard hears_new unheard,
   )
 
-  pub at_stop_here : PassesBegun g may script before now waiting first hears
+  pub at_stop_here : PassesBegun g may wants script before now waiting first hears
   unfolding begun
   at_stop_here = (texts_in s.given, begun, s.written, begun_passed, begun_heard hears refl)
 
 -- no item is left
-pub at_end : (g : Config) (may : ℕ → ℕ → Point → Bool → Type 0) (script : List ℕ) (before now : Option (List ℕ)) (waiting : List ℕ) (first hears : Option (List Heard))
+pub at_end : (g : Config) (may : ℕ → ℕ → Point → Bool → Type 0) (wants : Bool) (script : List ℕ) (before now : Option (List ℕ)) (waiting : List ℕ) (first hears : Option (List Heard))
     (progress : Progress) (number : ℕ) (status : Status)
-    → Stands g may script before now waiting first hears progress None number status → PassesSession g may script status before now waiting first hears
-at_end g may script before now waiting first hears progress number status s =
+    → Stands g may wants script before now waiting first hears progress None number status → PassesSession g may wants script status before now waiting first hears
+at_end g may wants script before now waiting first hears progress number status s =
     let items : items_of script ≡ s.done = s.items ∙ append-nil s.done in
     let all : MayGiveAll g beginning (items_of script) s.given =
     subst (λ (xs : List Item). MayGiveAll g beginning xs s.given) (sym items) (given_front g s.done s.given beginning progress s.gives) in (
@@ -373,47 +373,47 @@ at_end g may script before now waiting first hears progress number status s =
       s.told,
       s.written,
       subst (λ (xs : List Item). LetsGivenPass may xs s.given) (sym items) s.passed,
-      subst (λ (xs : List Item). HearsAll script before xs s.given first hears) (sym items) s.heard,
+      subst (λ (xs : List Item). HearsAll wants script before xs s.given first hears) (sym items) s.heard,
     )
 
 -- a status is that of a session, so it is a whole one's
-pub whole : (g : Config) (may : ℕ → ℕ → Point → Bool → Type 0) (script : List ℕ) (status : Status) (before now : Option (List ℕ)) (waiting : List ℕ) (first hears : Option (List Heard))
-    → PassesSession g may script status before now waiting first hears → IsWhole status
-whole g may script status before now waiting first hears (session, (given, all, is), told, written, passed, heard) =
+pub whole : (g : Config) (may : ℕ → ℕ → Point → Bool → Type 0) (wants : Bool) (script : List ℕ) (status : Status) (before now : Option (List ℕ)) (waiting : List ℕ) (first hears : Option (List Heard))
+    → PassesSession g may wants script status before now waiting first hears → IsWhole status
+whole g may wants script status before now waiting first hears (session, (given, all, is), told, written, passed, heard) =
     subst IsWhole (sym (told ∙ ap (λ (s : Session). s.status) is)) (IsWhole-status_of (outcomes_given given))
 
 -- ---- what waits is written, and nothing is heard as it is
 
-module _ (g : Config) (may : ℕ → ℕ → Point → Bool → Type 0) (script : List ℕ) (before now new : Option (List ℕ)) (waiting : List ℕ) (first hears hears_new : Option (List Heard))
+module _ (g : Config) (may : ℕ → ℕ → Point → Bool → Type 0) (wants : Bool) (script : List ℕ) (before now new : Option (List ℕ)) (waiting : List ℕ) (first hears hears_new : Option (List Heard))
     (unheard : hears_new ≡ hears) where
-  same_heard : (items : List Item) (given : List Given) → HearsAll script before items given first hears → HearsAll script before items given first hears_new
-  same_heard items given heard = subst (λ (h : Option (List Heard)). HearsAll script before items given first h) (sym unheard) heard
+  same_heard : (items : List Item) (given : List Given) → HearsAll wants script before items given first hears → HearsAll wants script before items given first hears_new
+  same_heard items given heard = subst (λ (h : Option (List Heard)). HearsAll wants script before items given first h) (sym unheard) heard
 
-  pub session_flushed : (status : Status) → PassesSession g may script status before now waiting first hears → Appends now new waiting
-      → AppendsSession g may script status before new first hears_new
+  pub session_flushed : (status : Status) → PassesSession g may wants script status before now waiting first hears → Appends now new waiting
+      → AppendsSession g may wants script status before new first hears_new
   session_flushed status (session, is, told, written, passed, heard) more =
       (session, is, told, Passes_flush before now new [] waiting (concat session.texts) written more, passed, same_heard (items_of script) is.0 heard)
 
-  pub begun_flushed : PassesBegun g may script before now waiting first hears → Appends now new waiting → AppendsBegun g may script before new first hears_new
+  pub begun_flushed : PassesBegun g may wants script before now waiting first hears → Appends now new waiting → AppendsBegun g may wants script before new first hears_new
   begun_flushed (texts, is, written, passed, heard) more =
       (texts, is, Passes_flush before now new [] waiting (concat texts) written more, passed, same_heard (items_of script) is.1 heard)
 
-  pub stopped_flushed : PassesStopped g may script before now waiting first hears → Appends now new waiting → AppendsStopped g may script before new first hears_new
+  pub stopped_flushed : PassesStopped g may wants script before now waiting first hears → Appends now new waiting → AppendsStopped g may wants script before new first hears_new
   stopped_flushed (texts, is, written, heard) more =
       (texts, is, Passes_flush before now new [] waiting (concat texts) written more, same_heard is.done is.given heard)
 
   -- and not all of it
-  pub begun_cut : PassesBegun g may script before now waiting first hears → AppendsFront now new waiting → AppendsBegunFront g may script before new first hears_new
+  pub begun_cut : PassesBegun g may wants script before now waiting first hears → AppendsFront now new waiting → AppendsBegunFront g may wants script before new first hears_new
   begun_cut (texts, is, written, passed, heard) more = (
     texts,
     is,
     Passes_cut before now new [] waiting (concat texts) written more,
     passed,
     length is.1,
-    subst (λ (xs : List Given). HearsAll script before (items_of script) xs first hears_new) (sym (all_given is.1)) (same_heard (items_of script) is.1 heard),
+    subst (λ (xs : List Given). HearsAll wants script before (items_of script) xs first hears_new) (sym (all_given is.1)) (same_heard (items_of script) is.1 heard),
   )
 
-  pub stopped_cut : PassesStopped g may script before now waiting first hears → AppendsFront now new waiting → AppendsBegunFront g may script before new first hears_new
+  pub stopped_cut : PassesStopped g may wants script before now waiting first hears → AppendsFront now new waiting → AppendsBegunFront g may wants script before new first hears_new
   stopped_cut (texts, is, written, heard) more =
       let taken : take (length is.done) (items_of script) ≡ is.done =
       ap (take (length is.done)) is.items ∙ take_at is.done (Threads is.part ∷ is.rest) (length is.done) refl in
@@ -425,12 +425,12 @@ module _ (g : Config) (may : ℕ → ℕ → Point → Bool → Type 0) (script 
         written,
         subst (λ (xs : List Item). LetsGivenPass may xs is.given) (sym is.items)
             (passed_front may g is.done (Threads is.part ∷ is.rest) is.given beginning is.after is.gives is.passed),
-        subst (λ (xs : List Item). HearsAll script before xs is.given first hears) (sym is.items)
-            (hears_front script before g is.done (Threads is.part ∷ is.rest) is.given beginning is.after first hears is.gives heard),
+        subst (λ (xs : List Item). HearsAll wants script before xs is.given first hears) (sym is.items)
+            (hears_front wants script before g is.done (Threads is.part ∷ is.rest) is.given beginning is.after first hears is.gives heard),
       ) more
 
-  pub session_cut : (status : Status) → PassesSession g may script status before now waiting first hears → AppendsFront now new waiting
-      → AppendsBegunFront g may script before new first hears_new
+  pub session_cut : (status : Status) → PassesSession g may wants script status before now waiting first hears → AppendsFront now new waiting
+      → AppendsBegunFront g may wants script before new first hears_new
   session_cut status (session, (given, all, is), told, written, passed, heard) more =
       let taken : take (length (items_of script)) (items_of script) ≡ items_of script =
       ap (take (length (items_of script))) (sym (append-nil (items_of script))) ∙ take_at (items_of script) [] (length (items_of script)) refl in (
@@ -439,7 +439,7 @@ module _ (g : Config) (may : ℕ → ℕ → Point → Bool → Type 0) (script 
         Passes_cut before now new [] waiting (concat session.texts) written more,
         passed,
         length given,
-        subst (λ (xs : List Given). HearsAll script before (items_of script) xs first hears_new) (sym (all_given given)) (same_heard (items_of script) given heard),
+        subst (λ (xs : List Given). HearsAll wants script before (items_of script) xs first hears_new) (sym (all_given given)) (same_heard (items_of script) given heard),
       )
 
 -- ---- nothing was done
@@ -451,16 +451,16 @@ passed_none : (may : ℕ → ℕ → Point → Bool → Type 0) (items : List It
 passed_none may [] = tt
 passed_none may (item ∷ items) = tt
 
-pub nothing_begun : (g : Config) (may : ℕ → ℕ → Point → Bool → Type 0) (bytes old : Option (List ℕ)) (first : Option (List Heard))
-    → IfSome bytes (λ (script : List ℕ). AppendsBegun g may script old old first first)
+pub nothing_begun : (g : Config) (may : ℕ → ℕ → Point → Bool → Type 0) (wants : Bool) (bytes old : Option (List ℕ)) (first : Option (List Heard))
+    → IfSome bytes (λ (script : List ℕ). AppendsBegun g may wants script old old first first)
 unfolding begun_none
-nothing_begun g may None old first = tt
-nothing_begun g may (Some script) old first =
-    ([], begun_none g script, Appends_nothing old, passed_none may (items_of script), hears_none script old (items_of script) first)
+nothing_begun g may wants None old first = tt
+nothing_begun g may wants (Some script) old first =
+    ([], begun_none g script, Appends_nothing old, passed_none may (items_of script), hears_none wants script old (items_of script) first)
 
-pub nothing_begun_front : (g : Config) (may : ℕ → ℕ → Point → Bool → Type 0) (bytes old : Option (List ℕ)) (first : Option (List Heard))
-    → IfSome bytes (λ (script : List ℕ). AppendsBegunFront g may script old old first first)
+pub nothing_begun_front : (g : Config) (may : ℕ → ℕ → Point → Bool → Type 0) (wants : Bool) (bytes old : Option (List ℕ)) (first : Option (List Heard))
+    → IfSome bytes (λ (script : List ℕ). AppendsBegunFront g may wants script old old first first)
 unfolding begun_none
-nothing_begun_front g may None old first = tt
-nothing_begun_front g may (Some script) old first =
-    ([], begun_none g script, ([], [], refl, Appends_nothing old), passed_none may (items_of script), 0, hears_none script old (items_of script) first)
+nothing_begun_front g may wants None old first = tt
+nothing_begun_front g may wants (Some script) old first =
+    ([], begun_none g script, ([], [], refl, Appends_nothing old), passed_none may (items_of script), 0, hears_none wants script old (items_of script) first)

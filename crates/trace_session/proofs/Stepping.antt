@@ -1,5 +1,5 @@
 -- One item: what it gives.
-use Rattle.std.proofs.Common.{◌≡◌, ◌≢◌, ℕ, false, List, [], ◌∷◌, ◌++◌, Option, Some, None, Result, Ok, Err, IfOk, OnOk, IsSome, refl, ap, sym, subst, ◌∙◌}
+use Rattle.std.proofs.Common.{◌≡◌, ◌≢◌, ℕ, Bool, false, List, [], ◌∷◌, ◌++◌, Option, Some, None, Result, Ok, Err, IfOk, OnOk, IsSome, refl, ap, sym, subst, ◌∙◌}
 use Rattle.trace_command.specs.declared.command.Config.{Config}
 use Rattle.trace_command.specs.declared.command.Reply.TheVariants as replies
 use Rattle.trace_items.specs.Items.{Item, Single, Faulty}
@@ -11,7 +11,7 @@ use Rattle.trace_session.specs.Devices.{AppendsFront, Passes}
 use Rattle.trace_items.specs.NextItems.{item_read}
 use Rattle.trace_items.specs.declared.item.ItemRead.{ItemRead}
 use Rattle.trace_session.specs.private.StepFronts.{PassesItem, GivesItem, AppendsItem}
-use Rattle.trace_session.specs.Heard.{Heard}
+use Rattle.trace_session.specs.Heard.{Heard, IsWrittenFirst}
 use Rattle.trace_session.specs.private.HeardItems.{HearsItem}
 use Rattle.trace_session.specs.Parts.{Given, given_by}
 use Rattle.trace_session.specs.Sessions.{Progress, Turn, turn_of, is_fault, text_of, status_of}
@@ -58,23 +58,23 @@ fault_read at item (Ok status) seated now old new waited waits is done =
 fault_read at item (Err stop) seated now old new waited waits is done = tt
 
 -- an item that was read gave something, and that was heard
-pub item_given : (seated : Config → Type 0) (number : ℕ) (item : ItemRead) (before after : Progress) (result : Result Status Stop) (old new : Option (List ℕ)) (waited waits : List ℕ)
+pub item_given : (wants : Bool) (seated : Config → Type 0) (number : ℕ) (item : ItemRead) (before after : Progress) (result : Result Status Stop) (old new : Option (List ℕ)) (waited waits : List ℕ)
     (heard hears : Option (List Heard))
     → IfOk result (λ status. (g : Config) → seated g → PassesItem g (item_read number item) before after status old waited new waits)
     → ((g : Config) → seated g → (given : Given) → OnOk result (HearsItem g number item before given new heard hears))
-    → IfOk result (λ status. IsSome heard → status ≢ statuses.Done → waits ≡ [])
-    → IfOk result (λ status. (g : Config) → seated g → GivesItem g number item before after status old waited new waits heard hears)
-item_given seated number item before after (Ok status) old new waited waits heard hears gave told flushed =
+    → IfOk result (λ status. IsSome heard → IsWrittenFirst wants status → waits ≡ [])
+    → IfOk result (λ status. (g : Config) → seated g → GivesItem g wants number item before after status old waited new waits heard hears)
+item_given wants seated number item before after (Ok status) old new waited waits heard hears gave told flushed =
     λ g seat. let one = gave g seat in (one.0, one.1, one.2, one.3, told g seat one.0, flushed)
-item_given seated number item before after (Err stop) old new waited waits heard hears gave told flushed = tt
+item_given wants seated number item before after (Err stop) old new waited waits heard hears gave told flushed = tt
 
 -- nothing waits where the item's own status is no `Done`
-pub flushed_as : (A B : Type 0) (result : Result Status Stop) (told : Status) → IfOk result (λ status. status ≡ told) → OnOk result (A → told ≢ statuses.Done → B)
-    → IfOk result (λ status. A → status ≢ statuses.Done → B)
-flushed_as A B (Ok status) told is all = λ a not. all a (λ done. not (is ∙ done))
-flushed_as A B (Err stop) told is all = tt
+pub flushed_as : (wants : Bool) (A B : Type 0) (result : Result Status Stop) (told : Status) → IfOk result (λ status. status ≡ told) → OnOk result (A → IsWrittenFirst wants told → B)
+    → IfOk result (λ status. A → IsWrittenFirst wants status → B)
+flushed_as wants A B (Ok status) told is all = λ a first. all a (subst (IsWrittenFirst wants) is first)
+flushed_as wants A B (Err stop) told is all = tt
 
 -- one who says nothing of what it heard
-pub untold_flushed : {B : Type 0} (heard : Option (List Heard)) (status : Status) → heard ≡ None → IsSome heard → status ≢ statuses.Done → B
-untold_flushed {B} None status none tells not = absurd cc
-untold_flushed {B} (Some heard) status none tells not = absurd cc
+pub untold_flushed : {B : Type 0} (wants : Bool) (heard : Option (List Heard)) (status : Status) → heard ≡ None → IsSome heard → IsWrittenFirst wants status → B
+untold_flushed {B} wants None status none tells first = absurd cc
+untold_flushed {B} wants (Some heard) status none tells first = absurd cc

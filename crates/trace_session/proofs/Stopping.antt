@@ -17,8 +17,8 @@ part_among (Threads threads ∷ done) part rest plain = plain
 part_among (Faulty at ∷ done) part rest plain = part_among done part rest plain
 
 -- so a session of a script without parts was not stopped
-pub stopped_at_part : (g : Config) (may : ℕ → ℕ → Point → Bool → Type 0) (given gives : List ℕ) (bytes old new : Option (List ℕ)) (first hears : Option (List Heard))
-    → GivesScript given gives bytes (λ (script : List ℕ). AppendsStopped g may script old new first hears)
+pub stopped_at_part : (g : Config) (may : ℕ → ℕ → Point → Bool → Type 0) (wants : Bool) (given gives : List ℕ) (bytes old new : Option (List ℕ)) (first hears : Option (List Heard))
+    → GivesScript given gives bytes (λ (script : List ℕ). AppendsStopped g may wants script old new first hears)
     → GivesScript given gives bytes (λ (script : List ℕ). HasNoPart script → ⊥)
-stopped_at_part g may given gives bytes old new first hears (script, e, (read, (texts, s, written, heard))) =
+stopped_at_part g may wants given gives bytes old new first hears (script, e, (read, (texts, s, written, heard))) =
     (script, e, (read, λ none. part_among s.done s.part s.rest (subst ArePlain s.items (items_are_plain script none))))

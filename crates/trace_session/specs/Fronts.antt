@@ -37,31 +37,32 @@ pub record IsStopped (g : Config) (may : ℕ → ℕ → Point → Bool → Type
   pub stopped : StopsOne may (commands_asked part)
 
 -- A lawful session of the script has this status, and known bytes grow by what it writes. The gate let each part pass that it came to, and a sink that
--- tells what it heard has heard of each of its items.
-abbrev pub AppendsSession : Config → (ℕ → ℕ → Point → Bool → Type 0) → List ℕ → Status → Option (List ℕ) → Option (List ℕ)
+-- tells what it heard has heard of each of its items. Here and below `wants` is whether the sink wants all texts so far written before it hears of an
+-- item.
+abbrev pub AppendsSession : Config → (ℕ → ℕ → Point → Bool → Type 0) → Bool → List ℕ → Status → Option (List ℕ) → Option (List ℕ)
     → Option (List Heard) → Option (List Heard) → Type 0
-AppendsSession g may script status old new heard hears =
+AppendsSession g may wants script status old new heard hears =
     (session : Session) × (is : IsSession g script session) × (status ≡ session.status) × Appends old new (concat session.texts)
-    × LetsGivenPass may (items_of script) is.0 × HearsAll script old (items_of script) is.0 heard hears
+    × LetsGivenPass may (items_of script) is.0 × HearsAll wants script old (items_of script) is.0 heard hears
 
 -- Known bytes grow by what the first items of the script may write, as many as a session came to. The gate let each part among them pass, and a sink
 -- that tells what it heard has heard of each of them.
-abbrev pub AppendsBegun : Config → (ℕ → ℕ → Point → Bool → Type 0) → List ℕ → Option (List ℕ) → Option (List ℕ)
+abbrev pub AppendsBegun : Config → (ℕ → ℕ → Point → Bool → Type 0) → Bool → List ℕ → Option (List ℕ) → Option (List ℕ)
     → Option (List Heard) → Option (List Heard) → Type 0
-AppendsBegun g may script old new heard hears =
+AppendsBegun g may wants script old new heard hears =
     (texts : List (List ℕ)) × (is : IsBegun g script texts) × Appends old new (concat texts)
-    × LetsGivenPass may (items_of script) is.1 × HearsAll script old (items_of script) is.1 heard hears
+    × LetsGivenPass may (items_of script) is.1 × HearsAll wants script old (items_of script) is.1 heard hears
 
 -- known bytes grow by what the items before the part gave at which the session was stopped, and a sink that tells what it heard has heard of these
-abbrev pub AppendsStopped : Config → (ℕ → ℕ → Point → Bool → Type 0) → List ℕ → Option (List ℕ) → Option (List ℕ)
+abbrev pub AppendsStopped : Config → (ℕ → ℕ → Point → Bool → Type 0) → Bool → List ℕ → Option (List ℕ) → Option (List ℕ)
     → Option (List Heard) → Option (List Heard) → Type 0
-AppendsStopped g may script old new heard hears =
-    (texts : List (List ℕ)) × (is : IsStopped g may script texts) × Appends old new (concat texts) × HearsAll script old is.done is.given heard hears
+AppendsStopped g may wants script old new heard hears =
+    (texts : List (List ℕ)) × (is : IsStopped g may script texts) × Appends old new (concat texts) × HearsAll wants script old is.done is.given heard hears
 
 -- Known bytes grow by a prefix of what the first items of the script may write. The gate let each part among them pass, and a sink that tells what it
 -- heard has heard of the first of them.
-abbrev pub AppendsBegunFront : Config → (ℕ → ℕ → Point → Bool → Type 0) → List ℕ → Option (List ℕ) → Option (List ℕ)
+abbrev pub AppendsBegunFront : Config → (ℕ → ℕ → Point → Bool → Type 0) → Bool → List ℕ → Option (List ℕ) → Option (List ℕ)
     → Option (List Heard) → Option (List Heard) → Type 0
-AppendsBegunFront g may script old new heard hears =
+AppendsBegunFront g may wants script old new heard hears =
     (texts : List (List ℕ)) × (is : IsBegun g script texts) × AppendsFront old new (concat texts)
-    × LetsGivenPass may (items_of script) is.1 × (told : ℕ) × HearsAll script old (items_of script) (take told is.1) heard hears
+    × LetsGivenPass may (items_of script) is.1 × (told : ℕ) × HearsAll wants script old (items_of script) (take told is.1) heard hears

@@ -1,5 +1,5 @@
 -- What a sink hears of lines and of the commands of parts, and of a whole session.
-use Rattle.std.specs.Prelude.{◌≡◌, ◌≢◌, ℕ, ◌-◌, List, [], ◌∷◌, ◌++◌, map, flat_map, Option, Some, None, slice_get, unwrap_or}
+use Rattle.std.specs.Prelude.{◌≡◌, ◌≢◌, ◌⊎◌, ℕ, ◌-◌, Bool, true, List, [], ◌∷◌, ◌++◌, map, flat_map, Option, Some, None, slice_get, unwrap_or}
 use Rattle.std.specs.Io.KnownBytes.{Appends}
 use Rattle.trace_items.specs.Items.{Item, Single, Threads, Faulty}
 use Rattle.trace_items.specs.ScriptLines.{lines_of}
@@ -47,22 +47,27 @@ numbers_told (Single number line) = number ∷ []
 numbers_told (Threads threads) = numbers_in threads
 numbers_told (Faulty at) = at.number ∷ []
 
--- What a sink holds when it hears of an item with this status: what it held before the session, and a prefix of these texts, the item's included. It
--- holds all of them where the item is a refusal or a fault.
-abbrev pub HoldsTexts : Option (List ℕ) → Option (List ℕ) → List ℕ → Status → Type 0
-HoldsTexts old held texts status = AppendsFront old held texts × (status ≢ statuses.Done → Appends old held texts)
+-- all texts so far are written before a sink hears of an item with this status: a refusal or a fault; or any, if it wants so
+abbrev pub IsWrittenFirst : Bool → Status → Type 0
+IsWrittenFirst wants status = (wants ≡ true) ⊎ (status ≢ statuses.Done)
 
--- This is heard of items in turn that gave this: of each item what became of its lines. `texts` is what the items before them gave.
-abbrev pub IsHeard : List ℕ → Option (List ℕ) → List ℕ → List Item → List Given → List Heard → Type 0
-IsHeard script old texts [] given heard = heard ≡ []
-IsHeard script old texts (item ∷ items) [] heard = heard ≡ []
-IsHeard script old texts (item ∷ items) (one ∷ given) heard =
+-- What a sink holds when it hears of an item with this status: what it held before the session, and a prefix of these texts, the item's included; or
+-- all of them.
+abbrev pub HoldsTexts : Bool → Option (List ℕ) → Option (List ℕ) → List ℕ → Status → Type 0
+HoldsTexts wants old held texts status = AppendsFront old held texts × (IsWrittenFirst wants status → Appends old held texts)
+
+-- This is heard of items in turn that gave this: of each item what became of its lines. `texts` is what the items before them gave; `wants`, whether
+-- the sink wants all of it written first (`Sink::wants_output_first`).
+abbrev pub IsHeard : Bool → List ℕ → Option (List ℕ) → List ℕ → List Item → List Given → List Heard → Type 0
+IsHeard wants script old texts [] given heard = heard ≡ []
+IsHeard wants script old texts (item ∷ items) [] heard = heard ≡ []
+IsHeard wants script old texts (item ∷ items) (one ∷ given) heard =
     (held : Option (List ℕ)) × (more : List Heard)
     × (heard ≡ heard_lines 1 (lines_of script) held (numbers_told item) one.outcomes ++ more)
-    × HoldsTexts old held (texts ++ one.text) (status_of one.outcomes) × IsHeard script old (texts ++ one.text) items given more
+    × HoldsTexts wants old held (texts ++ one.text) (status_of one.outcomes) × IsHeard wants script old (texts ++ one.text) items given more
 
 -- a sink that tells what it heard, and held these bytes before, has heard this of items that gave this, and nothing else
-abbrev pub HearsAll : List ℕ → Option (List ℕ) → List Item → List Given → Option (List Heard) → Option (List Heard) → Type 0
-HearsAll script held items given None new = Unit {0}
-HearsAll script held items given (Some old) None = ⊥
-HearsAll script held items given (Some old) (Some all) = (more : List Heard) × (all ≡ old ++ more) × IsHeard script held [] items given more
+abbrev pub HearsAll : Bool → List ℕ → Option (List ℕ) → List Item → List Given → Option (List Heard) → Option (List Heard) → Type 0
+HearsAll wants script held items given None new = Unit {0}
+HearsAll wants script held items given (Some old) None = ⊥
+HearsAll wants script held items given (Some old) (Some all) = (more : List Heard) × (all ≡ old ++ more) × IsHeard wants script held [] items given more

@@ -1,7 +1,7 @@
 //! What a session writes to; what it reads from is a `Source` of trace_items. Contracts see its bytes and what it heard, if the device states them,
 //! and how many of its calls failed. A writer of std states the bytes that its calls took, whatever it is.
 
-ghost use Rattle.std.specs.Prelude.{◌≡◌, ℕ, false, List, [], ◌∷◌, Option, None, Some, length};
+ghost use Rattle.std.specs.Prelude.{◌≡◌, ℕ, Bool, false, List, [], ◌∷◌, Option, None, Some, length};
 ghost use Rattle.std.specs.Io.{WritesAtMost};
 ghost use Rattle.std.specs.Io.KnownBytes.{Appends, WriteAppends};
 ghost use Rattle.trace_session.specs.Devices.{Appends_prop, failures_after_write};
@@ -24,6 +24,9 @@ pub trait Sink {
     /// What it heard, oldest first, if it hears and states that.
     ghost heard: { Self → Option (List Heard) };
 
+    /// Whether it wants all output so far written before it hears of any line.
+    ghost wants_first: { Bool };
+
     /// Takes some bytes from the beginning of `buf`, and returns how many.
     fn write(&mut self, buf: &[u8]) -> io::Result<usize>
         ensures bound { WritesAtMost result buf.now }
@@ -36,9 +39,8 @@ pub trait Sink {
         ensures { result ≡ false → heard self.now ≡ None };
 
     /// Whether to write all output so far before telling it an outcome. Each reply is then written by itself.
-    fn wants_output_first(&self) -> bool {
-        false
-    }
+    fn wants_output_first(&self) -> bool
+        ensures { result ≡ wants_first };
 
     /// Tells it the outcome of the line with this number. Before a refusal or a fault, all output so far is written; if `wants_output_first`, before
     /// any outcome. A parallel part's commands are told in the order of their lines, once all have run, and after the part's output is written if one
@@ -86,6 +88,8 @@ impl<W: Write> Sink for Output<W> {
 
     ghost heard = { λ _. None };
 
+    ghost wants_first = { false };
+
     fn write(&mut self, buf: &[u8]) -> io::Result<usize> {
         let result = self.device.write(buf);
         let is_failure = match result {
@@ -102,6 +106,10 @@ impl<W: Write> Sink for Output<W> {
     }
 
     fn hears(&self) -> bool {
+        false
+    }
+
+    fn wants_output_first(&self) -> bool {
         false
     }
 

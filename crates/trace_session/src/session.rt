@@ -53,22 +53,22 @@ fn do_items<R: Threads + Wait + Sync, W: Sink, G: Gate + Sync>(
     requires short { length script.now ≤ MOST_SCRIPT_BYTES }
     requires none { replies.old ≡ [] }
     ensures ok { IfOk result (λ status. (g : Config) → IsSessionPass g (view_of pass)
-        → PassesSession g (G.may_answer env.now.gate.now) script.now status
+        → PassesSession g (G.may_answer env.now.gate.now) W.wants_first script.now status
         (W.contents writer.old) (W.contents writer.new) replies.new (W.heard writer.old) (W.heard writer.new)) }
     ensures whole { IfOk result IsWhole }
     ensures failures { OnOk result (W.failures writer.new ≡ W.failures writer.old) }
     ensures memory { IsErrOf result Stop.Memory → (g : Config) → IsSessionPass g (view_of pass)
-        → PassesBegun g (G.may_answer env.now.gate.now) script.now
+        → PassesBegun g (G.may_answer env.now.gate.now) W.wants_first script.now
         (W.contents writer.old) (W.contents writer.new) replies.new (W.heard writer.old) (W.heard writer.new) }
     ensures unfailed { IsErrOf result Stop.Memory → W.failures writer.new ≡ W.failures writer.old }
     ensures stopped { IsErrOf result Stop.Stopped → (g : Config) → IsSessionPass g (view_of pass)
-        → PassesStopped g (G.may_answer env.now.gate.now) script.now
+        → PassesStopped g (G.may_answer env.now.gate.now) W.wants_first script.now
         (W.contents writer.old) (W.contents writer.new) replies.new (W.heard writer.old) (W.heard writer.new) }
     ensures unwritten { IsErrOf result Stop.Stopped → W.failures writer.new ≡ W.failures writer.old }
     ensures open { G.is_open env.now.gate.now ≡ true → IsErrOf result Stop.Stopped → ⊥ }
     ensures risen { IsErrOf result Stop.Device → HasRisen (W.failures writer.old) (W.failures writer.new) }
     ensures device { IsErrOf result Stop.Device → (g : Config) → IsSessionPass g (view_of pass)
-        → AppendsBegunFront g (G.may_answer env.now.gate.now) script.now
+        → AppendsBegunFront g (G.may_answer env.now.gate.now) W.wants_first script.now
         (W.contents writer.old) (W.contents writer.new) (W.heard writer.old) (W.heard writer.new) }
 {
     let mut pass = pass;
@@ -124,22 +124,22 @@ fn do_script<R: Threads + Wait + Sync, W: Sink, G: Gate + Sync>(
     requires begins { progress_of (view_of pass) ≡ beginning }
     requires short { length script.now ≤ MOST_SCRIPT_BYTES }
     ensures ok { IfOk result (λ status. (g : Config) → IsSessionPass g (view_of pass)
-        → AppendsSession g (G.may_answer env.now.gate.now) script.now status
+        → AppendsSession g (G.may_answer env.now.gate.now) W.wants_first script.now status
         (W.contents writer.old) (W.contents writer.new) (W.heard writer.old) (W.heard writer.new)) }
     ensures whole { IfOk result IsWhole }
     ensures failures { OnOk result (W.failures writer.new ≡ W.failures writer.old) }
     ensures memory { IsErrOf result Stop.Memory → (g : Config) → IsSessionPass g (view_of pass)
-        → AppendsBegun g (G.may_answer env.now.gate.now) script.now
+        → AppendsBegun g (G.may_answer env.now.gate.now) W.wants_first script.now
         (W.contents writer.old) (W.contents writer.new) (W.heard writer.old) (W.heard writer.new) }
     ensures unfailed { IsErrOf result Stop.Memory → W.failures writer.new ≡ W.failures writer.old }
     ensures stopped { IsErrOf result Stop.Stopped → (g : Config) → IsSessionPass g (view_of pass)
-        → AppendsStopped g (G.may_answer env.now.gate.now) script.now
+        → AppendsStopped g (G.may_answer env.now.gate.now) W.wants_first script.now
         (W.contents writer.old) (W.contents writer.new) (W.heard writer.old) (W.heard writer.new) }
     ensures unwritten { IsErrOf result Stop.Stopped → W.failures writer.new ≡ W.failures writer.old }
     ensures open { G.is_open env.now.gate.now ≡ true → IsErrOf result Stop.Stopped → ⊥ }
     ensures risen { IsErrOf result Stop.Device → HasRisen (W.failures writer.old) (W.failures writer.new) }
     ensures device { IsErrOf result Stop.Device → (g : Config) → IsSessionPass g (view_of pass)
-        → AppendsBegunFront g (G.may_answer env.now.gate.now) script.now
+        → AppendsBegunFront g (G.may_answer env.now.gate.now) W.wants_first script.now
         (W.contents writer.old) (W.contents writer.new) (W.heard writer.old) (W.heard writer.new) }
 {
     let mut replies = Replies::new(env.alloc)?;
@@ -180,7 +180,7 @@ fn attempt<T: Threads + Wait + Sync, R: Source, W: Sink, G: Gate + Sync>(
 ) -> Result<Status, Stop>
     requires { IsInRange config }
     ensures session { IfOk result (λ status. GivesScript (R.given reader.old) (R.given reader.new) (R.remaining reader.old) (λ script.
-        AppendsSession config (G.may_answer gate.now) script status
+        AppendsSession config (G.may_answer gate.now) W.wants_first script status
         (W.contents writer.old) (W.contents writer.new) (W.heard writer.old) (W.heard writer.new))) }
     ensures whole { IfOk result IsWhole }
     ensures end { OnOk result (IsAtEnd (R.remaining reader.new)) }
@@ -190,17 +190,17 @@ fn attempt<T: Threads + Wait + Sync, R: Source, W: Sink, G: Gate + Sync>(
     ensures reads { OnOk result (R.failures reader.new ≡ R.failures reader.old) }
     ensures writes { OnOk result (W.failures writer.new ≡ W.failures writer.old) }
     ensures memory { IsErrOf result Stop.Memory → IfSome (R.remaining reader.old) (λ script.
-        AppendsBegun config (G.may_answer gate.now) script
+        AppendsBegun config (G.may_answer gate.now) W.wants_first script
         (W.contents writer.old) (W.contents writer.new) (W.heard writer.old) (W.heard writer.new)) }
     ensures begun { IsErrOf result Stop.Memory → Gives (R.given reader.old) (R.given reader.new) (λ script. (length script ≤ MOST_SCRIPT_BYTES)
-        × AppendsBegun config (G.may_answer gate.now) script
+        × AppendsBegun config (G.may_answer gate.now) W.wants_first script
         (W.contents writer.old) (W.contents writer.new) (W.heard writer.old) (W.heard writer.new)) }
     ensures unread { IsErrOf result Stop.Memory → R.failures reader.new ≡ R.failures reader.old }
     ensures unfailed { IsErrOf result Stop.Memory → W.failures writer.new ≡ W.failures writer.old }
     ensures consumed { IsErrOf result Stop.Memory
         → ConsumesAtMost MOST_SCRIPT_BYTES (R.remaining reader.old) (R.remaining reader.new) }
     ensures stopped { IsErrOf result Stop.Stopped → GivesScript (R.given reader.old) (R.given reader.new) (R.remaining reader.old) (λ script.
-        AppendsStopped config (G.may_answer gate.now) script
+        AppendsStopped config (G.may_answer gate.now) W.wants_first script
         (W.contents writer.old) (W.contents writer.new) (W.heard writer.old) (W.heard writer.new)) }
     ensures open { G.is_open gate.now ≡ true → IsErrOf result Stop.Stopped → ⊥ }
     ensures stopped_end { IsErrOf result Stop.Stopped → IsAtEnd (R.remaining reader.new) }
@@ -210,10 +210,10 @@ fn attempt<T: Threads + Wait + Sync, R: Source, W: Sink, G: Gate + Sync>(
     ensures stopped_reads { IsErrOf result Stop.Stopped → R.failures reader.new ≡ R.failures reader.old }
     ensures stopped_writes { IsErrOf result Stop.Stopped → W.failures writer.new ≡ W.failures writer.old }
     ensures device { IsErrOf result Stop.Device → IfSome (R.remaining reader.old) (λ script.
-        AppendsBegunFront config (G.may_answer gate.now) script
+        AppendsBegunFront config (G.may_answer gate.now) W.wants_first script
         (W.contents writer.old) (W.contents writer.new) (W.heard writer.old) (W.heard writer.new)) }
     ensures front { IsErrOf result Stop.Device → Gives (R.given reader.old) (R.given reader.new) (λ script.
-        AppendsBegunFront config (G.may_answer gate.now) script
+        AppendsBegunFront config (G.may_answer gate.now) W.wants_first script
         (W.contents writer.old) (W.contents writer.new) (W.heard writer.old) (W.heard writer.new)) }
     ensures unwritten { IsErrOf result Stop.Device → (HasRisen (W.failures writer.old) (W.failures writer.new)
         × (R.failures reader.new ≡ R.failures reader.old)
@@ -261,7 +261,7 @@ pub fn run_session<T: Threads + Wait + Sync, R: Source, W: Sink, G: Gate + Sync>
 
     // With memory and without failures: a lawful session of the bytes read, whose parts the gate let pass, and of which the writer has heard.
     ensures session { IsWhole result → GivesScript (R.given reader.old) (R.given reader.new) (R.remaining reader.old) (λ script.
-        AppendsSession config (G.may_answer gate.now) script result
+        AppendsSession config (G.may_answer gate.now) W.wants_first script result
         (W.contents writer.old) (W.contents writer.new) (W.heard writer.old) (W.heard writer.new)) }
     ensures end { IsRead result → IsAtEnd (R.remaining reader.new) }
     ensures ended { IsRead result → R.has_ended reader.new ≡ true }
@@ -273,7 +273,7 @@ pub fn run_session<T: Threads + Wait + Sync, R: Source, W: Sink, G: Gate + Sync>
     // Stopped by the gate at a part, in which it may answer `false`: the output of the items before it was written, and none of the part's. A script
     // without parts is never stopped.
     ensures stopped { result ≡ Status.Stopped → GivesScript (R.given reader.old) (R.given reader.new) (R.remaining reader.old) (λ script.
-        AppendsStopped config (G.may_answer gate.now) script
+        AppendsStopped config (G.may_answer gate.now) W.wants_first script
         (W.contents writer.old) (W.contents writer.new) (W.heard writer.old) (W.heard writer.new)) }
     ensures part { result ≡ Status.Stopped
         → GivesScript (R.given reader.old) (R.given reader.new) (R.remaining reader.old) (λ script. HasNoPart script → ⊥) }
@@ -281,10 +281,10 @@ pub fn run_session<T: Threads + Wait + Sync, R: Source, W: Sink, G: Gate + Sync>
 
     // Out of memory: no device failed, and the script was not seen to be too long.
     ensures memory { result ≡ Status.Memory → IfSome (R.remaining reader.old) (λ script.
-        AppendsBegun config (G.may_answer gate.now) script
+        AppendsBegun config (G.may_answer gate.now) W.wants_first script
         (W.contents writer.old) (W.contents writer.new) (W.heard writer.old) (W.heard writer.new)) }
     ensures begun { result ≡ Status.Memory → Gives (R.given reader.old) (R.given reader.new) (λ script. (length script ≤ MOST_SCRIPT_BYTES)
-        × AppendsBegun config (G.may_answer gate.now) script
+        × AppendsBegun config (G.may_answer gate.now) W.wants_first script
         (W.contents writer.old) (W.contents writer.new) (W.heard writer.old) (W.heard writer.new)) }
     ensures unfailed { result ≡ Status.Memory
         → (R.failures reader.new ≡ R.failures reader.old) × (W.failures writer.new ≡ W.failures writer.old) }
@@ -293,10 +293,10 @@ pub fn run_session<T: Threads + Wait + Sync, R: Source, W: Sink, G: Gate + Sync>
 
     // A failure, or a script that is too long.
     ensures device { result ≡ Status.Device → IfSome (R.remaining reader.old) (λ script.
-        AppendsBegunFront config (G.may_answer gate.now) script
+        AppendsBegunFront config (G.may_answer gate.now) W.wants_first script
         (W.contents writer.old) (W.contents writer.new) (W.heard writer.old) (W.heard writer.new)) }
     ensures front { result ≡ Status.Device → Gives (R.given reader.old) (R.given reader.new) (λ script.
-        AppendsBegunFront config (G.may_answer gate.now) script
+        AppendsBegunFront config (G.may_answer gate.now) W.wants_first script
         (W.contents writer.old) (W.contents writer.new) (W.heard writer.old) (W.heard writer.new)) }
     ensures unwritten { result ≡ Status.Device → (HasRisen (W.failures writer.old) (W.failures writer.new)
         × (R.failures reader.new ≡ R.failures reader.old)

@@ -15,7 +15,7 @@ ghost use Rattle.trace_script.specs.PlainEmissions.{emission_said};
 ghost use Rattle.trace_session.specs.Devices.{Passes};
 ghost use Rattle.trace_session.specs.private.StepFronts.{PassesItem, GivesItem, AppendsItem};
 ghost use Rattle.trace_session.specs.Gated.{LetsPass, Stops, commands_asked};
-ghost use Rattle.trace_session.specs.Heard.{Hears, heard_of, numbers_in};
+ghost use Rattle.trace_session.specs.Heard.{Hears, IsWrittenFirst, heard_of, numbers_in};
 ghost use Rattle.trace_session.specs.private.HeardItems.{AreInOrder, HasItsLines};
 ghost use Rattle.trace_session.specs.Passes.{IsSessionPass, progress_of};
 ghost use Rattle.trace_session.specs.Sessions.{Progress, turn_of};
@@ -83,7 +83,7 @@ pub(crate) fn do_emission<R: Wait, W: Sink, G>(
     ensures device { IsErrOf result.1 Stop.Device → (g : Config) → IsSessionPass g (view_of pass)
         → AppendsItem g (Single number plain.now.line.now) (progress_of (view_of pass)) (progress_of (view_of result.0))
         (W.contents writer.old) replies.old (W.contents writer.new) }
-    ensures flushed { IfOk result.1 (λ status. IsSome (W.heard writer.old) → status ≢ Status.Done → replies.new ≡ []) }
+    ensures flushed { IfOk result.1 (λ status. IsSome (W.heard writer.old) → IsWrittenFirst W.wants_first status → replies.new ≡ []) }
     ensures unheard { OnErr result.1 (W.heard writer.new ≡ W.heard writer.old) }
     ensures heard { (g : Config) → IsSessionPass g (view_of pass) → OnOk result.1 (Hears (W.heard writer.old) (W.heard writer.new)
         (heard_of number plain.now.line.now (turn_of g (progress_of (view_of pass)) plain.now.line.now).outcome (W.contents writer.new) ∷ [])) }
@@ -130,7 +130,7 @@ fn do_line<R: Wait, W: Sink, G>(
     ensures device { IsErrOf result.1 Stop.Device → (g : Config) → IsSessionPass g (view_of pass)
         → AppendsItem g (Single number line.now) (progress_of (view_of pass)) (progress_of (view_of result.0))
         (W.contents writer.old) replies.old (W.contents writer.new) }
-    ensures flushed { IfOk result.1 (λ status. IsSome (W.heard writer.old) → status ≢ Status.Done → replies.new ≡ []) }
+    ensures flushed { IfOk result.1 (λ status. IsSome (W.heard writer.old) → IsWrittenFirst W.wants_first status → replies.new ≡ []) }
     ensures unheard { OnErr result.1 (W.heard writer.new ≡ W.heard writer.old) }
     ensures heard { (g : Config) → IsSessionPass g (view_of pass) → OnOk result.1 (Hears (W.heard writer.old) (W.heard writer.new)
         (heard_of number line.now (turn_of g (progress_of (view_of pass)) line.now).outcome (W.contents writer.new) ∷ [])) }
@@ -163,7 +163,7 @@ fn do_part<R: thread::Threads + Wait + Sync, W: Sink, G: Gate + Sync>(
     ensures of { IsOf env.now.lock.now result.0 }
     ensures session { (g : Config) → IsSessionPass g (view_of pass) → IsSessionPass g (view_of result.0) }
     ensures done { IfOk result.1 (λ status. (g : Config) → IsSessionPass g (view_of pass)
-        → GivesItem g number (reads.Threads text.entry threads.entry) (progress_of (view_of pass)) (progress_of (view_of result.0)) status
+        → GivesItem g W.wants_first number (reads.Threads text.entry threads.entry) (progress_of (view_of pass)) (progress_of (view_of result.0)) status
         (W.contents writer.old) replies.old (W.contents writer.new) replies.new (W.heard writer.old) (W.heard writer.new)) }
     ensures failures { OnOk result.1 (W.failures writer.new ≡ W.failures writer.old) }
     ensures memory { IsErrOf result.1 Stop.Memory
@@ -209,7 +209,7 @@ fn do_fault<W: Sink>(
     ensures risen { IsErrOf result Stop.Device → HasRisen (W.failures writer.old) (W.failures writer.new) }
     ensures device { IsErrOf result Stop.Device → (g : Config) (before : Progress)
         → AppendsItem g (Faulty at) before before (W.contents writer.old) replies.old (W.contents writer.new) }
-    ensures flushed { IfOk result (λ status. IsSome (W.heard writer.old) → status ≢ Status.Done → replies.new ≡ []) }
+    ensures flushed { IfOk result (λ status. IsSome (W.heard writer.old) → IsWrittenFirst W.wants_first status → replies.new ≡ []) }
     ensures unheard { OnErr result (W.heard writer.new ≡ W.heard writer.old) }
     ensures heard { OnOk result (Hears (W.heard writer.old) (W.heard writer.new)
         (heard_of at.number line.now (Some (Outcome.Fault at.fault)) (W.contents writer.new) ∷ [])) }
@@ -238,7 +238,7 @@ pub(crate) fn do_item<R: thread::Threads + Wait + Sync, W: Sink, G: Gate + Sync>
     ensures of { IsOf env.now.lock.now result.0 }
     ensures session { (g : Config) → IsSessionPass g (view_of pass) → IsSessionPass g (view_of result.0) }
     ensures done { IfOk result.1 (λ status. (g : Config) → IsSessionPass g (view_of pass)
-        → GivesItem g number item.entry (progress_of (view_of pass)) (progress_of (view_of result.0)) status
+        → GivesItem g W.wants_first number item.entry (progress_of (view_of pass)) (progress_of (view_of result.0)) status
         (W.contents writer.old) replies.old (W.contents writer.new) replies.new (W.heard writer.old) (W.heard writer.new)) }
     ensures failures { OnOk result.1 (W.failures writer.new ≡ W.failures writer.old) }
     ensures memory { IsErrOf result.1 Stop.Memory

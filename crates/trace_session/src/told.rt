@@ -1,10 +1,10 @@
 //! Outcomes of lines and parts, written and told to a writer that hears.
 
-ghost use Rattle.std.specs.Prelude.{◌≡◌, ◌≢◌, ◌≤◌, ◌↔◌, ℕ, List, [], ◌∷◌, ◌++◌, map, IfOk, IsSome, OnOk, OnErr, IsErrOf};
+ghost use Rattle.std.specs.Prelude.{◌≡◌, ◌≤◌, ◌↔◌, ℕ, List, [], ◌∷◌, ◌++◌, map, IfOk, IsSome, OnOk, OnErr, IsErrOf};
 ghost use Rattle.trace_items.specs.ScriptLines.{lines_of};
 ghost use Rattle.trace_items.specs.Sources.{HasRisen};
 ghost use Rattle.trace_session.specs.Devices.{AppendsFront, Passes};
-ghost use Rattle.trace_session.specs.Heard.{Hears, heard_of};
+ghost use Rattle.trace_session.specs.Heard.{Hears, IsWrittenFirst, heard_of};
 ghost use Rattle.trace_session.specs.private.HeardItems.{AreInOrder, IsLeft, heard_each, left_at};
 ghost use Rattle.trace_session.specs.Sessions.{text_of, status_of};
 
@@ -33,7 +33,7 @@ fn line_status(outcome: &Option<Outcome>) -> Status
 /// output first.
 fn write_before<W: Sink>(status: Status, waiting: &mut Replies, writer: &mut W) -> Result<(), Stop>
     ensures written { OnOk result (Passes (W.contents writer.old) waiting.old (W.contents writer.new) waiting.new []) }
-    ensures all { OnOk result (status ≢ Status.Done → waiting.new ≡ []) }
+    ensures all { OnOk result (IsWrittenFirst W.wants_first status → waiting.new ≡ []) }
     ensures failures { OnOk result (W.failures writer.new ≡ W.failures writer.old) }
     ensures memory { IsErrOf result Stop.Memory → ⊥ }
     ensures stopped { IsErrOf result Stop.Stopped → ⊥ }
@@ -63,7 +63,7 @@ fn tell<W: Sink>(
         × AppendsFront (W.contents writer.old) (W.contents writer.new) replies.old) }
     ensures heard { OnOk result (Hears (W.heard writer.old) (W.heard writer.new)
         (heard_of number line.now outcome.now (W.contents writer.new) ∷ [])) }
-    ensures all { OnOk result (IsSome (W.heard writer.old) → status_of (outcome.now ∷ []) ≢ Status.Done → replies.new ≡ []) }
+    ensures all { OnOk result (IsSome (W.heard writer.old) → IsWrittenFirst W.wants_first (status_of (outcome.now ∷ [])) → replies.new ≡ []) }
     ensures unheard { OnErr result (W.heard writer.new ≡ W.heard writer.old) }
 {
     if !writer.hears() {
@@ -98,7 +98,7 @@ pub(crate) fn give<W: Sink>(
         × AppendsFront (W.contents writer.old) (W.contents writer.new) (replies.old ++ text_of number outcome.now) }
     ensures heard { OnOk result (Hears (W.heard writer.old) (W.heard writer.new)
         (heard_of number line.now outcome.now (W.contents writer.new) ∷ [])) }
-    ensures all { OnOk result (IsSome (W.heard writer.old) → status_of (outcome.now ∷ []) ≢ Status.Done → replies.new ≡ []) }
+    ensures all { OnOk result (IsSome (W.heard writer.old) → IsWrittenFirst W.wants_first (status_of (outcome.now ∷ [])) → replies.new ≡ []) }
     ensures unheard { OnErr result (W.heard writer.new ≡ W.heard writer.old) }
 {
     write_outcome(alloc, number, outcome, replies, writer)?;
@@ -155,7 +155,7 @@ fn tell_part<W: Sink>(
         × AppendsFront (W.contents writer.old) (W.contents writer.new) waiting.old) }
     ensures heard { OnOk result (Hears (W.heard writer.old) (W.heard writer.new)
         (heard_each number (lines_of text.now) (W.contents writer.new) outcomes.items)) }
-    ensures all { OnOk result (IsSome (W.heard writer.old) → status ≢ Status.Done → waiting.new ≡ []) }
+    ensures all { OnOk result (IsSome (W.heard writer.old) → IsWrittenFirst W.wants_first status → waiting.new ≡ []) }
     ensures unheard { OnErr result (W.heard writer.new ≡ W.heard writer.old) }
 {
     if !writer.hears() {
@@ -186,7 +186,7 @@ pub(crate) fn give_part<W: Sink>(
         × AppendsFront (W.contents writer.old) (W.contents writer.new) (replies.old ++ given.text.items) }
     ensures heard { OnOk result (Hears (W.heard writer.old) (W.heard writer.new)
         (heard_each number (lines_of text.now) (W.contents writer.new) given.outcomes.items)) }
-    ensures all { OnOk result (IsSome (W.heard writer.old) → given.status ≢ Status.Done → replies.new ≡ []) }
+    ensures all { OnOk result (IsSome (W.heard writer.old) → IsWrittenFirst W.wants_first given.status → replies.new ≡ []) }
     ensures unheard { OnErr result (W.heard writer.new ≡ W.heard writer.old) }
 {
     let PartOutput {

@@ -1,6 +1,6 @@
 //! A session's output, with each histogram that is read drawn as bars beside it.
 
-ghost use Rattle.std.specs.Prelude.{◌≡◌};
+ghost use Rattle.std.specs.Prelude.{◌≡◌, true};
 
 use crate::bars::bars_of;
 use std::alloc::{AllocError, Global};
@@ -78,6 +78,8 @@ impl<S: Sink, E: Write> Sink for Drawn<S, E> {
     ghost failures = { λ drawn. S.failures drawn.output };
 
     ghost heard = { λ drawn. S.heard drawn.output };
+
+    ghost wants_first = { true };
 
     fn write(&mut self, buf: &[u8]) -> io::Result<usize> {
         self.output.write(buf)

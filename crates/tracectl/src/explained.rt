@@ -1,6 +1,6 @@
 //! A session's output, with what is wrong with each refused line told beside it.
 
-ghost use Rattle.std.specs.Prelude.{◌≡◌, None, OnOk};
+ghost use Rattle.std.specs.Prelude.{◌≡◌, false, None, OnOk};
 ghost use Rattle.std.specs.Io.KnownBytes.{Appends};
 ghost use Rattle.trace_explain.specs.Events.{known_after};
 ghost use Rattle.trace_explain.specs.Explanations.{explanation};
@@ -66,12 +66,18 @@ impl<'a, S: Sink, E: Write> Sink for Explained<'a, S, E> {
 
     ghost heard = { λ _. None };
 
+    ghost wants_first = { false };
+
     fn write(&mut self, buf: &[u8]) -> io::Result<usize> {
         self.output.write(buf)
     }
 
     fn hears(&self) -> bool {
         true
+    }
+
+    fn wants_output_first(&self) -> bool {
+        false
     }
 
     fn hear(&mut self, number: usize, line: &[u8], outcome: &Option<Outcome>) {

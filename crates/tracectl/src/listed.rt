@@ -65,6 +65,8 @@ impl<S: Sink> Sink for Listed<S> {
 
     ghost heard = { λ listed. S.heard listed.output };
 
+    ghost wants_first = { S.wants_first };
+
     fn write(&mut self, buf: &[u8]) -> io::Result<usize> {
         self.output.write(buf)
     }

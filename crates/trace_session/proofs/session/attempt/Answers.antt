@@ -29,11 +29,11 @@ on_ok : {T E : Type 0} (result : Result T E) {P : Type 0} → P → OnOk result 
 on_ok (Ok value) holds = holds
 on_ok (Err error) holds = tt
 
-session_of : (may : ℕ → ℕ → Point → Bool → Type 0) (ran : Result Status Stop) (given gives : List ℕ) (bytes : Option (List ℕ)) (script : List ℕ) (config : Config) (seated : Config → Type 0) (old new : Option (List ℕ)) (heard hears : Option (List Heard))
-    → gives ≡ given ++ script → IfSome bytes (λ known. script ≡ known) → seated config → IfOk ran (λ status. (g : Config) → seated g → AppendsSession g may script status old new heard hears)
-    → IfOk ran (λ status. GivesScript given gives bytes (λ known. AppendsSession config may known status old new heard hears))
-session_of may (Ok status) given gives bytes script config seated old new heard hears told read seat ok = script_given given gives bytes script (λ known. AppendsSession config may known status old new heard hears) told read (ok config seat)
-session_of may (Err stop) given gives bytes script config seated old new heard hears told read seat ok = tt
+session_of : (may : ℕ → ℕ → Point → Bool → Type 0) (wants : Bool) (ran : Result Status Stop) (given gives : List ℕ) (bytes : Option (List ℕ)) (script : List ℕ) (config : Config) (seated : Config → Type 0) (old new : Option (List ℕ)) (heard hears : Option (List Heard))
+    → gives ≡ given ++ script → IfSome bytes (λ known. script ≡ known) → seated config → IfOk ran (λ status. (g : Config) → seated g → AppendsSession g may wants script status old new heard hears)
+    → IfOk ran (λ status. GivesScript given gives bytes (λ known. AppendsSession config may wants known status old new heard hears))
+session_of may wants (Ok status) given gives bytes script config seated old new heard hears told read seat ok = script_given given gives bytes script (λ known. AppendsSession config may wants known status old new heard hears) told read (ok config seat)
+session_of may wants (Err stop) given gives bytes script config seated old new heard hears told read seat ok = tt
 
 -- why the call failed is why the session did
 moved : {T : Type 0} (call : Result T Stop) (ran : Result Status Stop) (before after stop : Stop) → call ≡ Err before → ran ≡ Err after → after ≡ before → IsErrOf ran stop
@@ -49,14 +49,14 @@ either (inl failed) = inl failed.0
 either (inr long) = inr (inr long)
 
 -- nothing is written of what was read
-nothing_of : (config : Config) (may : ℕ → ℕ → Point → Bool → Type 0) (given gives : List ℕ) (old : Option (List ℕ)) (first : Option (List Heard)) → GivesAtMost 16777216 given gives
-    → Gives given gives (λ script. (length script ≤ 16777216) × AppendsBegun config may script old old first first)
-nothing_of config may given gives old first (more, e, short) = (more, e, (short, nothing_begun config may (Some more) old first))
+nothing_of : (config : Config) (may : ℕ → ℕ → Point → Bool → Type 0) (wants : Bool) (given gives : List ℕ) (old : Option (List ℕ)) (first : Option (List Heard)) → GivesAtMost 16777216 given gives
+    → Gives given gives (λ script. (length script ≤ 16777216) × AppendsBegun config may wants script old old first first)
+nothing_of config may wants given gives old first (more, e, short) = (more, e, (short, nothing_begun config may wants (Some more) old first))
 
-no_front_of : (config : Config) (may : ℕ → ℕ → Point → Bool → Type 0) (given gives : List ℕ) (bytes old : Option (List ℕ)) (first : Option (List Heard)) {A : Type 0} → (A × GivesAtMost 16777216 given gives) ⊎ GivesMore 16777216 given gives bytes
-    → Gives given gives (λ script. AppendsBegunFront config may script old old first first)
-no_front_of config may given gives bytes old first (inl (failed, (more, e, short))) = (more, e, nothing_begun_front config may (Some more) old first)
-no_front_of config may given gives bytes old first (inr (more, e, long)) = (more, e, nothing_begun_front config may (Some more) old first)
+no_front_of : (config : Config) (may : ℕ → ℕ → Point → Bool → Type 0) (wants : Bool) (given gives : List ℕ) (bytes old : Option (List ℕ)) (first : Option (List Heard)) {A : Type 0} → (A × GivesAtMost 16777216 given gives) ⊎ GivesMore 16777216 given gives bytes
+    → Gives given gives (λ script. AppendsBegunFront config may wants script old old first first)
+no_front_of config may wants given gives bytes old first (inl (failed, (more, e, short))) = (more, e, nothing_begun_front config may wants (Some more) old first)
+no_front_of config may wants given gives bytes old first (inr (more, e, long)) = (more, e, nothing_begun_front config may wants (Some more) old first)
 
 -- ---- no book
 
@@ -75,8 +75,8 @@ returns-in_err-lock g c =
       short = rw p.1 tt;
       reads = rw p.1 tt;
       writes = rw p.1 tt;
-      memory = λ _. nothing_begun c.args.config (g.G.Gate.may_answer c.args.gate.now) remaining contents (g.W.Sink.heard c.args.writer.now);
-      begun = λ _. nothing_of c.args.config (g.G.Gate.may_answer c.args.gate.now) given given contents (g.W.Sink.heard c.args.writer.now) ([], sym (append-nil given), omega arith);
+      memory = λ _. nothing_begun c.args.config (g.G.Gate.may_answer c.args.gate.now) g.W.Sink.wants_first remaining contents (g.W.Sink.heard c.args.writer.now);
+      begun = λ _. nothing_of c.args.config (g.G.Gate.may_answer c.args.gate.now) g.W.Sink.wants_first given given contents (g.W.Sink.heard c.args.writer.now) ([], sym (append-nil given), omega arith);
       unread = λ _. refl;
       unfailed = λ _. refl;
       consumed = λ _. search rules;
@@ -87,7 +87,7 @@ returns-in_err-lock g c =
       stopped_short = λ is. absurd (made.stopped (moved c.new_book.result c.from_residual.result _ p.0 Stopped c.in_err-lock.was p.1 p.2 is));
       stopped_reads = λ _. refl;
       stopped_writes = λ _. refl;
-      device = λ _. nothing_begun_front c.args.config (g.G.Gate.may_answer c.args.gate.now) remaining contents (g.W.Sink.heard c.args.writer.now);
+      device = λ _. nothing_begun_front c.args.config (g.G.Gate.may_answer c.args.gate.now) g.W.Sink.wants_first remaining contents (g.W.Sink.heard c.args.writer.now);
       front = λ is. absurd (made.device (moved c.new_book.result c.from_residual.result _ p.0 Device c.in_err-lock.was p.1 p.2 is));
       unwritten = λ _. inr (Appends_nothing contents);
       only = λ is. absurd (made.device (moved c.new_book.result c.from_residual.result _ p.0 Device c.in_err-lock.was p.1 p.2 is));
@@ -111,8 +111,8 @@ returns-in_err-script g c =
       short = rw p.1 tt;
       reads = rw p.1 tt;
       writes = rw p.1 tt;
-      memory = λ _. nothing_begun c.args.config (g.G.Gate.may_answer c.args.gate.now) remaining contents (g.W.Sink.heard c.args.writer.now);
-      begun = λ is. nothing_of c.args.config (g.G.Gate.may_answer c.args.gate.now) given gives contents (g.W.Sink.heard c.args.writer.now) (read.memory (moved c.read_script.result c.from_residual-in_err-script.result _ p.0 Memory c.in_err-script.was p.1 p.2 is)).2;
+      memory = λ _. nothing_begun c.args.config (g.G.Gate.may_answer c.args.gate.now) g.W.Sink.wants_first remaining contents (g.W.Sink.heard c.args.writer.now);
+      begun = λ is. nothing_of c.args.config (g.G.Gate.may_answer c.args.gate.now) g.W.Sink.wants_first given gives contents (g.W.Sink.heard c.args.writer.now) (read.memory (moved c.read_script.result c.from_residual-in_err-script.result _ p.0 Memory c.in_err-script.was p.1 p.2 is)).2;
       unread = λ is. (read.memory (moved c.read_script.result c.from_residual-in_err-script.result _ p.0 Memory c.in_err-script.was p.1 p.2 is)).0;
       unfailed = λ _. refl;
       consumed = λ is. (read.memory (moved c.read_script.result c.from_residual-in_err-script.result _ p.0 Memory c.in_err-script.was p.1 p.2 is)).1;
@@ -123,8 +123,8 @@ returns-in_err-script g c =
       stopped_short = λ is. absurd (read.stopped (moved c.read_script.result c.from_residual-in_err-script.result _ p.0 Stopped c.in_err-script.was p.1 p.2 is));
       stopped_reads = λ is. absurd (read.stopped (moved c.read_script.result c.from_residual-in_err-script.result _ p.0 Stopped c.in_err-script.was p.1 p.2 is));
       stopped_writes = λ _. refl;
-      device = λ _. nothing_begun_front c.args.config (g.G.Gate.may_answer c.args.gate.now) remaining contents (g.W.Sink.heard c.args.writer.now);
-      front = λ is. no_front_of c.args.config (g.G.Gate.may_answer c.args.gate.now) given gives remaining contents (g.W.Sink.heard c.args.writer.now) (read.device (moved c.read_script.result c.from_residual-in_err-script.result _ p.0 Device c.in_err-script.was p.1 p.2 is));
+      device = λ _. nothing_begun_front c.args.config (g.G.Gate.may_answer c.args.gate.now) g.W.Sink.wants_first remaining contents (g.W.Sink.heard c.args.writer.now);
+      front = λ is. no_front_of c.args.config (g.G.Gate.may_answer c.args.gate.now) g.W.Sink.wants_first given gives remaining contents (g.W.Sink.heard c.args.writer.now) (read.device (moved c.read_script.result c.from_residual-in_err-script.result _ p.0 Device c.in_err-script.was p.1 p.2 is));
       unwritten = λ _. inr (Appends_nothing contents);
       only = λ is. either (read.device (moved c.read_script.result c.from_residual-in_err-script.result _ p.0 Device c.in_err-script.was p.1 p.2 is));
     }
@@ -134,14 +134,14 @@ returns-in_err-script g c =
 pub returns-clause-session : goal.returns-clause-session
 returns-clause-session g c =
     let contents = g.W.Sink.contents in
-    session_of (g.G.Gate.may_answer c.args.gate.now) c.do_script.result (g.R.Source.given c.args.reader.now) (g.R.Source.given c.read_script.new.reader) (g.R.Source.remaining c.args.reader.now) c.in_ok-script.script.items c.args.config (λ (config : Config). IsSessionPass config (view_of c.in_ok-lock.root))
+    session_of (g.G.Gate.may_answer c.args.gate.now) g.W.Sink.wants_first c.do_script.result (g.R.Source.given c.args.reader.now) (g.R.Source.given c.read_script.new.reader) (g.R.Source.remaining c.args.reader.now) c.in_ok-script.script.items c.args.config (λ (config : Config). IsSessionPass config (view_of c.in_ok-lock.root))
     (contents c.args.writer.now) (contents c.do_script.new.writer) (g.W.Sink.heard c.args.writer.now) (g.W.Sink.heard c.do_script.new.writer) c.in_ok-script.ensures.given c.in_ok-script.ensures.script c.in_ok-lock.ensures.session (rw c.deref.ensures.value at c.do_script.ensures.ok)
 
 pub returns-clause-memory : goal.returns-clause-memory
 returns-clause-memory g c h =
     let contents = g.W.Sink.contents in
     of_bytes (g.R.Source.remaining c.args.reader.now) c.in_ok-script.script.items
-    (λ (known : List ℕ). AppendsBegun c.args.config (g.G.Gate.may_answer c.args.gate.now) known (contents c.args.writer.now) (contents c.do_script.new.writer)
+    (λ (known : List ℕ). AppendsBegun c.args.config (g.G.Gate.may_answer c.args.gate.now) g.W.Sink.wants_first known (contents c.args.writer.now) (contents c.do_script.new.writer)
     (g.W.Sink.heard c.args.writer.now) (g.W.Sink.heard c.do_script.new.writer)) c.in_ok-script.ensures.script
     (rw c.deref.ensures.value at c.do_script.ensures.memory h c.args.config c.in_ok-lock.ensures.session)
 
@@ -149,7 +149,7 @@ pub returns-clause-stopped : goal.returns-clause-stopped
 returns-clause-stopped g c h =
     let contents = g.W.Sink.contents in
     script_given (g.R.Source.given c.args.reader.now) (g.R.Source.given c.read_script.new.reader) (g.R.Source.remaining c.args.reader.now) c.in_ok-script.script.items
-    (λ (known : List ℕ). AppendsStopped c.args.config (g.G.Gate.may_answer c.args.gate.now) known (contents c.args.writer.now) (contents c.do_script.new.writer)
+    (λ (known : List ℕ). AppendsStopped c.args.config (g.G.Gate.may_answer c.args.gate.now) g.W.Sink.wants_first known (contents c.args.writer.now) (contents c.do_script.new.writer)
     (g.W.Sink.heard c.args.writer.now) (g.W.Sink.heard c.do_script.new.writer)) c.in_ok-script.ensures.given c.in_ok-script.ensures.script
     (rw c.deref.ensures.value at c.do_script.ensures.stopped h c.args.config c.in_ok-lock.ensures.session)
 
@@ -157,7 +157,7 @@ pub returns-clause-device : goal.returns-clause-device
 returns-clause-device g c h =
     let contents = g.W.Sink.contents in
     of_bytes (g.R.Source.remaining c.args.reader.now) c.in_ok-script.script.items
-    (λ (known : List ℕ). AppendsBegunFront c.args.config (g.G.Gate.may_answer c.args.gate.now) known (contents c.args.writer.now) (contents c.do_script.new.writer)
+    (λ (known : List ℕ). AppendsBegunFront c.args.config (g.G.Gate.may_answer c.args.gate.now) g.W.Sink.wants_first known (contents c.args.writer.now) (contents c.do_script.new.writer)
     (g.W.Sink.heard c.args.writer.now) (g.W.Sink.heard c.do_script.new.writer)) c.in_ok-script.ensures.script
     (rw c.deref.ensures.value at c.do_script.ensures.device h c.args.config c.in_ok-lock.ensures.session)
 

@@ -17,7 +17,7 @@ loop-rest-init g c = record {
   seated = λ config seat. seat;
   stands = λ config seat.
       rw c.requires.none
-      (begins config (g.G.Gate.may_answer c.args.env.now.gate.now) c.args.script.now (g.W.Sink.contents c.args.writer.now) (g.W.Sink.heard c.args.writer.now) (progress_of (view_of c.args.pass)) c.requires.begins);
+      (begins config (g.G.Gate.may_answer c.args.env.now.gate.now) g.W.Sink.wants_first c.args.script.now (g.W.Sink.contents c.args.writer.now) (g.W.Sink.heard c.args.writer.now) (progress_of (view_of c.args.pass)) c.requires.begins);
   room = omega arith;
   unfailed = refl;
 }
@@ -28,7 +28,7 @@ pub returns-in_default-plain_item-clause-memory : goal.returns-in_default-plain_
 returns-in_default-plain_item-clause-memory g c h config seat =
     let contents = g.W.Sink.contents in
     let heard = g.W.Sink.heard in
-    at_stop_here config (g.G.Gate.may_answer c.args.env.now.gate.now) c.args.script.now (contents c.args.writer.now) (contents c.loop-rest.writer) c.loop-rest.replies
+    at_stop_here config (g.G.Gate.may_answer c.args.env.now.gate.now) g.W.Sink.wants_first c.args.script.now (contents c.args.writer.now) (contents c.loop-rest.writer) c.loop-rest.replies
     (heard c.args.writer.now) (heard c.loop-rest.writer) (progress_of (view_of c.loop-rest.pass)) c.in-Some.text.now
     c.loop-rest.number c.loop-rest.status (rw c.in-Some.is at c.loop-rest.invariant.stands config seat)
 
@@ -37,7 +37,7 @@ returns-in_err-done-clause-memory g c h config seat =
     let contents = g.W.Sink.contents in
     let heard = g.W.Sink.heard in
     let p = err_from_is_err_and c.from_residual.result c.from_residual.ensures.1 in
-    at_stop config (g.G.Gate.may_answer c.args.env.now.gate.now) c.args.script.now (contents c.args.writer.now) (contents c.loop-rest.writer) c.loop-rest.replies
+    at_stop config (g.G.Gate.may_answer c.args.env.now.gate.now) g.W.Sink.wants_first c.args.script.now (contents c.args.writer.now) (contents c.loop-rest.writer) c.loop-rest.replies
     (heard c.args.writer.now) (heard c.loop-rest.writer) (progress_of (view_of c.loop-rest.pass)) c.in-Some.text.now
     c.loop-rest.number c.loop-rest.status (rw c.in-Some.is at c.loop-rest.invariant.stands config seat)
     (contents c.do_emission-back.new.writer) c.do_emission-back.new.replies (heard c.do_emission-back.new.writer)
@@ -53,7 +53,7 @@ returns-in_err-done-clause-device g c h config seat =
     let contents = g.W.Sink.contents in
     let heard = g.W.Sink.heard in
     let p = err_from_is_err_and c.from_residual.result c.from_residual.ensures.1 in
-    at_device config (g.G.Gate.may_answer c.args.env.now.gate.now) c.args.script.now (contents c.args.writer.now) (contents c.loop-rest.writer) c.loop-rest.replies
+    at_device config (g.G.Gate.may_answer c.args.env.now.gate.now) g.W.Sink.wants_first c.args.script.now (contents c.args.writer.now) (contents c.loop-rest.writer) c.loop-rest.replies
     (heard c.args.writer.now) (heard c.loop-rest.writer) (progress_of (view_of c.loop-rest.pass)) c.in-Some.text.now
     c.loop-rest.number c.loop-rest.status (rw c.in-Some.is at c.loop-rest.invariant.stands config seat)
     (Single c.loop-rest.number c.in-Some-found.plain.line.now) (option_copied c.in-Some-found.plain.rest) (c.loop-rest.number + 1)
@@ -74,7 +74,7 @@ loop-rest-preserved-in-Some-found g c =
       stands = λ config seat.
           let stands = rw c.in-Some.is at c.loop-rest.invariant.stands config seat in
           let gave = (rw c.in_ok-done.was at done.done) config (c.loop-rest.invariant.seated config seat) in
-          keeps config (g.G.Gate.may_answer c.args.env.now.gate.now) c.args.script.now (contents c.args.writer.now) (contents c.loop-rest.writer) c.loop-rest.replies
+          keeps config (g.G.Gate.may_answer c.args.env.now.gate.now) g.W.Sink.wants_first c.args.script.now (contents c.args.writer.now) (contents c.loop-rest.writer) c.loop-rest.replies
           (heard c.args.writer.now) (heard c.loop-rest.writer) (progress_of (view_of c.loop-rest.pass)) c.in-Some.text.now
           c.loop-rest.number c.loop-rest.status stands
           (Single c.loop-rest.number c.in-Some-found.plain.line.now) (option_copied c.in-Some-found.plain.rest) (c.loop-rest.number + 1)
@@ -100,7 +100,7 @@ pub returns-in_default-next_item-clause-memory : goal.returns-in_default-next_it
 returns-in_default-next_item-clause-memory g c h config seat =
     let contents = g.W.Sink.contents in
     let heard = g.W.Sink.heard in
-    at_stop_here config (g.G.Gate.may_answer c.args.env.now.gate.now) c.args.script.now (contents c.args.writer.now) (contents c.loop-rest.writer) c.loop-rest.replies
+    at_stop_here config (g.G.Gate.may_answer c.args.env.now.gate.now) g.W.Sink.wants_first c.args.script.now (contents c.args.writer.now) (contents c.loop-rest.writer) c.loop-rest.replies
     (heard c.args.writer.now) (heard c.loop-rest.writer) (progress_of (view_of c.loop-rest.pass)) c.in-Some.text.now
     c.loop-rest.number c.loop-rest.status (rw c.in-Some.is at c.loop-rest.invariant.stands config seat)
 
@@ -109,7 +109,7 @@ do_item-back-requires-clause-few g c κs within =
     let contents = g.W.Sink.contents in
     let heard = g.W.Sink.heard in
     let config = c.requires.session.0 in
-    few config (g.G.Gate.may_answer c.args.env.now.gate.now) c.args.script.now (contents c.args.writer.now) (contents c.loop-rest.writer) c.loop-rest.replies
+    few config (g.G.Gate.may_answer c.args.env.now.gate.now) g.W.Sink.wants_first c.args.script.now (contents c.args.writer.now) (contents c.loop-rest.writer) c.loop-rest.replies
     (heard c.args.writer.now) (heard c.loop-rest.writer) (progress_of (view_of c.loop-rest.pass)) c.in-Some.text.now
     c.loop-rest.number c.loop-rest.status (rw c.in-Some.is at c.loop-rest.invariant.stands config c.requires.session.1)
     (item_read c.loop-rest.number c.in-Ok-next_item.next.item) (option_copied c.in-Ok-next_item.next.rest) c.in-Ok-next_item.next.number c.in-Ok-next_item.ensures.read
@@ -123,7 +123,7 @@ returns-in_err-item_status-clause-memory g c h config seat =
     let contents = g.W.Sink.contents in
     let heard = g.W.Sink.heard in
     let p = err_from_is_err_and c.from_residual-in_err-item_status.result c.from_residual-in_err-item_status.ensures.1 in
-    at_stop config (g.G.Gate.may_answer c.args.env.now.gate.now) c.args.script.now (contents c.args.writer.now) (contents c.loop-rest.writer) c.loop-rest.replies
+    at_stop config (g.G.Gate.may_answer c.args.env.now.gate.now) g.W.Sink.wants_first c.args.script.now (contents c.args.writer.now) (contents c.loop-rest.writer) c.loop-rest.replies
     (heard c.args.writer.now) (heard c.loop-rest.writer) (progress_of (view_of c.loop-rest.pass)) c.in-Some.text.now
     c.loop-rest.number c.loop-rest.status (rw c.in-Some.is at c.loop-rest.invariant.stands config seat)
     (contents c.do_item-back.new.writer) c.do_item-back.new.replies (heard c.do_item-back.new.writer)
@@ -134,7 +134,7 @@ returns-in_err-item_status-clause-stopped g c h config seat =
     let contents = g.W.Sink.contents in
     let heard = g.W.Sink.heard in
     let p = err_from_is_err_and c.from_residual-in_err-item_status.result c.from_residual-in_err-item_status.ensures.1 in
-    at_part config (g.G.Gate.may_answer c.args.env.now.gate.now) c.args.script.now (contents c.args.writer.now) (contents c.loop-rest.writer) c.loop-rest.replies
+    at_part config (g.G.Gate.may_answer c.args.env.now.gate.now) g.W.Sink.wants_first c.args.script.now (contents c.args.writer.now) (contents c.loop-rest.writer) c.loop-rest.replies
     (heard c.args.writer.now) (heard c.loop-rest.writer) (progress_of (view_of c.loop-rest.pass)) c.in-Some.text.now
     c.loop-rest.number c.loop-rest.status (rw c.in-Some.is at c.loop-rest.invariant.stands config seat)
     (item_read c.loop-rest.number c.in-Ok-next_item.next.item) (option_copied c.in-Ok-next_item.next.rest) c.in-Ok-next_item.next.number c.in-Ok-next_item.ensures.read
@@ -147,7 +147,7 @@ returns-in_err-item_status-clause-device g c h config seat =
     let contents = g.W.Sink.contents in
     let heard = g.W.Sink.heard in
     let p = err_from_is_err_and c.from_residual-in_err-item_status.result c.from_residual-in_err-item_status.ensures.1 in
-    at_device config (g.G.Gate.may_answer c.args.env.now.gate.now) c.args.script.now (contents c.args.writer.now) (contents c.loop-rest.writer) c.loop-rest.replies
+    at_device config (g.G.Gate.may_answer c.args.env.now.gate.now) g.W.Sink.wants_first c.args.script.now (contents c.args.writer.now) (contents c.loop-rest.writer) c.loop-rest.replies
     (heard c.args.writer.now) (heard c.loop-rest.writer) (progress_of (view_of c.loop-rest.pass)) c.in-Some.text.now
     c.loop-rest.number c.loop-rest.status (rw c.in-Some.is at c.loop-rest.invariant.stands config seat)
     (item_read c.loop-rest.number c.in-Ok-next_item.next.item) (option_copied c.in-Ok-next_item.next.rest) c.in-Ok-next_item.next.number c.in-Ok-next_item.ensures.read
@@ -164,7 +164,7 @@ returns-in-Fault-clause-ok g c config seat =
     let item = c.in-Ok-next_item.next.item in
     let stands = rw c.in-Some.is at c.loop-rest.invariant.stands config seat in
     let gave = (rw c.in_ok-item_status.was at c.do_item-back.ensures.done) config (c.loop-rest.invariant.seated config seat) in
-    at_fault config (g.G.Gate.may_answer c.args.env.now.gate.now) c.args.script.now (contents c.args.writer.now) (contents c.loop-rest.writer) c.loop-rest.replies
+    at_fault config (g.G.Gate.may_answer c.args.env.now.gate.now) g.W.Sink.wants_first c.args.script.now (contents c.args.writer.now) (contents c.loop-rest.writer) c.loop-rest.replies
     (heard c.args.writer.now) (heard c.loop-rest.writer) (progress_of (view_of c.loop-rest.pass)) c.in-Some.text.now
     c.loop-rest.number c.loop-rest.status stands
     (item_read c.loop-rest.number item) (option_copied c.in-Ok-next_item.next.rest) c.in-Ok-next_item.next.number read.read
@@ -189,7 +189,7 @@ loop-rest-preserved g c =
       stands = λ config seat.
           let stands = rw c.in-Some.is at c.loop-rest.invariant.stands config seat in
           let gave = (rw c.in_ok-item_status.was at done.done) config (c.loop-rest.invariant.seated config seat) in
-          keeps config (g.G.Gate.may_answer c.args.env.now.gate.now) c.args.script.now (contents c.args.writer.now) (contents c.loop-rest.writer) c.loop-rest.replies
+          keeps config (g.G.Gate.may_answer c.args.env.now.gate.now) g.W.Sink.wants_first c.args.script.now (contents c.args.writer.now) (contents c.loop-rest.writer) c.loop-rest.replies
           (heard c.args.writer.now) (heard c.loop-rest.writer) (progress_of (view_of c.loop-rest.pass)) c.in-Some.text.now
           c.loop-rest.number c.loop-rest.status stands
           (item_read c.loop-rest.number item) (option_copied c.in-Ok-next_item.next.rest) c.in-Ok-next_item.next.number read.read
@@ -211,6 +211,6 @@ pub returns-clause-ok : goal.returns-clause-ok
 returns-clause-ok g c config seat =
     let contents = g.W.Sink.contents in
     let heard = g.W.Sink.heard in
-    at_end config (g.G.Gate.may_answer c.args.env.now.gate.now) c.args.script.now (contents c.args.writer.now) (contents c.loop-rest.writer) c.loop-rest.replies
+    at_end config (g.G.Gate.may_answer c.args.env.now.gate.now) g.W.Sink.wants_first c.args.script.now (contents c.args.writer.now) (contents c.loop-rest.writer) c.loop-rest.replies
     (heard c.args.writer.now) (heard c.loop-rest.writer) (progress_of (view_of c.loop-rest.pass)) c.loop-rest.number c.loop-rest.status
     (rw c.in_default.is at c.loop-rest.invariant.stands config seat)

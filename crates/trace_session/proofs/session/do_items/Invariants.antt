@@ -15,7 +15,7 @@ invariant-loop-rest g l =
       of : IsOf l.env.lock.now l.pass;
       seated : (config : Config) → IsSessionPass config (view_of l.fn.pass) → IsSessionPass config (view_of l.pass);
       stands : (config : Config) → IsSessionPass config (view_of l.fn.pass)
-          → Stands config (g.G.Gate.may_answer l.env.gate.now) l.script (contents l.fn.writer) (contents l.writer) l.replies
+          → Stands config (g.G.Gate.may_answer l.env.gate.now) g.W.Sink.wants_first l.script (contents l.fn.writer) (contents l.writer) l.replies
           (g.W.Sink.heard l.fn.writer) (g.W.Sink.heard l.writer) (progress_of (view_of l.pass)) (option_copied l.rest) l.number l.status;
       room : l.number + bytes_left (option_copied l.rest) ≤ length l.script + 2;
       unfailed : failures l.writer ≡ failures l.fn.writer;

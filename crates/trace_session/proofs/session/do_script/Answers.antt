@@ -23,22 +23,22 @@ moved call ran before after stop was came same is =
     let one : stop ≡ before = cc in
     was ∙ ap (λ (x : Stop). Err x) (sym one)
 
-module _ (may : ℕ → ℕ → Point → Bool → Type 0) (seated : Config → Type 0) (script : List ℕ) (before now new : Option (List ℕ)) (waiting : List ℕ)
+module _ (may : ℕ → ℕ → Point → Bool → Type 0) (wants : Bool) (seated : Config → Type 0) (script : List ℕ) (before now new : Option (List ℕ)) (waiting : List ℕ)
     (first hears hears_new : Option (List Heard)) (unheard : hears_new ≡ hears) where
   cut : (ran : Result Status Stop) → ran ≢ Err Device
-      → IfOk ran (λ status. (config : Config) → seated config → PassesSession config may script status before now waiting first hears)
-      → (IsErrOf ran Memory → (config : Config) → seated config → PassesBegun config may script before now waiting first hears)
-      → (IsErrOf ran Stopped → (config : Config) → seated config → PassesStopped config may script before now waiting first hears)
-      → AppendsFront now new waiting → (config : Config) → seated config → AppendsBegunFront config may script before new first hears_new
+      → IfOk ran (λ status. (config : Config) → seated config → PassesSession config may wants script status before now waiting first hears)
+      → (IsErrOf ran Memory → (config : Config) → seated config → PassesBegun config may wants script before now waiting first hears)
+      → (IsErrOf ran Stopped → (config : Config) → seated config → PassesStopped config may wants script before now waiting first hears)
+      → AppendsFront now new waiting → (config : Config) → seated config → AppendsBegunFront config may wants script before new first hears_new
   cut (Ok status) not ok memory stopped more config seat =
-      session_cut config may script before now new waiting first hears hears_new unheard status (ok config seat) more
-  cut (Err Memory) not ok memory stopped more config seat = begun_cut config may script before now new waiting first hears hears_new unheard (memory refl config seat) more
-  cut (Err Stopped) not ok memory stopped more config seat = stopped_cut config may script before now new waiting first hears hears_new unheard (stopped refl config seat) more
+      session_cut config may wants script before now new waiting first hears hears_new unheard status (ok config seat) more
+  cut (Err Memory) not ok memory stopped more config seat = begun_cut config may wants script before now new waiting first hears hears_new unheard (memory refl config seat) more
+  cut (Err Stopped) not ok memory stopped more config seat = stopped_cut config may wants script before now new waiting first hears hears_new unheard (stopped refl config seat) more
   cut (Err Device) not ok memory stopped more config seat = absurd (not refl)
 
-  all : (ran : Result Status Stop) → IfOk ran (λ status. (config : Config) → seated config → PassesSession config may script status before now waiting first hears)
-      → Appends now new waiting → IfOk ran (λ status. (config : Config) → seated config → AppendsSession config may script status before new first hears_new)
-  all (Ok status) ok more = λ config seat. session_flushed config may script before now new waiting first hears hears_new unheard status (ok config seat) more
+  all : (ran : Result Status Stop) → IfOk ran (λ status. (config : Config) → seated config → PassesSession config may wants script status before now waiting first hears)
+      → Appends now new waiting → IfOk ran (λ status. (config : Config) → seated config → AppendsSession config may wants script status before new first hears_new)
+  all (Ok status) ok more = λ config seat. session_flushed config may wants script before now new waiting first hears hears_new unheard status (ok config seat) more
   all (Err stop) ok more = tt
 
 pub returns-in_err-flush-in_default-clause-device : goal.returns-in_err-flush-in_default-clause-device
@@ -46,21 +46,21 @@ returns-in_err-flush-in_default-clause-device g c h =
     let contents = g.W.Sink.contents in
     let heard = g.W.Sink.heard in
     let ran = c.do_items.ensures in
-    cut (g.G.Gate.may_answer c.args.env.now.gate.now) (λ (config : Config). IsSessionPass config (view_of c.args.pass)) c.args.script.now
+    cut (g.G.Gate.may_answer c.args.env.now.gate.now) g.W.Sink.wants_first (λ (config : Config). IsSessionPass config (view_of c.args.pass)) c.args.script.now
     (contents c.args.writer.now) (contents c.do_items.new.writer) (contents c.flush.new.writer) c.do_items.new.replies
     (heard c.args.writer.now) (heard c.do_items.new.writer) (heard c.flush.new.writer) c.flush.ensures.heard c.do_items.result (search rules)
     ran.ok ran.memory ran.stopped c.in_err-flush-in_default.ensures.failed.1
 
 pub returns-in_err-replies-clause-memory : goal.returns-in_err-replies-clause-memory
 returns-in_err-replies-clause-memory g c h config seat =
-    nothing_begun config (g.G.Gate.may_answer c.args.env.now.gate.now) (Some c.args.script.now) (g.W.Sink.contents c.args.writer.now) (g.W.Sink.heard c.args.writer.now)
+    nothing_begun config (g.G.Gate.may_answer c.args.env.now.gate.now) g.W.Sink.wants_first (Some c.args.script.now) (g.W.Sink.contents c.args.writer.now) (g.W.Sink.heard c.args.writer.now)
 
 pub returns-clause-ok : goal.returns-clause-ok
 returns-clause-ok g c =
     let contents = g.W.Sink.contents in
     let heard = g.W.Sink.heard in
     let flushed =
-    all (g.G.Gate.may_answer c.args.env.now.gate.now) (λ (config : Config). IsSessionPass config (view_of c.args.pass)) c.args.script.now
+    all (g.G.Gate.may_answer c.args.env.now.gate.now) g.W.Sink.wants_first (λ (config : Config). IsSessionPass config (view_of c.args.pass)) c.args.script.now
     (contents c.args.writer.now) (contents c.do_items.new.writer) (contents c.flush.new.writer) c.do_items.new.replies
     (heard c.args.writer.now) (heard c.do_items.new.writer) (heard c.flush.new.writer) c.flush.ensures.heard c.do_items.result
     c.do_items.ensures.ok c.in_ok-flush-in_default.ensures.bytes in
@@ -70,7 +70,7 @@ pub returns-clause-memory : goal.returns-clause-memory
 returns-clause-memory g c h config seat =
     let contents = g.W.Sink.contents in
     let heard = g.W.Sink.heard in
-    begun_flushed config (g.G.Gate.may_answer c.args.env.now.gate.now) c.args.script.now
+    begun_flushed config (g.G.Gate.may_answer c.args.env.now.gate.now) g.W.Sink.wants_first c.args.script.now
     (contents c.args.writer.now) (contents c.do_items.new.writer) (contents c.flush.new.writer) c.do_items.new.replies
     (heard c.args.writer.now) (heard c.do_items.new.writer) (heard c.flush.new.writer) c.flush.ensures.heard
     (c.do_items.ensures.memory (search rules) config seat) c.in_ok-flush-in_default.ensures.bytes
@@ -79,7 +79,7 @@ pub returns-clause-stopped : goal.returns-clause-stopped
 returns-clause-stopped g c h config seat =
     let contents = g.W.Sink.contents in
     let heard = g.W.Sink.heard in
-    stopped_flushed config (g.G.Gate.may_answer c.args.env.now.gate.now) c.args.script.now
+    stopped_flushed config (g.G.Gate.may_answer c.args.env.now.gate.now) g.W.Sink.wants_first c.args.script.now
     (contents c.args.writer.now) (contents c.do_items.new.writer) (contents c.flush.new.writer) c.do_items.new.replies
     (heard c.args.writer.now) (heard c.do_items.new.writer) (heard c.flush.new.writer) c.flush.ensures.heard
     (c.do_items.ensures.stopped (search rules) config seat) c.in_ok-flush-in_default.ensures.bytes

@@ -31,4 +31,4 @@ returns-else-is_silent-clause-heard g c =
 
 pub returns-else-is_silent-clause-flushed : goal.returns-else-is_silent-clause-flushed
 returns-else-is_silent-clause-flushed g c =
-    flushed_as _ _ c.give.result (status_of (c.in-Ok.outcome ∷ [])) c.give.ensures.status c.give.ensures.all
+    flushed_as g.W.Sink.wants_first _ _ c.give.result (status_of (c.in-Ok.outcome ∷ [])) c.give.ensures.status c.give.ensures.all

@@ -17,4 +17,4 @@ returns-clause-device g c h config before =
 
 pub returns-clause-flushed : goal.returns-clause-flushed
 returns-clause-flushed g c =
-    flushed_as _ _ c.give.result (status_of (Some (Fault c.args.at.fault) ∷ [])) c.give.ensures.status c.give.ensures.all
+    flushed_as g.W.Sink.wants_first _ _ c.give.result (status_of (Some (Fault c.args.at.fault) ∷ [])) c.give.ensures.status c.give.ensures.all

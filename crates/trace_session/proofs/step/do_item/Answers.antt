@@ -22,7 +22,7 @@ returns-in-Line g c =
       of = ran.of;
       session = ran.session;
       done =
-          item_given (λ (config : Config). IsSessionPass config (view_of c.args.pass)) c.args.number c.args.item (progress_of (view_of c.args.pass))
+          item_given g.W.Sink.wants_first (λ (config : Config). IsSessionPass config (view_of c.args.pass)) c.args.number c.args.item (progress_of (view_of c.args.pass))
           (progress_of (view_of c.do_line.result.0)) c.do_line.result.1 (g.W.Sink.contents c.args.writer.now) (g.W.Sink.contents c.do_line.new.writer)
           c.args.replies.now c.do_line.new.replies (g.W.Sink.heard c.args.writer.now) (g.W.Sink.heard c.do_line.new.writer)
           (rw c.in-Line.is ran.done) (λ config seat given. rw c.in-Line.is (ran.heard config seat)) ran.flushed;
@@ -70,7 +70,7 @@ returns-in-Fault g c =
       of = c.requires.of;
       session = λ _ seat. seat;
       done =
-          item_given (λ (config : Config). IsSessionPass config (view_of c.args.pass)) c.args.number c.args.item now now c.do_fault.result
+          item_given g.W.Sink.wants_first (λ (config : Config). IsSessionPass config (view_of c.args.pass)) c.args.number c.args.item now now c.do_fault.result
           (contents c.args.writer.now) (contents c.do_fault.new.writer) c.args.replies.now c.do_fault.new.replies
           (g.W.Sink.heard c.args.writer.now) (g.W.Sink.heard c.do_fault.new.writer)
           (fault_read c.in-Fault.at (item_read c.args.number c.args.item) c.do_fault.result (λ (config : Config). IsSessionPass config (view_of c.args.pass)) now

@@ -31,4 +31,4 @@ returns-in-Ok-clause-heard g c =
 
 pub returns-in-Ok-clause-flushed : goal.returns-in-Ok-clause-flushed
 returns-in-Ok-clause-flushed g c =
-    flushed_as _ _ c.give.result (status_of (c.in-Ok.outcome ∷ [])) c.give.ensures.status c.give.ensures.all
+    flushed_as g.W.Sink.wants_first _ _ c.give.result (status_of (c.in-Ok.outcome ∷ [])) c.give.ensures.status c.give.ensures.all

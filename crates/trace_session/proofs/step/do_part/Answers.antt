@@ -1,4 +1,4 @@
-use Rattle.std.proofs.Common.{◌≡◌, ℕ, Bool, false, List, ◌++◌, Option, None, Result, Ok, Err, IfOk, IsErrOf, IsSome, OnOk, ◌≢◌, [], refl, ap, sym, subst, ◌∙◌}
+use Rattle.std.proofs.Common.{◌≡◌, ℕ, Bool, false, List, ◌++◌, Option, None, Result, Ok, Err, IfOk, IsErrOf, IsSome, OnOk, [], refl, ap, sym, subst, ◌∙◌}
 use Rattle.ticket_lock.specs.Calls.{view_of}
 use Rattle.trace_command.specs.declared.command.Config.{Config}
 use Rattle.trace_items.specs.Items.{Threads}
@@ -11,31 +11,30 @@ use Rattle.trace_parts.specs.ThreadTexts.{told_if}
 use Rattle.trace_parts.specs.declared.outcome_at.OutcomeAt.{OutcomeAt}
 use Rattle.trace_session.specs.Devices.{AppendsFront, Passes}
 use Rattle.trace_session.specs.private.StepFronts.{AppendsItem}
-use Rattle.trace_session.specs.Heard.{Heard, Hears, heard_lines, numbers_in}
+use Rattle.trace_session.specs.Heard.{Heard, Hears, IsWrittenFirst, heard_lines, numbers_in}
 use Rattle.trace_session.specs.private.HeardItems.{heard_each}
 use Rattle.trace_session.specs.Parts.{Given, PartMayGive}
 use Rattle.trace_session.specs.PartTexts.{AreOutcomesOf}
 use Rattle.trace_session.specs.Passes.{IsSessionPass, progress_of}
 use Rattle.trace_session.specs.Sessions.{Progress, status_of}
 use Rattle.trace_session.specs.declared.status.Status.{Status}
-use Rattle.trace_session.specs.declared.status.Status.TheVariants as statuses
 use Rattle.trace_session.proofs.DeviceLemmas.{Passes_nothing}
 use Rattle.trace_session.proofs.Hearing.{hears_told}
 use Rattle.trace_session.proofs.HearingAll.{each_of_threads}
 use Rattle.trace_session.proofs.step.do_part.Goals as goal
 
 -- what a part gave, and what is told of it
-module _ (seated : Config → Type 0) (threads : List (List Numbered)) (before after : Progress) (text : List ℕ) (status : Status) (is_told : Bool) (outcomes : List OutcomeAt)
+module _ (wants : Bool) (seated : Config → Type 0) (threads : List (List Numbered)) (before after : Progress) (text : List ℕ) (status : Status) (is_told : Bool) (outcomes : List OutcomeAt)
     (gave : (g : Config) → seated g → (given : Given) × PartMayGive g threads before after given × (given.text ≡ text) × (status ≡ status_of given.outcomes)
     × (told : List OutcomeAt) × AreOutcomesOf threads given.outcomes told × (outcomes ≡ told_if is_told told))
   where
     part_done : (result : Result Status Stop) (old new : Option (List ℕ)) (waited waits : List ℕ) (heard hears : Option (List Heard)) (number : ℕ) (lines : List ℕ)
         → IfOk result (λ now. now ≡ status) → OnOk result (Passes old waited new waits text) → (is_told ≡ false → heard ≡ None)
         → OnOk result (Hears heard hears (heard_each number (lines_of lines) new outcomes))
-        → OnOk result (IsSome heard → status ≢ statuses.Done → waits ≡ [])
+        → OnOk result (IsSome heard → IsWrittenFirst wants status → waits ≡ [])
         → IfOk result (λ now. (g : Config) → seated g
         → (given : Given) × PartMayGive g threads before after given × (now ≡ status_of given.outcomes) × Passes old waited new waits given.text
-        × Hears heard hears (heard_lines number (lines_of lines) new (numbers_in threads) given.outcomes) × (IsSome heard → now ≢ statuses.Done → waits ≡ []))
+        × Hears heard hears (heard_lines number (lines_of lines) new (numbers_in threads) given.outcomes) × (IsSome heard → IsWrittenFirst wants now → waits ≡ []))
     part_done (Ok now) old new waited waits heard hears number lines is written deaf told flushed = λ g seat.
         let x = gave g seat in (
           x.0,
@@ -44,7 +43,7 @@ module _ (seated : Config → Type 0) (threads : List (List Numbered)) (before a
           subst (λ (t : List ℕ). Passes old waited new waits t) (sym x.2) written,
           subst (λ (more : List Heard). Hears heard hears more) (each_of_threads number (lines_of lines) new threads x.0.outcomes x.4 x.5)
               (hears_told is_told heard hears number (lines_of lines) new x.4 outcomes deaf x.6 told),
-          λ tells not. flushed tells (λ done. not (is ∙ done)),
+          λ tells first. flushed tells (subst (IsWrittenFirst wants) is first),
         )
     part_done (Err stop) old new waited waits heard hears number lines is written deaf told flushed = tt
 
@@ -76,7 +75,7 @@ returns-in-Ok g c =
     record {
       of = ran.of;
       session = ran.session;
-      done = part_done seated threads before after written.text.items written.status c.hears.result written.outcomes.items gave c.give_part.result
+      done = part_done g.W.Sink.wants_first seated threads before after written.text.items written.status c.hears.result written.outcomes.items gave c.give_part.result
           (contents c.args.writer.now) (contents c.give_part.new.writer) c.args.replies.now c.give_part.new.replies
           (heard c.args.writer.now) (heard c.give_part.new.writer) c.args.number c.args.text.now
           told.status told.written c.hears.ensures told.heard told.all;
@@ -90,7 +89,7 @@ returns-in-Ok g c =
       unwritten = λ is. absurd (told.stopped is);
       «open» = λ _ is. told.stopped is;
       risen = λ is. (told.device is).0;
-      device = λ is. part_cut seated threads before after written.text.items written.status c.hears.result written.outcomes.items gave
+      device = λ is. part_cut g.W.Sink.wants_first seated threads before after written.text.items written.status c.hears.result written.outcomes.items gave
           (contents c.args.writer.now) (contents c.give_part.new.writer) c.args.replies.now (told.device is).1;
       unheard = told.unheard;
     }
