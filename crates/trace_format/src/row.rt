@@ -112,7 +112,6 @@ impl Row {
 
     /// Makes it the row that `build` makes, in its own memory: a row of no more fields takes no allocation for the lists of its types and values.
     /// Pairs that name the fields in order take one pass and no search. After a refusal it has no field.
-    #[inline(never)]
     pub fn rebuild(
         &mut self,
         alloc: Global,

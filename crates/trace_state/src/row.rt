@@ -10,7 +10,6 @@ use trace_format::Row;
 use trace_record::{HEAD_SIZE, Head, record_size, write_head};
 
 /// Makes the record of an emission, whose row has a payload of this many bytes, over that of an earlier one.
-#[inline(never)]
 #[tactic(auto, unfolding(trace_history::specs::Emissions::record_bytes))]
 pub(crate) fn record(
     timestamp: u64,
