@@ -34,6 +34,13 @@ pub(crate) fn errno_of(refusal: &Refusal) -> Errno
     }
 }
 
+/// Likewise, of a refusal that is not needed any more.
+pub(crate) fn errno_of_refused(refusal: Refusal) -> Errno
+    ensures { result ≡ errno_of refusal }
+{
+    errno_of(&refusal)
+}
+
 /// What an operation is told that is not known.
 pub(crate) fn errno_of_other(opcode: u32) -> Errno
     ensures { result ≡ errno_of_other opcode }

@@ -9,7 +9,7 @@ ghost use Rattle.trace_mount.specs.Services.{OpenSeen, file_at, just_opened};
 ghost use Rattle.trace_mount.specs.Told.{empties, known};
 ghost use Rattle.trace_mount.specs.private.ShortReplies.{IsShort};
 
-use crate::errno::errno_of;
+use crate::errno::{errno_of, errno_of_refused};
 use crate::files::OpenFile;
 use crate::mount::Mount;
 use crate::told::{empties, may_open};
@@ -121,7 +121,7 @@ impl Mount {
             },
             Err(refusal) => {
                 self.files.take_back(handle, count);
-                Reply::Error(errno_of(&refusal))
+                Reply::Error(errno_of_refused(refusal))
             }
         }
     }
