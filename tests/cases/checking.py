@@ -57,13 +57,15 @@ def check_cases():
     compiled = dict(whole, **{"tools/unproved.py": "touch $2"})
     half = dict(compiled, **{"crates/tracectl/out/tracectl": ""})
     unproved = "(nothing of the programs is proved)\n"
-    telling = "echo \"rt: $(cut -d: -f1 crates.txt | tr '\\n' ' ')proved\"\necho '100 passed, 0 failed'"
+    telling = "echo \"rt: $(cut -d: -f1 crates.txt | tr '\\n' ' ')proved\"\necho '%s100 passed, 0 failed'"
+    keeping, forgetting = telling % "done in this run: 1 of the 1 proofs\n", telling % ""
     ahead = [" min: %s proved\n" % crates for crates in ("trace_lex", "trace_snapshot ticket_lock fuse_wire fuse_serve", "trace_text", "tracectl", " ".join(CRATES))]
     return [
         case("all of it", [], whole, each, 0, jobs, last=b"\n199 passed, 0 failed\n"),
         case("all of it, and rt shares the processors", [], whole, ["rt ci RT_JOBS= "], 0, last=b"\n199 passed, 0 failed\n"),
-        case("all of it, and the chain is proved ahead", [], dict(tests, rt=telling, awk="echo 20000000"), ahead, 0, last=b"\n199 passed, 0 failed\n"),
-        case("all of it, and little of its memory is free", [], dict(tests, rt=telling, awk="echo 9000000"), ahead[-1:], 0, last=b"\n199 passed, 0 failed\n"),
+        case("all of it, and the chain is proved ahead", [], dict(tests, rt=keeping, awk="echo 20000000"), ahead, 0, last=b"\n199 passed, 0 failed\n"),
+        case("all of it, and what is proved ahead is not kept", [], dict(tests, rt=forgetting, awk="echo 20000000"), [ahead[0], ahead[-1]], 0, last=b"\n199 passed, 0 failed\n"),
+        case("all of it, and little of its memory is free", [], dict(tests, rt=keeping, awk="echo 9000000"), ahead[-1:], 0, last=b"\n199 passed, 0 failed\n"),
         case("by a link, with a CDPATH and a TMPDIR that isn't there", [], whole, each, 0, elsewhere, "link", last=b"\n199 passed, 0 failed\n"),
         case("by a relative path, likewise", [], whole, each, 0, elsewhere, "relative", last=b"\n199 passed, 0 failed\n"),
         case("a test that fails", [], dict(whole, **{"tests/threads": CHECKED % ("", 2, 1, 1)}), [], 1, jobs, last=b"\n198 passed, 1 failed\n"),
