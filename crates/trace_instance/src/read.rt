@@ -181,7 +181,7 @@ fn stats(alloc: Global, source: FileSource<'_>, cpu: u32) -> Result<Text, AllocE
         → IfOk result (λ text. text ≡ file_texts.cpu_stats_text g name past cpu) }
 {
     let mut out = Vec::new(alloc);
-    let written = stats_text(source.instance.stats(cpu), source.clock, &mut out);
+    let written = stats_text(alloc, source.instance.stats(cpu), source.clock, &mut out);
     built(written, out)
 }
 

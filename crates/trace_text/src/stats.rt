@@ -8,7 +8,7 @@ ghost use Rattle.trace_text.specs.StatsText as texts;
 
 use crate::append::{put_before, put_number_before};
 use page_ring::RingStats;
-use std::alloc::AllocError;
+use std::alloc::{AllocError, Global};
 
 /// The most bytes that the text has: 95 of labels, and in each of the eight lines at most 20 digits and a newline.
 const MOST_BYTES: usize = 263;
@@ -48,7 +48,12 @@ fn put_lines(bytes: &mut [u8], stats: RingStats, now: u64) -> usize
 /// `bytes` adds up the sizes of the kept records; `oldest` and `now` are ticks of the clock, which counts emissions.
 ///
 /// It is refused only if it runs out of memory, and `out` is then as it was.
-pub fn stats_text(stats: RingStats, now: u64, out: &mut Vec<u8>) -> Result<(), AllocError>
+pub fn stats_text(
+    _alloc: Global,
+    stats: RingStats,
+    now: u64,
+    out: &mut Vec<u8>,
+) -> Result<(), AllocError>
     ensures text { OnOk result (out.new.items ≡ out.old.items ++ texts.stats_text stats now) }
     ensures refused { OnErr result (out.new.items ≡ out.old.items) }
 {
