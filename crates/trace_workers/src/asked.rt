@@ -5,6 +5,8 @@ ghost use Rattle.trace_command.specs.declared.command.Command.{Command};
 ghost use Rattle.trace_workers.specs.Readies.{command_of};
 
 use std::alloc::{AllocError, Global};
+use ticket_lock::Pass;
+use trace_book::Book;
 use trace_command::Command;
 use trace_format::BorrowedPair;
 
@@ -24,13 +26,14 @@ pub enum Ready<'a> {
 
 /// What asks for a command. A part can keep its commands as lines of a script, and make each of them only when its turn comes.
 ///
-/// It is read without the lock, which no call of it is given; the worker then asks for the command.
+/// It is read while the caller has its pass, which a turn at the lock takes from it: never while the caller holds the lock. Then the caller asks for the
+/// command.
 pub trait Asked {
     /// The command that it asks for.
     ghost command: { Self → Command };
 
     /// The command, ready to be asked. It fails only if memory is refused.
-    fn read<'r>(self, alloc: Global) -> Result<Ready<'r>, AllocError>
+    fn read<'r>(self, alloc: Global, pass: &Pass<Book>) -> Result<Ready<'r>, AllocError>
     where
         Self: 'r,
         ensures { IfOk result (λ ready. command_of ready ≡ command self) };
@@ -39,7 +42,7 @@ pub trait Asked {
 impl Asked for Command {
     ghost command = { λ command. command };
 
-    fn read<'r>(self, _alloc: Global) -> Result<Ready<'r>, AllocError>
+    fn read<'r>(self, _alloc: Global, _pass: &Pass<Book>) -> Result<Ready<'r>, AllocError>
     where
         Self: 'r,
     {

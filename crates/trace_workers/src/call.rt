@@ -63,7 +63,7 @@ pub fn ask_in<R: Wait, C: Asked>(
     ensures memory { result.1 ≡ Err Memory → IsUndone (view_of pass) (view_of result.0) }
     ensures legal { (g : Config) → numbers_of g ≡ (view_of pass).base → IsLegal g (view_of pass).seen → IsLegal g (view_of result.0).seen }
 {
-    match asked.read(alloc) {
+    match asked.read(alloc, &pass) {
         Ok(ready) => ask_ready(rt, lock, pass, ready),
         Err(_) => (pass, Err(Refusal::Memory)),
     }
