@@ -1,9 +1,10 @@
 # What ./tracectl, ./tracectl-mount, ./check --quick and examples/c/build share: which programs there are and whether they are current, how one is
-# compiled without a proof, and how the program is proved. Sourced, with `top` set to the repository's folder and `tool` to the name that messages begin with.
+# compiled without a proof, and how a program is proved. Sourced, with `top` set to the repository's folder and `tool` to the name that messages begin with.
 
-readonly NOT_BUILT=5 OTHER_KIT=3
+{ [ -d "${TMPDIR:-/tmp}" ] && [ -w "${TMPDIR:-/tmp}" ]; } || export TMPDIR=/tmp
+
+readonly NOT_BUILT=5 OTHER_KIT=3 LINES_OF_LOG=20
 readonly TIME_OF_PROOF="30 minutes to an hour"
-readonly LINES_OF_LOG=20
 readonly KIBIBYTES_NEEDED=$((4 * 1024 * 1024)) # free memory that compiling and proving take at most
 
 say() {
@@ -19,39 +20,34 @@ stop() {
 
 declare -A uses=() # for each crate in crates.txt the libraries that it names
 crates=()          # a crate and those that it is built from, each after its libraries
-sources=()         # their sources, code and what is promised of it; a folder is newer once a file in it is added or removed
+sources=()         # their sources below `top`, code and what is promised of it; a folder is newer once a file in it is added or removed
 
 add_crate() {
   local library part
   [[ " ${crates[*]-} " != *" $1 "* ]] || return 0
   for library in ${uses[$1]}; do
-    # any other library is the kit's
-    if [ -n "${uses[$library]+listed}" ]; then add_crate "$library"; fi
+    [ -z "${uses[$library]+listed}" ] || add_crate "$library" # any other library is the kit's
   done
   crates+=("$1")
-  for part in "$top/crates/$1"/{src,specs}; do
-    [ ! -d "$part" ] || sources+=("$part")
+  for part in "crates/$1"/{src,specs}; do
+    [ ! -d "$top/$part" ] || sources+=("$part")
   done
 }
 
 # Finds these crates and those that they are built from, and the sources.
 find_sources() {
-  local line crate
-  while IFS= read -r line; do
-    line=${line%%#*}
-    crate=${line%%:*}
-    if [ "$crate" != "$line" ]; then uses[${crate%% *}]=${line#*:}; fi
+  local crate libraries
+  while IFS=: read -r crate libraries; do
+    [[ -z $crate || $crate == *#* ]] || uses[${crate%% *}]=${libraries%%#*}
   done < "$top/crates.txt"
   crates=()
-  sources=("$top/crates.txt")
+  sources=(crates.txt)
   for crate in "$@"; do add_crate "$crate"; done
 }
 
 # The sources for which a test of find holds, each with its time.
 dated_sources() {
-  local found
-  found=$(find "${sources[@]}" "$@" -printf '%p %T@\n')
-  printf '%s' "${found//"$top/"/}"
+  env -C "$top" find "${sources[@]}" "$@" -printf '%p %T@\n'
 }
 
 # Whether a file is there and no source is newer but those that were dated in the future when it was made, and are as they were. Those are listed in
@@ -63,17 +59,7 @@ is_current() {
   [ -z "$newer" ] || { [ -f "$1-ahead" ] && ! grep -Fvxq -f "$1-ahead" <<< "$newer"; }
 }
 
-tell_of_future() {
-  local file
-  file=$(find "${sources[@]}" -newermt now -print -quit)
-  [ -z "$file" ] || say "${file#"$top/"} is dated in the future; ${1#"$top/"} was made from it as it is"
-}
-
 # --- Making ---
-
-stop_without_rt() {
-  command -v rt > /dev/null || stop "rt, the command of the Rattle kit, is needed and was not found"
-}
 
 # Has a signal end the script by way of its EXIT trap.
 stop_on_signals() {
@@ -86,8 +72,7 @@ stop_on_signals() {
 free_memory() {
   local free most used
   free=$(awk '/^MemAvailable:/ { print $2 }' /proc/meminfo 2> /dev/null)
-  most=$(cat /sys/fs/cgroup/memory.max 2> /dev/null)
-  used=$(cat /sys/fs/cgroup/memory.current 2> /dev/null)
+  { most=$(< /sys/fs/cgroup/memory.max) used=$(< /sys/fs/cgroup/memory.current); } 2> /dev/null
   if [[ $most =~ ^[0-9]+$ && $used =~ ^[0-9]+$ ]] && (((most - used) / 1024 < ${free:-0})); then free=$(((most - used) / 1024)); fi
   echo "$free"
 }
@@ -128,40 +113,39 @@ run_logged() {
   trap - EXIT
 }
 
-# Puts FILE.new in the place of a file, dated when it was begun, so that a source written meanwhile is newer.
-put_in_place() {
-  touch -d "@$2" "$1.new"
-  printf '%s' "${3:+$3$'\n'}" > "$1-ahead"
-  mv -f -- "$1.new" "$1"
+# make_current MAKER CRATE FILE: has `compile` or `prove` make FILE.new of a crate, and puts it in the place of FILE, unless that is current. Fails if
+# the maker's `status` isn't 0.
+make_current() {
+  local started future
+  find_sources "$2"
+  ! is_current "$3" || return 0
+  command -v rt > /dev/null || stop "rt, the command of the Rattle kit, is needed and was not found"
+  stop_on_signals
+  take_turn "$3"
+  if ! is_current "$3"; then
+    tell_of_memory
+    started=$(date +%s.%N)
+    future=$(dated_sources -newermt "@$started")
+    "$1" "$2" "$3"
+    [ "$status" -eq 0 ] || return "$status"
+    touch -d "@$started" "$3.new" # so that a source that is written meanwhile is newer
+    printf '%s' "${future:+$future$'\n'}" > "$3-ahead"
+    mv -f -- "$3.new" "$3"
+  fi
+  exec {turn}>&-
+  trap - HUP INT TERM
 }
 
 show_line() {
   printf '%s\n' "$1" >&2
 }
 
-# Compiles a crate into a file, without proving anything, unless that is current. Fails if this kit works in other ways than tools/unproved.py knows.
+# Without proving anything. Its `status` is OTHER_KIT if this kit works in other ways than tools/unproved.py knows.
 compile() {
-  local started future log=$2.log
-  find_sources "$1"
-  ! is_current "$2" || return 0
-  stop_without_rt
   command -v python3 > /dev/null || stop "python3 is needed and was not found"
-  stop_on_signals
-  take_turn "$2"
-  if ! is_current "$2"; then
-    tell_of_memory
-    started=$(date +%s.%N)
-    future=$(dated_sources -newermt "@$started")
-    say "compiling ${2#"$top/"}, unproved, which takes about a minute"
-    run_logged "$log" show_line "$top/tools/unproved.py" "$1" "$2.new"
-    if [ "$status" -ne 0 ]; then
-      [ "$status" -ne "$OTHER_KIT" ] || return 1
-      stop "${2#"$top/"} could not be compiled; ${log#"$top/"} says more"
-    fi
-    put_in_place "$2" "$started" "$future"
-  fi
-  exec {turn}>&-
-  trap - HUP INT TERM
+  say "compiling ${2#"$top/"}, unproved, which takes about a minute"
+  run_logged "$2.log" show_line "$top/tools/unproved.py" "$1" "$2.new"
+  [ "$status" -eq 0 ] || [ "$status" -eq "$OTHER_KIT" ] || stop "${2#"$top/"} could not be compiled; ${2#"$top/"}.log says more"
 }
 
 # --- Proving ---
@@ -183,38 +167,23 @@ copy_crates() {
 
 # Tells of each crate that is proved, in a line of rt.
 tell_of_crate() {
-  if [[ $1 =~ ^rt:\ ([a-z_]+)\ (proved|is\ kept) ]]; then
-    count=$((count + 1))
-    say "${BASH_REMATCH[1]} is proved, $count of ${#crates[@]}, $SECONDS seconds"
-  fi
+  [[ $1 =~ ^rt:\ ([a-z_]+)\ (proved|is\ kept) ]] || return 0
+  say "${BASH_REMATCH[1]} is proved, $((count += 1)) of ${#crates[@]}, $SECONDS seconds"
 }
 
-# Proves a program and the crates that it is built from, and takes it: `prove CRATE FILE`. What rt proves it keeps, so that ./check need not do it again.
+# Proves a program and the crates that it is built from, and takes it. Where rt keeps what it proves, ./check need not do it again.
 prove() {
-  local started future log=$2.log count=0
-  find_sources "$1"
-  ! is_current "$2" || return 0
-  stop_without_rt
-  stop_on_signals
-  take_turn "$2"
-  if ! is_current "$2"; then
-    tell_of_memory
-    started=$(date +%s.%N)
-    future=$(dated_sources -newermt "@$started")
-    say "proving ${#crates[@]} crates, which takes $TIME_OF_PROOF if nothing is kept of earlier runs"
-    room=$(mktemp -d "${TMPDIR:-/tmp}/tracectl-proving.XXXXXX")
-    copy_crates "$room"
-    run_logged "$log" tell_of_crate env -C "$room" rt ci
-    if [ "$status" -ne 0 ] || ! cp -- "$room/crates/$1/out/$1" "$2.new"; then
-      rm -rf -- "$room"
-      tail -n "$LINES_OF_LOG" "$log" >&2
-      stop "$1 was not proved; ${log#"$top/"} says more"
-    fi
-    rm -rf -- "$room"
-    put_in_place "$2" "$started" "$future"
+  local count=0
+  say "proving ${#crates[@]} crates, which takes $TIME_OF_PROOF if nothing is kept of earlier runs"
+  room=$(mktemp -d "${TMPDIR:-/tmp}/tracectl-proving.XXXXXX") || exit "$NOT_BUILT"
+  copy_crates "$room"
+  run_logged "$2.log" tell_of_crate env -C "$room" rt ci
+  [ "$status" -ne 0 ] || cp -- "$room/crates/$1/out/$1" "$2.new" || status=$?
+  rm -rf -- "$room"
+  if [ "$status" -ne 0 ]; then
+    tail -n "$LINES_OF_LOG" "$2.log" >&2
+    stop "$1 was not proved; ${2#"$top/"}.log says more"
   fi
-  exec {turn}>&-
-  trap - HUP INT TERM
 }
 
 # --- Choosing ---
@@ -222,18 +191,20 @@ prove() {
 # Puts into `program` the proved program of a crate, if it is current, or else an unproved one, which is compiled if need be; into `is_proved` which of
 # them it is.
 choose_program() {
-  proved=$top/crates/$1/out/$1
-  program=$proved
+  local ahead
+  program=$top/crates/$1/out/$1
   is_proved=yes
   find_sources "$1"
-  if ! is_current "$proved"; then
-    if compile "$1" "$proved-unproved"; then
-      program=$proved-unproved
+  if ! is_current "$program"; then
+    if make_current compile "$1" "$program-unproved"; then
+      program+=-unproved
       is_proved=no
     else
       say "so the program is proved, which needs no such knowledge"
-      prove "$1" "$proved"
+      make_current prove "$1" "$program"
     fi
   fi
-  [ ! -s "$program-ahead" ] || tell_of_future "$program"
+  [ -s "$program-ahead" ] || return 0
+  ahead=$(dated_sources -newermt now)
+  [ -z "$ahead" ] || say "${ahead%% *} is dated in the future; ${program#"$top/"} was made from it as it is"
 }
