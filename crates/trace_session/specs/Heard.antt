@@ -51,8 +51,8 @@ numbers_told (Faulty at) = at.number ∷ []
 abbrev pub IsWrittenFirst : Bool → Status → Type 0
 IsWrittenFirst wants status = (wants ≡ true) ⊎ (status ≢ statuses.Done)
 
--- What a sink holds when it hears of an item with this status: what it held before the session, and a prefix of these texts, the item's included; or
--- all of them.
+-- What a sink holds when it hears of an item with this status: what it held before the session, and a prefix of these texts, the item's included; all
+-- of them, if they are written first (`IsWrittenFirst`).
 abbrev pub HoldsTexts : Bool → Option (List ℕ) → Option (List ℕ) → List ℕ → Status → Type 0
 HoldsTexts wants old held texts status = AppendsFront old held texts × (IsWrittenFirst wants status → Appends old held texts)
 
