@@ -2,6 +2,7 @@ pub mod BuildLemmas
 pub mod CatalogLemmas
 pub mod FieldNames
 pub mod FreshNames
+pub mod GivenLemmas
 pub mod Lengths
 pub mod LoopLemmas
 pub mod MapLemmas
@@ -24,3 +25,4 @@ pub mod Types
 pub mod Verdicts
 pub mod WordLemmas
 pub mod WritingLemmas
+pub mod WrittenNumbers

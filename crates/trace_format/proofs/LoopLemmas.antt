@@ -1,5 +1,5 @@
 -- Steps of the loops that go over an event's fields.
-use Rattle.std.proofs.Common.{◌≡◌, ℕ, ◌+◌, ◌-◌, ◌<◌, ◌≤◌, Bool, true, false, ◌==◌, if◌then◌else◌, List, [], ◌∷◌, ◌++◌, length, get_or, take, drop, map, filter_map, Option, None, Some, is_some, IsSome, option_map, option_and_then, refl, sym, ap, ◌∙◌, append_assoc, arith, le-ltb, lt-ltb}
+use Rattle.std.proofs.Common.{◌≡◌, ℕ, ◌+◌, ◌<◌, ◌≤◌, Bool, false, ◌==◌, if◌then◌else◌, List, [], ◌∷◌, ◌++◌, length, get_or, take, drop, map, filter_map, Option, None, Some, is_some, option_map, option_and_then, refl, sym, ap, ◌∙◌, append_assoc, arith, le-ltb, lt-ltb}
 use Rattle.std.specs.List.{cons_option}
 use Rattle.std.proofs.lemmas.Bool.{cond-true, cond-false}
 use Rattle.std.proofs.lemmas.Bool.Decides.{nat_tests}
@@ -33,7 +33,7 @@ map-push f (y ∷ ys) x = ap (λ zs. f y ∷ zs) (map-push f ys x)
 pub moved : {X Y : Type 0} (f : X → Y) (found : List X) (x : X) (left : List Y) → map f (found ++ x ∷ []) ++ left ≡ map f found ++ f x ∷ left
 moved f found x left = ap (λ front. front ++ left) (map-push f found x) ∙ append_assoc (map f found) (f x ∷ []) left
 
-moved_where : {X Y : Type 0} (f : X → Y) (found : List X) (x : X) (left : Option (List Y))
+pub moved_where : {X Y : Type 0} (f : X → Y) (found : List X) (x : X) (left : Option (List Y))
     → option_map (λ ys. map f (found ++ x ∷ []) ++ ys) left ≡ option_map (λ ys. map f found ++ ys) (option_map (λ ys. f x ∷ ys) left)
 moved_where f found x None = refl
 moved_where f found x (Some ys) = ap Some (moved f found x ys)

@@ -7,7 +7,7 @@ use Rattle.trace_format.specs.declared.kind.NumberType.{NumberType}
 use Rattle.trace_format.specs.declared.kind.NumberType.TheVariants.{U8, U16, U32, U64, S8, S16, S32, S64, Int, PidT, UnsignedInt, Long, UnsignedLong}
 use Rattle.trace_format.specs.declared.kind.Kind.TheVariants.{Number}
 use Rattle.trace_format.specs.Kinds.{least, greatest}
-use Rattle.trace_format.specs.Cells.{Datum, Whole}
+use Rattle.trace_format.specs.Cells.{Whole}
 use Rattle.trace_format.specs.Rows.{number_in, value_of}
 use Rattle.trace_format.specs.private.NumberPatterns.{magnitude_in}
 
@@ -15,7 +15,7 @@ use Rattle.trace_format.specs.private.NumberPatterns.{magnitude_in}
 zero_low : (n : ℕ) → int_le (pos 0) (pos n) ≡ true
 zero_low n = grind (arith, nat_tests)
 
-least_low : (t : NumberType) (n : ℕ) → int_le (least t) (pos n) ≡ true
+pub least_low : (t : NumberType) (n : ℕ) → int_le (least t) (pos n) ≡ true
 least_low U8 n = zero_low n
 least_low U16 n = zero_low n
 least_low U32 n = zero_low n

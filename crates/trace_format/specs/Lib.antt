@@ -6,6 +6,7 @@ pub mod Reading
 pub mod Cells
 pub mod Rows
 pub mod Pairs
+pub mod Values
 pub mod Decoding
 pub mod Catalogs
 pub mod Operands

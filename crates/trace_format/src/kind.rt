@@ -72,11 +72,18 @@ impl NumberType {
     pub fn least(self) -> i128
         ensures { result ≡ least_of self }
     {
+        i128::from(self.least_signed())
+    }
+
+    /// The least number, which all types have within 64 bits.
+    fn least_signed(self) -> i64
+        ensures { result ≡ least_of self }
+    {
         match self {
-            NumberType::S8 => i128::from(i8::MIN),
-            NumberType::S16 => i128::from(i16::MIN),
-            NumberType::S32 | NumberType::Int | NumberType::PidT => i128::from(i32::MIN),
-            NumberType::S64 | NumberType::Long => i128::from(i64::MIN),
+            NumberType::S8 => i64::from(i8::MIN),
+            NumberType::S16 => i64::from(i16::MIN),
+            NumberType::S32 | NumberType::Int | NumberType::PidT => i64::from(i32::MIN),
+            NumberType::S64 | NumberType::Long => i64::MIN,
             _ => 0,
         }
     }
@@ -126,6 +133,14 @@ impl NumberType {
         ensures { result ≡ (int_le (least_of self) number && int_le number (greatest_of self)) }
     {
         self.least() <= number && number <= self.greatest()
+    }
+
+    /// Whether the type has a number of 64 bits, without sums of 128.
+    pub(crate) fn holds_signed(self, number: i64) -> bool
+        ensures { result ≡ (int_le (least_of self) number && int_le number (greatest_of self)) }
+    {
+        self.least_signed() <= number
+            && (number < 0 || number.unsigned_abs() <= self.greatest_magnitude())
     }
 
     /// The type that one word spells.

@@ -1,7 +1,8 @@
 //! Event types and rows of a tracer, after "Event Tracing" (events.rst).
 //!
 //! A declaration defines an event: its name, and its fields with types. A `Catalog` keeps the declared events. A `Row` has a value
-//! for each field of an event; its payload is the bytes that a record keeps of it. Texts are bytes.
+//! for each field of an event, from pairs of names and texts or from values in order; its payload is the bytes that a record keeps of it. Texts
+//! are bytes.
 #![tactic(auto)]
 
 mod borrowed_pair;
@@ -10,6 +11,8 @@ mod catalog;
 mod emission;
 mod event;
 mod fault;
+mod field_value;
+mod from_values;
 mod given;
 mod in_order;
 mod kind;
@@ -29,6 +32,7 @@ pub use catalog::Catalog;
 pub use emission::Emission;
 pub use event::{EventDef, Field};
 pub use fault::{CatalogFault, DefinitionFault, RowFault};
+pub use field_value::FieldValue;
 pub use kind::{Kind, NumberType};
 pub use operand::Operand;
 pub use pair::Pair;

@@ -5,10 +5,13 @@ ghost use Rattle.std.specs.Result.{result_and};
 ghost use Rattle.trace_format.specs.Cells.{IsRow, IsRowOf, datum_of};
 ghost use Rattle.trace_format.specs.Definitions.{IsDefinition};
 ghost use Rattle.trace_format.specs.Rows.{first_wrong, first_missing, row_of, IsBuilt};
+ghost use Rattle.trace_format.specs.Values.{pairs_given};
 
 use crate::borrowed_pair::{BorrowedPair, borrowed};
 use crate::event::{EventDef, Field};
 use crate::fault::RowFault;
+use crate::field_value::FieldValue;
+use crate::from_values::{take_values, written_pairs};
 use crate::given::{are_new, bad_row, given_values, missing_field, wrong_pair};
 use crate::in_order::read_in_order;
 use crate::kind::Kind;
@@ -74,6 +77,7 @@ impl Row {
     ghost use Rattle.trace_format.specs.Definitions.{IsDefinition};
     ghost use Rattle.trace_format.specs.Pairs.{Give, IsRefusedRow};
     ghost use Rattle.trace_format.specs.Decoding.{row_from};
+    ghost use Rattle.trace_format.specs.Values.{pairs_given};
 
     /// A row of no field.
     pub fn new(alloc: Global) -> Row
@@ -130,8 +134,28 @@ impl Row {
         match fill(alloc, def, pairs, &mut self.kinds, &mut self.values) {
             Ok(()) => Ok(()),
             Err(fault) => {
-                self.kinds.clear();
-                self.values.clear();
+                clear(&mut self.kinds, &mut self.values);
+                Err(fault)
+            }
+        }
+    }
+
+    /// Makes it the row that `rebuild` makes of the pairs that give the values to the fields in order of declaration (`pairs_given`). No text is written
+    /// for a number that its field holds. After a refusal it has no field.
+    pub fn rebuild_of_values(
+        &mut self,
+        alloc: Global,
+        def: &EventDef,
+        values: &[FieldValue<'_>],
+    ) -> Result<(), RowFault>
+        ensures row { OnOk result (IsRowOf def.now self.new) }
+        ensures exact { IsBuilt (result_and result (Ok self.new)) (row_of def.now (pairs_given def.now.fields values.now)) }
+        ensures empty { OnErr result (self.new ≡ record { kinds = []; values = [] }) }
+    {
+        match fill_with_values(alloc, def, values, &mut self.kinds, &mut self.values) {
+            Ok(()) => Ok(()),
+            Err(fault) => {
+                clear(&mut self.kinds, &mut self.values);
                 Err(fault)
             }
         }
@@ -185,6 +209,15 @@ impl Row {
     {
         self.values.as_slice()
     }
+}
+
+/// Leaves nothing in the lists of a row that was refused.
+fn clear(kinds: &mut Vec<Kind>, values: &mut Vec<Value>)
+    ensures kinds { kinds.new.items ≡ [] }
+    ensures values { values.new.items ≡ [] }
+{
+    kinds.clear();
+    values.clear();
 }
 
 /// Fills two lists with the types of an event's fields and the values that pairs give them: in one pass where the pairs name the fields in order,
@@ -245,6 +278,46 @@ fn refusal(alloc: Global, def: &EventDef, pairs: &[BorrowedPair<'_>]) -> RowFaul
         Some(name) => bad_row(alloc, name),
         None => unreachable!(),
     }
+}
+
+/// As `fill`, with the values that are given to the fields in order of declaration: in one pass where each field holds its value, else by the texts
+/// of all values.
+#[inline(always)]
+fn fill_with_values(
+    alloc: Global,
+    def: &EventDef,
+    given: &[FieldValue<'_>],
+    kinds: &mut Vec<Kind>,
+    values: &mut Vec<Value>,
+) -> Result<(), RowFault>
+    ensures row { OnOk result (IsRowOf def.now (record { kinds = kinds.new.items; values = map datum_of values.new.items })) }
+    ensures exact { IsBuilt (result_and result (Ok (record { kinds = kinds.new.items; values = map datum_of values.new.items })))
+        (row_of def.now (pairs_given def.now.fields given.now)) }
+{
+    let fields = def.fields();
+    if take_values(alloc, fields, given, kinds, values)? {
+        return Ok(());
+    }
+    fill_with_texts(alloc, def, given, kinds, values)
+}
+
+/// Likewise, by the texts of all values.
+#[cold]
+#[inline(never)]
+fn fill_with_texts(
+    alloc: Global,
+    def: &EventDef,
+    given: &[FieldValue<'_>],
+    kinds: &mut Vec<Kind>,
+    values: &mut Vec<Value>,
+) -> Result<(), RowFault>
+    ensures row { OnOk result (IsRowOf def.now (record { kinds = kinds.new.items; values = map datum_of values.new.items })) }
+    ensures exact { IsBuilt (result_and result (Ok (record { kinds = kinds.new.items; values = map datum_of values.new.items })))
+        (row_of def.now (pairs_given def.now.fields given.now)) }
+{
+    let pairs = written_pairs(alloc, def.fields(), given)?;
+    let pairs = borrowed(alloc, &pairs)?;
+    fill(alloc, def, &pairs, kinds, values)
 }
 
 /// Fills a list with the types of fields. One that has had as many elements before takes no allocation.

@@ -24,3 +24,8 @@ pub record IsPushed (found : Option Datum) (old new : List Value) : Type 0 where
   pub value : Value
   pub is : found ≡ Some (datum_of value)
   pub items : new ≡ old ++ value ∷ []
+
+-- the name of the first field; where there is none, the empty name
+abbrev pub first_name : List Field → List ℕ
+first_name [] = []
+first_name (field ∷ fields) = field.name

@@ -1,0 +1,172 @@
+//! Rows from values that are given to the fields of an event in order. One pass takes values that their fields hold; it writes a text only for a
+//! number in a text field. Why other values are refused is found by their texts, as it is for an emission's pairs.
+
+ghost use Rattle.std.specs.Prelude.{◌≡◌, ◌+◌, ◌<◌, true, map, drop, IfOk, Some, vec_len, vec_capacity};
+ghost use Rattle.std.specs.Fmt.{decimal, signed_decimal};
+ghost use Rattle.trace_format.specs.declared.kind.Kind.TheVariants as kinds;
+ghost use Rattle.trace_format.specs.Cells.{datum_of};
+ghost use Rattle.trace_format.specs.Rows.{value_of};
+ghost use Rattle.trace_format.specs.Values.{text_given, pairs_given};
+ghost use Rattle.trace_format.specs.private.InOrder.{first_name, values_in_order, IsPushed};
+
+use crate::event::Field;
+use crate::field_value::FieldValue;
+use crate::kind::{Kind, NumberType};
+use crate::pair::Pair;
+use crate::value::{Value, push_value};
+use itoa::Buffer;
+use std::alloc::{AllocError, Global};
+use trace_lex::Text;
+
+/// The text that an emission writes for a value.
+fn written(alloc: Global, given: &FieldValue<'_>) -> Result<Text, AllocError>
+    ensures { IfOk result (λ text. text ≡ text_given given.now) }
+{
+    match *given {
+        FieldValue::Unsigned(number) => {
+            Text::from_slice(alloc, Buffer::new().format(number).as_bytes())
+        }
+        FieldValue::Signed(number) => {
+            Text::from_slice(alloc, Buffer::new().format(number).as_bytes())
+        }
+        FieldValue::Bytes(bytes) => Text::from_slice(alloc, bytes),
+    }
+}
+
+/// Adds a number to a list with room for it, if a field of the type holds it. Whether it does.
+#[inline(always)]
+fn push_unsigned(number_type: NumberType, number: u64, values: &mut Vec<Value>) -> bool
+    requires { vec_len values.old < vec_capacity values.old }
+    ensures pushed { result ≡ true → IsPushed (value_of (kinds.Number number_type) (decimal number)) values.old.items values.new.items }
+    ensures len { result ≡ true → vec_len values.new ≡ vec_len values.old + 1 }
+    ensures capacity { result ≡ true → vec_capacity values.new ≡ vec_capacity values.old }
+{
+    if number > number_type.greatest_magnitude() {
+        return false;
+    }
+    values.push_reserved(Value::Num(i128::from(number)));
+    true
+}
+
+/// Likewise, for a number with its sign.
+#[inline(always)]
+fn push_signed(number_type: NumberType, number: i64, values: &mut Vec<Value>) -> bool
+    requires { vec_len values.old < vec_capacity values.old }
+    ensures pushed { result ≡ true → IsPushed (value_of (kinds.Number number_type) (signed_decimal number)) values.old.items values.new.items }
+    ensures len { result ≡ true → vec_len values.new ≡ vec_len values.old + 1 }
+    ensures capacity { result ≡ true → vec_capacity values.new ≡ vec_capacity values.old }
+{
+    if !number_type.holds_signed(number) {
+        return false;
+    }
+    values.push_reserved(Value::Num(i128::from(number)));
+    true
+}
+
+/// Likewise, for a value and a type of any kind, by the value's text.
+#[cold]
+#[inline(never)]
+fn push_written(
+    alloc: Global,
+    kind: Kind,
+    given: &FieldValue<'_>,
+    values: &mut Vec<Value>,
+) -> Result<bool, AllocError>
+    requires { vec_len values.old < vec_capacity values.old }
+    ensures pushed { IfOk result (λ is. is ≡ true → IsPushed (value_of kind (text_given given.now)) values.old.items values.new.items) }
+    ensures len { IfOk result (λ is. is ≡ true → vec_len values.new ≡ vec_len values.old + 1) }
+    ensures capacity { IfOk result (λ is. is ≡ true → vec_capacity values.new ≡ vec_capacity values.old) }
+{
+    let text = written(alloc, given)?;
+    push_value(alloc, kind, text.as_bytes(), values)
+}
+
+/// Likewise, with a text made only of a number for a text field.
+#[inline(always)]
+fn push_given(
+    alloc: Global,
+    kind: Kind,
+    given: &FieldValue<'_>,
+    values: &mut Vec<Value>,
+) -> Result<bool, AllocError>
+    requires { vec_len values.old < vec_capacity values.old }
+    ensures pushed { IfOk result (λ is. is ≡ true → IsPushed (value_of kind (text_given given.now)) values.old.items values.new.items) }
+    ensures len { IfOk result (λ is. is ≡ true → vec_len values.new ≡ vec_len values.old + 1) }
+    ensures capacity { IfOk result (λ is. is ≡ true → vec_capacity values.new ≡ vec_capacity values.old) }
+{
+    match (kind, *given) {
+        (Kind::Number(number_type), FieldValue::Unsigned(number)) => {
+            Ok(push_unsigned(number_type, number, values))
+        }
+        (Kind::Number(number_type), FieldValue::Signed(number)) => {
+            Ok(push_signed(number_type, number, values))
+        }
+        (_, FieldValue::Bytes(bytes)) => push_value(alloc, kind, bytes, values),
+        _ => push_written(alloc, kind, given, values),
+    }
+}
+
+/// Fills two lists with the types of the fields and the values that are given to them, and tells whether each field holds its value. Otherwise
+/// what the lists hold doesn't matter. A list that has had as many elements before takes no allocation.
+#[inline(always)]
+pub(crate) fn take_values(
+    alloc: Global,
+    fields: &[Field],
+    given: &[FieldValue<'_>],
+    kinds: &mut Vec<Kind>,
+    values: &mut Vec<Value>,
+) -> Result<bool, AllocError>
+    ensures kinds { IfOk result (λ taken. taken ≡ true → kinds.new.items ≡ map (λ f. f.kind) fields.now) }
+    ensures values { IfOk result (λ taken. taken ≡ true → values_in_order fields.now (pairs_given fields.now given.now) ≡ Some (map datum_of values.new.items)) }
+{
+    kinds.clear();
+    values.clear();
+    if fields.len() != given.len() {
+        return Ok(false);
+    }
+    kinds.reserve_exact(fields.len())?;
+    values.reserve_exact(fields.len())?;
+    for (i, field) in fields.iter().enumerate() {
+        if !push_given(alloc, field.kind, &given[i], values)? {
+            return Ok(false);
+        }
+        kinds.push_reserved(field.kind);
+    }
+    Ok(true)
+}
+
+/// The name of the field at an index; beyond the last field the empty name.
+fn name_at(fields: &[Field], index: usize) -> &[u8]
+    ensures { result.now ≡ first_name (drop index fields.now) }
+{
+    if index < fields.len() {
+        fields[index].name.as_bytes()
+    } else {
+        &[]
+    }
+}
+
+/// The pair of a name and a value's text.
+fn written_pair(alloc: Global, name: &[u8], given: &FieldValue<'_>) -> Result<Pair, AllocError>
+    ensures { IfOk result (λ pair. pair ≡ record { name = name.now; value = text_given given.now }) }
+{
+    Ok(Pair {
+        name: Text::from_slice(alloc, name)?,
+        value: written(alloc, given)?,
+    })
+}
+
+/// The pairs that give values to fields in order of declaration.
+pub(crate) fn written_pairs(
+    alloc: Global,
+    fields: &[Field],
+    given: &[FieldValue<'_>],
+) -> Result<Vec<Pair>, AllocError>
+    ensures { IfOk result (λ pairs. pairs.items ≡ pairs_given fields.now given.now) }
+{
+    let mut pairs = Vec::with_capacity(alloc, given.len())?;
+    for (i, value) in given.iter().enumerate() {
+        pairs.push_reserved(written_pair(alloc, name_at(fields, i), value)?);
+    }
+    Ok(pairs)
+}
