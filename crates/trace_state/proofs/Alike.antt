@@ -1,5 +1,5 @@
 -- Memory for rows is not part of what a state stands for.
-use Rattle.std.proofs.Common.{◌≡◌, ℕ, ◌<◌, ◌∙◌, List, length, get_or, Option, sym, ap, subst, arith}
+use Rattle.std.proofs.Common.{◌≡◌, ℕ, ◌<◌, ◌∙◌, List, length, get_or, Option, refl, sym, ap, subst, arith}
 use Rattle.std.proofs.lemmas.List.Elements.{All-same}
 use Rattle.trace_command.specs.Requests.{Request}
 use Rattle.trace_command.specs.declared.command.Config.{Config}
@@ -75,3 +75,15 @@ unchanged-stands g old new past same stands =
       distinct_names = stands.distinct_names;
       each = All-same P new.instances.items old.instances.items same.instances stands.each;
     }
+
+-- a state is alike itself
+pub alike-self : (state : State) → IsStateAlike state state
+alike-self state = record {
+  catalog = refl;
+  clock = refl;
+  instances = record {
+    many = refl;
+    names = λ k d inside. refl;
+    came = λ k d inside. record { rest = refl; tables = λ number. refl };
+  };
+}

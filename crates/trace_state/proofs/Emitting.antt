@@ -5,7 +5,6 @@ use Rattle.std.specs.List.{AllByRecursion}
 use Rattle.std.specs.Option.{option_map}
 use Rattle.std.proofs.lemmas.List.{get_or-map}
 use Rattle.std.proofs.lemmas.Bool.{false≢true, lt-ltb}
-use Rattle.trace_record.specs.Record.{IsRecord}
 use Rattle.trace_filter.specs.Filters.{Parsed, parsed_of}
 use Rattle.trace_format.specs.Cells.{Cells}
 use Rattle.trace_format.specs.Operands.{Emission as Row}
@@ -18,19 +17,19 @@ use Rattle.trace_command.specs.declared.command.Config.{Config}
 use Rattle.trace_command.specs.declared.command.Reply.TheVariants as reply
 use Rattle.trace_history.specs.Declarations.{IsFit, IsIndexOf}
 use Rattle.trace_history.specs.Settings.{NumberedEvent, declared_events, event_named, event_named_in, filter_of, is_enabled, kept_filter, now_of}
-use Rattle.trace_history.specs.Emissions.{Emitted, filter_holds, is_recorded, record_bytes}
+use Rattle.trace_history.specs.Emissions.{Emitted, filter_holds, is_recorded}
 use Rattle.trace_history.specs.History.{emission_answer, row_answer}
 use Rattle.trace_history.specs.Snapshots.{is_exchanged_by}
 use Rattle.trace_history.specs.Triggers as triggers
 use Rattle.trace_history.specs.Triggers.{acts, is_left, passes, times_left, trigger_of}
-use Rattle.trace_instance.specs.Instances.{InstanceSeen, InstanceStandsFor, kept_as}
+use Rattle.trace_instance.specs.Instances.{InstanceSeen, InstanceStandsFor, IsAlike, kept_as}
 use Rattle.trace_instance.specs.Rows.{fires, kept_acts, kept_holds, records}
 use Rattle.trace_instance.specs.KeptHists.{passed}
 use Rattle.trace_instance.specs.declared.hists.AttachedHist.{AttachedHist}
-use Rattle.trace_state.specs.States.{AllReached, ArePassed, CanEmit, IsEmission, StandsFor, reach_at, IsStateAlike}
+use Rattle.trace_state.specs.States.{AllReached, ArePassed, CanEmit, EachCame, IsEmission, IsPreparedEmission, IsUsable, StandsFor, reach_at, IsStateAlike}
 use Rattle.trace_instance.specs.Deliveries as deliveries
 use Rattle.trace_instance.specs.Deliveries.{CanCountRow, IsWritable}
-use Rattle.trace_state.specs.private.Emissions.{AreReached, IsAhead}
+use Rattle.trace_state.specs.private.Emissions.{AreReached, HasEventAt, IsAhead, IsReserved}
 use Rattle.trace_state.specs.private.Found.{numbered}
 use Rattle.trace_instance.specs.declared.change.Delivery.{Delivery}
 use Rattle.trace_instance.specs.declared.change.Reach.{Reach}
@@ -39,10 +38,15 @@ use Rattle.trace_state.specs.declared.state.Named.{Named}
 use Rattle.trace_state.specs.declared.state.State.{State}
 use Rattle.trace_instance.specs.declared.trigger.Trigger.{Trigger}
 use Rattle.trace_instance.proofs.Delivered.{can-fire, self, trigger-at}
+use Rattle.trace_state.proofs.Alike.{state_alike-stands}
 
 -- what is written over all of a vector's elements
 pub written-over : {X : Type 0} (n : ℕ) (out rest : List X) → length out ≡ n → take n (out ++ rest) ≡ out
 written-over n out rest is = subst (λ (k : ℕ). take k (out ++ rest) ≡ out) is (take-append_seam out rest)
+
+-- a state with as many other instances
+abbrev pub with_instances : (old : State) (instances : List Named) → old.instances.len ≡ length instances → State
+with_instances old instances many = record old { instances = record old.instances { items = instances; ok = (many, old.instances.ok.1) } }
 
 -- ---- an event that was found
 
@@ -141,7 +145,7 @@ recorded-at instances reaches false k none inside n on = absurd (false≢true (s
 pub is-emission : (g : Config) (old new : State) (past : List Request) (name : List ℕ) (pairs : List Pair) (found : Found) (d : Delivery) (recorded : Bool)
     → d.event ≡ found.index → StandsFor g old past → Some (numbered found) ≡ event_named_in old.catalog name
     → IsIndexOf old.catalog name found.index found.event.now → row_of found.event.now pairs ≡ Ok d.row → IsStateAlike old new
-    → AreReached found.index d.row d.cpu d.pid d.reaches recorded old.instances.items → IsAhead new found.index d.row d.pid recorded d.record.items
+    → AreReached found.index d.row d.cpu d.pid d.reaches recorded old.instances.items → IsAhead old.clock found.index d.row d.pid recorded d.record.items
     → IsEmission g past (Emission name d.cpu d.pid pairs) new.instances.items d
 is-emission g old new past name pairs found d recorded at stands named indexed built alike are ahead = record {
   declares = refl;
@@ -156,14 +160,11 @@ is-emission g old new past name pairs found d recorded at stands named indexed b
   pid = refl;
   records = recording;
   fires = firing;
-  bytes = λ k n inside on. rw (← clock) (ahead.is (recorded-at old.instances.items d.reaches recorded k are.none (within k inside) n on));
+  bytes = λ k n inside on. rw (← stands.clock) (ahead.is (recorded-at old.instances.items d.reaches recorded k are.none (within k inside) n on));
 }
   where
     e : Emitted
     e = record { k = numbered found; row = d.row; cpu = d.cpu; pid = d.pid; timestamp = now_of past + 1 }
-
-    clock : new.clock ≡ now_of past
-    clock = alike.clock ∙ stands.clock
 
     there : event_named name past ≡ Some (numbered found)
     there = named-found g old past name found stands named
@@ -195,7 +196,8 @@ is-emission g old new past name pairs found d recorded at stands named indexed b
 
 -- a record that was written ahead can be written wherever it is to be
 can-be-written : (g : Config) (old new : State) (past : List Request) (d : Delivery) (recorded : Bool) → StandsFor g new past → IsStateAlike old new
-    → d.cpu < g.cpus → AreReached d.event d.row d.cpu d.pid d.reaches recorded old.instances.items → IsAhead new d.event d.row d.pid recorded d.record.items
+    → d.cpu < g.cpus → AreReached d.event d.row d.cpu d.pid d.reaches recorded old.instances.items
+    → IsAhead old.clock d.event d.row d.pid recorded d.record.items
     → (recorded ≡ true → length d.record.items ≤ g.page_bytes) → AllReached (IsWritable d) d.reaches new.instances.items
 can-be-written g old new past d recorded stands alike inside are ahead short = λ k n within on.
     let before : k < length old.instances.items = omega (arith, within, alike.instances.many) in
@@ -214,7 +216,7 @@ passed-still old new emission event known alike are k d inside =
 -- and so all is there for the emission
 pub ready-emission : (g : Config) (old new : State) (past : List Request) (request : Request) (d : Delivery) (recorded : Bool) → StandsFor g new past
     → IsEmission g past request new.instances.items d → IsStateAlike old new → d.cpu < g.cpus
-    → AreReached d.event d.row d.cpu d.pid d.reaches recorded old.instances.items → IsAhead new d.event d.row d.pid recorded d.record.items
+    → AreReached d.event d.row d.cpu d.pid d.reaches recorded old.instances.items → IsAhead old.clock d.event d.row d.pid recorded d.record.items
     → (recorded ≡ true → length d.record.items ≤ g.page_bytes) → ArePassed (deliveries.row_of d) d.event d.passed old.instances.items
     → All (λ (n : Named). CanCountRow (deliveries.row_of d) d.event n.instance) new.instances.items → CanEmit new d
 ready-emission g old new past request d recorded stands emission alike inside are ahead short passed counted = (
@@ -236,3 +238,71 @@ fit-at page_bytes events name index event fit indexed = subst (IsFit page_bytes)
     by [] i all inside = absurd (omega arith)
     by (e ∷ es) zero all inside = all.0
     by (e ∷ es) (suc i) all inside = by es i all.1 (omega (arith, inside))
+
+-- each instance of a usable state has each event
+pub has-event : (g : Config) (state : State) (index : ℕ) → IsUsable g state → index < length state.catalog
+    → All (λ (n : Named). HasEventAt index n.instance) state.instances.items
+has-event g state index usable inside = λ k d within.
+    let i = usable.each k d within in
+    let hists : index < length (get_or state.instances.items k d).instance.hists = omega (arith, i.hists, inside) in record {
+      enabled = omega (arith, i.enabled, inside);
+      filters = omega (arith, i.filters, inside);
+      triggers = omega (arith, i.triggers, inside);
+      hists = hists;
+      agree = i.agree index [] hists;
+    }
+
+-- so what was reserved for a row is the emission of the pairs that give the row
+pub prepared-emission : (g : Config) (old new : State) (past : List Request) (name : List ℕ) (cpu : ℕ) (pid : ℤ) (pairs : List Pair) (found : Found)
+    (row : Cells) (d : Delivery) → IsUsable g old → StandsFor g old past → IsStateAlike old new → Some (numbered found) ≡ event_named_in old.catalog name
+    → IsIndexOf old.catalog name found.index found.event.now → cpu < g.cpus → row_of found.event.now pairs ≡ Ok row
+    → d ≡ record d { event = found.index; row = row; cpu = cpu; pid = pid }
+    → IsReserved old.clock found.event.now old.instances.items new.instances.items d → IsPreparedEmission g past (Emission name cpu pid pairs) new d
+prepared-emission g old new past name cpu pid pairs found row d usable stands alike named indexed inside built given reserved =
+    subst (λ (r : Request). IsPreparedEmission g past r new d) asked (
+      answers-emission g past name d.cpu pairs (numbered found) d.row within (named-found g old past name found stands named) exact,
+      emission,
+      ready-emission g old new past own d reserved.recorded (state_alike-stands g old new past alike stands) emission alike within reserved.reached
+          reserved.ahead short reserved.passed reserved.counted,
+    )
+  where
+    own : Request
+    own = Emission name d.cpu d.pid pairs
+
+    asked : own ≡ Emission name cpu pid pairs
+    asked = ap (λ (e : Delivery). Emission name e.cpu e.pid pairs) given
+
+    of_event : d.event ≡ found.index
+    of_event = ap (λ (e : Delivery). e.event) given
+
+    within : d.cpu < g.cpus
+    within = omega (arith, inside, ap (λ (e : Delivery). e.cpu) given)
+
+    exact : row_of found.event.now pairs ≡ Ok d.row
+    exact = built ∙ ap (λ (e : Delivery). Ok e.row) (sym given)
+
+    short : reserved.recorded ≡ true → length d.record.items ≤ g.page_bytes
+    short on = omega (arith, reserved.sized on, (fit-at g.page_bytes old.catalog name found.index found.event.now usable.fit indexed).size)
+
+    emission : IsEmission g past own new.instances.items d
+    emission = is-emission g old new past name pairs found d reserved.recorded of_event stands named indexed exact alike (rw of_event at reserved.reached)
+        (rw of_event at reserved.ahead)
+
+-- also where the instances are other ones in the same state
+pub prepared-with : (g : Config) (old : State) (past : List Request) (name : List ℕ) (cpu : ℕ) (pid : ℤ) (pairs : List Pair) (found : Found)
+    (row : Cells) (d : Delivery) (instances out : List Named) (many : old.instances.len ≡ length out) → out ≡ instances → IsUsable g old
+    → StandsFor g old past → EachCame IsAlike old.instances.items instances → Some (numbered found) ≡ event_named_in old.catalog name
+    → IsIndexOf old.catalog name found.index found.event.now → cpu < g.cpus → row_of found.event.now pairs ≡ Ok row
+    → d ≡ record d { event = found.index; row = row; cpu = cpu; pid = pid }
+    → IsReserved old.clock found.event.now old.instances.items instances d
+    → IsPreparedEmission g past (Emission name cpu pid pairs) (with_instances old out many) d
+prepared-with g old past name cpu pid pairs found row d instances out many over usable stands came named indexed inside built given reserved =
+    prepared-emission g old (with_instances old out many) past name cpu pid pairs found row d usable stands alike named indexed inside built given
+    (subst (λ (is : List Named). IsReserved old.clock found.event.now old.instances.items is d) (sym over) reserved)
+  where
+    alike : IsStateAlike old (with_instances old out many)
+    alike = record {
+      catalog = refl;
+      clock = refl;
+      instances = subst (λ (is : List Named). EachCame IsAlike old.instances.items is) (sym over) came;
+    }

@@ -7,6 +7,7 @@ pub mod Alike
 pub mod Histories
 pub mod Resolving
 pub mod Emitting
+pub mod NumberedEvents
 pub mod MadeNames
 pub mod Making
 pub mod Dispatch

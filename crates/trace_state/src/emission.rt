@@ -6,22 +6,24 @@ ghost use Rattle.trace_command.specs.Configs.{IsInRange};
 ghost use Rattle.trace_command.specs.Refusals.{IsRefusal};
 ghost use Rattle.trace_command.specs.Requests as requests;
 ghost use Rattle.trace_command.specs.Requests.{Request, Emission};
-ghost use Rattle.trace_format.specs.Cells.{payload_size_of, size_of_all};
+ghost use Rattle.trace_format.specs.Cells.{IsRowOf, payload_size_of, size_of_all};
 ghost use Rattle.trace_format.specs.declared.pair.Pair.{Pair as PairSeen};
 ghost use Rattle.trace_history.specs.History.{answer_with_room, emission_answer};
+ghost use Rattle.trace_history.specs.Settings.{declared_events};
 ghost use Rattle.trace_record.specs.Record.{record_size};
 ghost use Rattle.trace_state.specs.private.Emissions as emissions;
+ghost use Rattle.trace_state.specs.ValueEmissions.{values_emission};
 ghost use Rattle.trace_instance.specs.Instances.{IsAlike};
 ghost use Rattle.trace_instance.specs.KeptHists.{KeysAgree};
 ghost use Rattle.trace_state.specs.States.{StandsFor, IsPreparedEmission, IsStateAlike, IsUsable, EachCame, ArePassed, NeedsHitMemory};
 ghost use Rattle.trace_instance.specs.Deliveries.{CanCountRow, most_requests};
 
-use crate::resolve::find_likely;
+use crate::resolve::{Found, find_likely, find_numbered};
 use crate::row::record;
 use crate::state::{Named, State};
 use std::alloc::{AllocError, Global};
 use trace_command::{Config, Refusal};
-use trace_format::{BorrowedPair, EventDef, Row, payload_size};
+use trace_format::{BorrowedPair, EventDef, FieldValue, Row, payload_size};
 use trace_instance::{Delivery, INSTANCES, MOST_TRIGGERS, Passed, Reach};
 
 impl State {
@@ -53,16 +55,40 @@ impl State {
         let Some(found) = find_likely(&self.catalog, delivery.event, name) else {
             return Err(Refusal::NoSuchEvent);
         };
-        let index = found.index;
         delivery.row.rebuild(alloc, found.event, pairs)?;
-        delivery.event = index;
-        delivery.cpu = cpu;
-        delivery.pid = pid;
-        let row = &delivery.row;
-        let recorded = reach_each(&self.instances, index, row, cpu, pid, &mut delivery.reaches);
-        let size = size_if(recorded, found.event);
-        self.reserve_hits(index, row, cpu, pid, &mut delivery.passed)?;
-        self.write_ahead(recorded, index, pid, size, row, &mut delivery.record)?;
+        prepare_row(&mut self.instances, self.clock, found, cpu, pid, delivery)?;
+        Ok(())
+    }
+
+    /// Likewise, for the event with this number, from 1, and values of its fields in order of declaration.
+    pub fn prepare_values(
+        &mut self,
+        alloc: Global,
+        delivery: &mut Delivery,
+        config: &Config,
+        number: u32,
+        cpu: u32,
+        pid: i32,
+        values: &[FieldValue<'_>],
+    ) -> Result<(), Refusal>
+        requires usable { IsUsable config.now self.old }
+        requires in_range { IsInRange config.now }
+        ensures alike { IsStateAlike self.old self.new }
+        ensures prepared { (past : List Request) → StandsFor config.now self.old past
+            → OnOk result (IsPreparedEmission config.now past (values_emission (declared_events past) number cpu pid values.now)
+            self.new delivery.new) }
+        ensures refused { (past : List Request) → StandsFor config.now self.old past
+            → IfErr result (λ r. IsRefusal r
+            (answer_with_room config.now past (values_emission (declared_events past) number cpu pid values.now))) }
+    {
+        if cpu >= config.cpus {
+            return Err(Refusal::NoSuchCpu);
+        }
+        let Some(found) = find_numbered(&self.catalog, number) else {
+            return Err(Refusal::NoSuchEvent);
+        };
+        delivery.row.rebuild_of_values(alloc, found.event, values)?;
+        prepare_row(&mut self.instances, self.clock, found, cpu, pid, delivery)?;
         Ok(())
     }
 
@@ -82,54 +108,40 @@ impl State {
         }
         Refusal::Memory
     }
+}
 
-    // Evaluates the filters of the hist triggers of the event at this index for a row, in each instance, and reserves memory to count it for those
-    // that it passes.
-    fn reserve_hits(
-        &mut self,
-        index: usize,
-        row: &Row,
-        cpu: u32,
-        pid: i32,
-        passed: &mut [Passed; INSTANCES],
-    ) -> Result<(), AllocError>
-        requires few { length self.old.instances.items ≤ 8 }
-        requires index { All (λ n. index < length n.instance.hists) self.old.instances.items }
-        requires agree { All (λ n. KeysAgree (slice_index_or n.instance.hists index [])) self.old.instances.items }
-        ensures alike { IsStateAlike self.old self.new }
-        ensures passed { OnOk result (ArePassed (record { values = row.now.values; cpu = cpu; pid = pid }) index passed.new
-            self.old.instances.items) }
-        ensures counted { OnOk result (All (λ n. CanCountRow (record { values = row.now.values; cpu = cpu; pid = pid }) index n.instance)
-            self.new.instances.items) }
-        // Memory is taken, and may be refused, only for a row that needs a new entry in some table.
-        ensures memory { OnErr result (NeedsHitMemory (record { values = row.now.values; cpu = cpu; pid = pid }) index
-            self.old.instances.items) }
-    {
-        reserve_each(&mut self.instances, index, row, cpu, pid, passed)
-    }
-
-    // Makes the record of an emission of the event at this index, if some instance records it.
-    fn write_ahead(
-        &self,
-        recorded: bool,
-        index: usize,
-        pid: i32,
-        size: usize,
-        row: &Row,
-        bytes: &mut Vec<u8>,
-    ) -> Result<(), AllocError>
-        requires early { self.now.clock ≤ most_requests }
-        requires index { index < 64 }
-        requires size { recorded ≡ true → size ≡ size_of_all row.now.kinds }
-        requires small { size < 2 ^ 12 }
-        ensures ahead { OnOk result (emissions.IsAhead self.now index row.now pid recorded bytes.new.items) }
-        ensures length { OnOk result (recorded ≡ true → length bytes.new.items ≡ record_size size) }
-    {
-        if !recorded {
-            return Ok(());
-        }
-        record(self.clock + 1, pid, index as u16 + 1, size, row, bytes)
-    }
+// Prepares the emission of an event that was found, whose row the delivery has, in this order: what it does in each instance, the memory of its hist
+// triggers, and its record.
+#[inline(always)]
+fn prepare_row(
+    instances: &mut [Named],
+    clock: u64,
+    found: Found<'_>,
+    cpu: u32,
+    pid: i32,
+    delivery: &mut Delivery,
+) -> Result<(), AllocError>
+    requires few { length instances.old ≤ 8 }
+    requires each { All (λ n. emissions.HasEventAt found.index n.instance) instances.old }
+    requires early { clock ≤ most_requests }
+    requires index { found.index < 64 }
+    requires fields { length found.event.now.fields ≤ 16 }
+    requires row { IsRowOf found.event.now delivery.old.row }
+    ensures alike { EachCame IsAlike instances.old instances.new }
+    ensures given { OnOk result (delivery.new
+        ≡ record delivery.new { event = found.entry.index; row = delivery.old.row; cpu = cpu; pid = pid }) }
+    ensures reserved { OnOk result (emissions.IsReserved clock found.entry.event.now instances.old instances.new delivery.new) }
+{
+    let index = found.index;
+    delivery.event = index;
+    delivery.cpu = cpu;
+    delivery.pid = pid;
+    let row = &delivery.row;
+    let recorded = reach_each(instances, index, row, cpu, pid, &mut delivery.reaches);
+    let size = size_if(recorded, found.event);
+    reserve_each(instances, index, row, cpu, pid, &mut delivery.passed)?;
+    write_ahead(clock, recorded, index, pid, size, row, &mut delivery.record)?;
+    Ok(())
 }
 
 // How many bytes the payload of an event takes, where its record is to be made.
@@ -139,6 +151,29 @@ fn size_if(recorded: bool, event: &EventDef) -> usize
     ensures small { result < 2 ^ 12 }
 {
     if recorded { payload_size(event) } else { 0 }
+}
+
+// Makes the record of an emission of the event at this index, if some instance records it.
+fn write_ahead(
+    clock: u64,
+    recorded: bool,
+    index: usize,
+    pid: i32,
+    size: usize,
+    row: &Row,
+    bytes: &mut Vec<u8>,
+) -> Result<(), AllocError>
+    requires early { clock ≤ most_requests }
+    requires index { index < 64 }
+    requires size { recorded ≡ true → size ≡ size_of_all row.now.kinds }
+    requires small { size < 2 ^ 12 }
+    ensures ahead { OnOk result (emissions.IsAhead clock index row.now pid recorded bytes.new.items) }
+    ensures length { OnOk result (recorded ≡ true → length bytes.new.items ≡ record_size size) }
+{
+    if !recorded {
+        return Ok(());
+    }
+    record(clock + 1, pid, index as u16 + 1, size, row, bytes)
 }
 
 // What an emission of the event at this index does in each instance, apart from hist triggers. Whether any instance records it.

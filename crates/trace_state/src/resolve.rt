@@ -9,11 +9,12 @@ ghost use Rattle.trace_command.specs.Requests.{Request};
 ghost use Rattle.trace_command.specs.declared.command.Config.{Config};
 ghost use Rattle.trace_history.specs.Declarations.{IsIndexOf};
 ghost use Rattle.trace_history.specs.Settings.{declared_events, event_named_in, numbered_event, is_same};
-ghost use Rattle.trace_format.specs.Catalogs.{id_of};
+ghost use Rattle.trace_format.specs.Catalogs.{event_of, id_of};
 ghost use Rattle.trace_state.specs.private.Files as files;
 ghost use Rattle.trace_instance.specs.Files.{IsThere};
 ghost use Rattle.trace_state.specs.private.Found.{numbered};
 ghost use Rattle.trace_state.specs.States.{StandsFor};
+ghost use Rattle.trace_state.specs.declared.resolve.Found.{Found as FoundEvent};
 
 use crate::state::{Named, State};
 use trace_command::{Config, FileName, Refusal, address_of};
@@ -59,6 +60,19 @@ pub(crate) fn find_likely<'a>(catalog: &'a Catalog, likely: usize, name: &[u8]) 
         Some(found) if found.event.name() == name => Some(found),
         _ => find(catalog, name),
     }
+}
+
+/// The event with this number, from 1.
+#[inline(always)]
+pub(crate) fn find_numbered(catalog: &Catalog, number: u32) -> Option<Found<'_>>
+    ensures event { option_map (λ (found : FoundEvent). found.event.now) result ≡ event_of catalog.now number }
+    ensures named { IfSome result (λ found. event_named_in catalog.now found.event.now.name ≡ Some (numbered found)) }
+    ensures index { IfSome result (λ found. IsIndexOf catalog.now found.event.now.name found.index found.event.now) }
+{
+    if number as usize > catalog.len() {
+        return None;
+    }
+    numbered(catalog, number as u16)
 }
 
 // The event with this number.
