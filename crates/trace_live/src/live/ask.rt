@@ -2,7 +2,8 @@
 
 ghost use Rattle.std.specs.Prelude.{◌≡◌, ◌≤◌, List};
 ghost use Rattle.trace_command.specs.Requests.{Request, Emission, request_of};
-ghost use Rattle.trace_history.specs.Settings.{ticks};
+ghost use Rattle.trace_history.specs.Settings.{declared_events, ticks};
+ghost use Rattle.trace_state.specs.ValueEmissions.{values_emission};
 ghost use Rattle.trace_live.specs.Lives.{IsLive, IsCall, IsCallWithin, most_done};
 
 use super::{Live, MOST_DONE};
@@ -10,7 +11,7 @@ use crate::discard::let_go;
 use crate::pair::single;
 use std::slice;
 use trace_command::{BorrowedEmission, Command, Refusal, Reply};
-use trace_format::{Pair, borrowed};
+use trace_format::{FieldValue, Pair, borrowed};
 
 impl Live {
     /// Runs a command, or refuses it. The answer is the one that the commands done before it give. A refused command changes nothing.
@@ -92,6 +93,44 @@ impl Live {
     {
         let (event, cpu, pid, pairs) = emission.parts();
         match self.prepare_emission(limit, event, cpu, pid, pairs) {
+            Ok(()) => {
+                self.deliver();
+                Ok(Reply::Done)
+            }
+            Err(refusal) => Err(refusal),
+        }
+    }
+
+    /// As `ask`, for the emission of the event with this number, from 1, and values of its fields in order of declaration (`values_emission`).
+    pub fn ask_values(
+        &mut self,
+        event: u32,
+        cpu: u32,
+        pid: i32,
+        values: &[FieldValue<'_>],
+    ) -> Result<Reply, Refusal>
+        ensures call { (past : List Request) → IsLive self.old.config past self.old
+            → IsCall past self.new (values_emission (declared_events past) event cpu pid values.now) result }
+        ensures config { self.new.config ≡ self.old.config }
+    {
+        self.ask_values_within(MOST_DONE, event, cpu, pid, values)
+    }
+
+    /// As `ask_within`, for the same.
+    pub fn ask_values_within(
+        &mut self,
+        limit: u64,
+        event: u32,
+        cpu: u32,
+        pid: i32,
+        values: &[FieldValue<'_>],
+    ) -> Result<Reply, Refusal>
+        requires { limit ≤ most_done }
+        ensures call { (past : List Request) → IsLive self.old.config past self.old
+            → IsCallWithin limit past self.new (values_emission (declared_events past) event cpu pid values.now) result }
+        ensures config { self.new.config ≡ self.old.config }
+    {
+        match self.prepare_values(limit, event, cpu, pid, values) {
             Ok(()) => {
                 self.deliver();
                 Ok(Reply::Done)

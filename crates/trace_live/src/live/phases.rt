@@ -7,14 +7,15 @@ ghost use Rattle.trace_command.specs.declared.refusal.Refusal.TheVariants as ref
 ghost use Rattle.trace_format.specs.declared.pair.Pair.{Pair as PairSeen};
 ghost use Rattle.trace_history.specs.History.{emission_answer};
 ghost use Rattle.trace_history.specs.LateMemory.{TakesMemoryLate};
-ghost use Rattle.trace_history.specs.Settings.{ticks};
+ghost use Rattle.trace_history.specs.Settings.{declared_events, ticks};
 ghost use Rattle.trace_state.specs.States.{IsPrepared, IsPreparedEmission};
+ghost use Rattle.trace_state.specs.ValueEmissions.{values_emission};
 ghost use Rattle.trace_live.specs.Lives.{IsLive, IsPreparedWithin, IsReadyFor, CanDeliver, limited_answer, most_done};
 
 use super::Live;
 use crate::discard::let_go_change;
 use trace_command::{Command, Refusal, Reply};
-use trace_format::BorrowedPair;
+use trace_format::{BorrowedPair, FieldValue};
 use trace_state::Prepared;
 
 impl Live {
@@ -93,6 +94,44 @@ impl Live {
             cpu,
             pid,
             pairs,
+        ) {
+            Ok(()) => {}
+            Err(refusal) => return Err(refusal),
+        }
+        if self.done >= limit {
+            return Err(Refusal::HistoryFull);
+        }
+        Ok(())
+    }
+
+    /// As `prepare_emission`, for the event with this number, from 1, and values of its fields in order of declaration.
+    #[inline(always)]
+    pub fn prepare_values(
+        &mut self,
+        limit: u64,
+        event: u32,
+        cpu: u32,
+        pid: i32,
+        values: &[FieldValue<'_>],
+    ) -> Result<(), Refusal>
+        ensures prepared { (past : List Request) → IsLive self.old.config past self.old
+            → OnOk result (IsPreparedEmission self.new.config past (values_emission (declared_events past) event cpu pid values.now)
+            self.new.state self.new.delivery) }
+        ensures refused { (past : List Request) → IsLive self.old.config past self.old → IfErr result (λ r. IsRefusal r
+            (limited_answer limit self.new.config past (values_emission (declared_events past) event cpu pid values.now))) }
+        ensures ready { OnOk result (CanDeliver self.new) }
+        ensures room { OnOk result (self.new.done < limit) }
+        ensures lives { (past : List Request) → IsLive self.old.config past self.old → IsLive self.new.config past self.new }
+        ensures config { self.new.config ≡ self.old.config }
+    {
+        match self.state.prepare_values(
+            self.alloc,
+            &mut self.delivery,
+            &self.config,
+            event,
+            cpu,
+            pid,
+            values,
         ) {
             Ok(()) => {}
             Err(refusal) => return Err(refusal),
