@@ -1,6 +1,7 @@
 //! Events: their names, and their fields with types.
 
 ghost use Rattle.std.specs.Prelude.{◌≡◌, ◌<◌, ◌^◌, List, ℕ, IfOk, IfErr, length};
+ghost use Rattle.trace_format.specs.private.PayloadSizes.{IsPayloadSize};
 
 use crate::fault::DefinitionFault;
 use crate::kind::Kind;
@@ -17,21 +18,23 @@ pub struct Field {
     pub kind: Kind,
 }
 
-/// An event that a declaration defines: its name, and its fields in order.
+/// An event that a declaration defines: its name, and its fields in order. The size of its payload is kept, so that no emission adds it up.
 #[derive(Drop)]
 pub struct EventDef {
     name: Text,
     fields: Vec<Field>,
+    payload_size: usize,
 }
 
 impl Model for EventDef {
     ghost use Rattle.trace_format.specs.Definitions.{Definition, IsDefinition};
+    ghost use Rattle.trace_format.specs.private.PayloadSizes.{IsPayloadSize};
 
     ghost Value = { Definition };
 
     ghost view = { λ e. record { name = e.name; fields = e.fields.items } };
 
-    ghost invariant = { λ e. IsDefinition (record { name = e.name; fields = e.fields.items }) };
+    ghost invariant = { λ e. IsDefinition (record { name = e.name; fields = e.fields.items }) × IsPayloadSize e.fields.items e.payload_size };
 }
 
 impl EventDef {
@@ -72,7 +75,14 @@ impl EventDef {
             from = word.at + word.bytes.len();
         }
         match reader.finish() {
-            Some((name, fields)) => Ok(EventDef { name, fields }),
+            Some((name, fields)) => {
+                let payload_size = size_of_fields(&fields);
+                Ok(EventDef {
+                    name,
+                    fields,
+                    payload_size,
+                })
+            }
             None => Err(DefinitionFault::BadDefinition { at: len }),
         }
     }
@@ -92,4 +102,25 @@ impl EventDef {
     {
         self.fields.as_slice()
     }
+
+    /// How many bytes its payload takes, if it has at most 16 fields.
+    pub(crate) fn payload_size(&self) -> usize
+        ensures { IsPayloadSize self.now.fields result }
+    {
+        self.payload_size
+    }
+}
+
+/// How many bytes a payload of fields takes, if they are at most 16.
+fn size_of_fields(fields: &[Field]) -> usize
+    ensures { IsPayloadSize fields.now result }
+{
+    if fields.len() > 16 {
+        return 0;
+    }
+    let mut size = 0;
+    for field in fields {
+        size += field.kind.size();
+    }
+    size
 }

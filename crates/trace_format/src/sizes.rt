@@ -11,11 +11,7 @@ pub fn payload_size(def: &EventDef) -> usize
     ensures size { result ≡ payload_size_of def.now }
     ensures bound { result < 2 ^ 12 }
 {
-    let mut size = 0;
-    for field in def.fields() {
-        size += field.kind.size();
-    }
-    size
+    def.payload_size()
 }
 
 /// How many bytes a record of an event takes: a head of 16 bytes, the payload, and as few more as make it a multiple of 8.

@@ -11,7 +11,7 @@ invariant_of-self-2 c =
       next = id_for_next c.args.self.now c.args.def _ c.in_ok-id.id (sym c.next_id.ensures ∙ c.in_ok-id.was);
       named = c.in_ok-name.ensures.items ∙ c.name.ensures;
       put = c.in_ok-insert.ensures.entries;
-    }) (subst IsDefinition c.def.view_is c.def.invariant)
+    }) (subst IsDefinition c.def.view_is c.def.invariant.0)
 
 pub returns-clause-ok : goal.returns-clause-ok
 returns-clause-ok c =

@@ -1,7 +1,9 @@
-use Rattle.std.proofs.Common.{◌≡◌, ◌^◌, ◌<◌, length, Some, ok_or, Ok, sym, ap, ◌∙◌, arith}
+use Rattle.std.proofs.Common.{◌≡◌, ◌^◌, ◌<◌, List, length, Some, ok_or, Ok, sym, ap, ◌∙◌, subst, arith}
+use Rattle.trace_format.specs.declared.event.Field.{Field}
 use Rattle.trace_format.specs.Definitions.{Definition}
 use Rattle.trace_format.specs.Words.{spots_of}
 use Rattle.trace_format.specs.Reading.{reading, finish, definition_of}
+use Rattle.trace_format.specs.private.PayloadSizes.{IsPayloadSize}
 use Rattle.trace_format.proofs.Verdicts.{read_declared}
 use Rattle.trace_format.proofs.event.EventDef.read.Goals as goal
 
@@ -18,4 +20,7 @@ invariant_of-result c =
     let ended : finish c.loop-word.reader ≡ Some definition = sym c.in-Some-finish.ensures in
     let read : definition_of text ≡ Ok definition =
     sym c.loop-word.invariant.1 ∙ ap (λ spots. reading c.loop-word.reader spots (length text)) c.in_default.ensures.none ∙ ap (λ o. ok_or o (length text)) ended in
-    (read_declared text small (Ok definition) read).defined
+    let size = c.size_of_fields-payload_size in (
+      (read_declared text small (Ok definition) read).defined,
+      subst (λ (fields : List Field). IsPayloadSize fields size.result) c.deref.ensures.value size.ensures,
+    )
