@@ -1,4 +1,5 @@
 pub mod Counting
 pub mod DistinctKeys
+pub mod GroupExamples
 pub mod GroupLaws
 pub mod Histograms
