@@ -5,8 +5,7 @@ use Rattle.std.proofs.lemmas.List.{drop_all, drop_more}
 use Rattle.trace_lex.specs.Blanks.{is_blank}
 use Rattle.trace_script.specs.Tokens.{is_quote}
 use Rattle.trace_explain.specs.Carets.{offsets_from}
-use Rattle.trace_explain.specs.Starts.{is_start, next_stand, starts_from}
-use Rattle.trace_explain.specs.private.Steps.{next_end, ends_at, has_offset, is_open}
+use Rattle.trace_explain.specs.private.Steps.{next_end, next_stand, ends_at, has_offset, is_open}
 use Rattle.trace_explain.specs.declared.caret.Stand.{Stand}
 use Rattle.trace_explain.specs.declared.caret.Stand.TheVariants.{Between, InWord, InQuotes}
 
@@ -59,13 +58,3 @@ pub offsets_end : (offsets more line : List ℕ) (stand : Stand) (end at : ℕ) 
     → more ≡ offsets ++ offsets_from stand end at (drop at line)
 offsets_end offsets more line stand end at past is =
     is ∙ ap (λ (xs : List ℕ). offsets ++ xs) (open_end stand end at ∙ ap (λ (xs : List ℕ). offsets_from stand end at xs) (sym (drop_all at line past)))
-
--- the starts so far, and those of the rest
-pub starts_more : (starts more line : List ℕ) (stand : Stand) (at : ℕ) → at < length line → more ≡ starts ++ one_if (is_start stand (get_or line at 0)) at
-    → more ++ starts_from (next_stand stand (get_or line at 0)) (at + 1) (drop (at + 1) line) ≡ starts ++ starts_from stand at (drop at line)
-starts_more starts more line stand at within is =
-    let b : ℕ = get_or line at 0 in
-    let rest : List ℕ = starts_from (next_stand stand b) (at + 1) (drop (at + 1) line) in
-    ap (λ (xs : List ℕ). xs ++ rest) is
-    ∙ (append_assoc starts (one_if (is_start stand b) at) rest
-    ∙ ap (λ (xs : List ℕ). starts ++ xs) (ap (λ (xs : List ℕ). starts_from stand at xs) (sym (drop_more line at 0 within))))

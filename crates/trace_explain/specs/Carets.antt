@@ -1,11 +1,9 @@
--- Which byte of a script's line is a byte of what it writes, and where a quote begins that is not closed.
-use Rattle.std.specs.Prelude.{ℕ, ◌+◌, Bool, not, ◌||◌, ◌==◌, if◌then◌else◌, List, [], ◌∷◌, ◌++◌, drop, position, slice_get, Option, Some, None, option_map}
+-- Which byte of a script's line is a byte of what it writes.
+use Rattle.std.specs.Prelude.{ℕ, ◌+◌, ◌||◌, ◌==◌, if◌then◌else◌, List, [], ◌∷◌, ◌++◌, drop, slice_get, Option}
 use Rattle.trace_lex.specs.Blanks.{is_blank}
 use Rattle.trace_script.specs.Tokens.{is_end, is_quote}
 use Rattle.trace_explain.specs.declared.caret.Stand.{Stand}
 use Rattle.trace_explain.specs.declared.caret.Stand.TheVariants.{Between, InWord, InQuotes}
-
--- ---- where the words of a line stand
 
 -- where a byte outside quotes leads
 abbrev pub stand_after : ℕ → Stand
@@ -39,19 +37,3 @@ offsets_of line = offsets_from Between 0 0 line
 -- stands where the first of them ends, and so does the end of what is written.
 abbrev pub written_offset : List ℕ → ℕ → Option ℕ
 written_offset line at = slice_get (drop 5 (offsets_of line)) at
-
--- ---- quotes
-
--- which quote is open after a byte, and where it stands
-abbrev pub quote_after : Option (ℕ × ℕ) → ℕ → ℕ → Option (ℕ × ℕ)
-quote_after None at b = if is_quote b then Some (b, at) else None
-quote_after (Some quote) at b = if b == quote.0 then None else Some quote
-
--- which is open at the end of the rest of a line, which begins at `at`
-abbrev pub quote_from : Option (ℕ × ℕ) → ℕ → List ℕ → Option (ℕ × ℕ)
-quote_from before at [] = before
-quote_from before at (b ∷ bs) = quote_from (quote_after before at b) (at + 1) bs
-
--- where the quote stands that a line doesn't close
-unfoldable pub open_quote : List ℕ → Option ℕ
-open_quote line = option_map (λ quote. quote.1) (quote_from None 0 line)

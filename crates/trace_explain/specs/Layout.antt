@@ -33,11 +33,8 @@ unfoldable pub meant_line : List ℕ → List ℕ
 meant_line [] = []
 meant_line (b ∷ bs) = codes "  did you mean `" ++ shown_bytes (b ∷ bs) ++ codes "`?\n"
 
--- `SCRIPT:LINE:COLUMN: NAME: words`
-unfoldable pub heading : List ℕ → ℕ → List ℕ → List ℕ → List ℕ → List ℕ
-heading script number column name words = shown_bytes script ++ codes ":" ++ decimal number ++ column ++ codes ": " ++ name ++ codes ": " ++ words ++ codes "\n"
-
--- the heading, the line, the caret, and what was meant
+-- `SCRIPT:LINE:COLUMN: NAME: words`, which is one line whatever the words are; the script's line, the caret, and what was meant
 unfoldable pub shown : List ℕ → ℕ → List ℕ → Option ℕ → List ℕ → List ℕ → List ℕ → List ℕ
 shown script number line caret name words meant =
-    heading script number (column line caret) name words ++ codes "  " ++ shown_line line ++ codes "\n" ++ pointer line caret ++ meant_line meant
+    shown_bytes script ++ codes ":" ++ decimal number ++ column line caret ++ codes ": " ++ name ++ codes ": " ++ shown_bytes words ++ codes "\n  "
+    ++ shown_line line ++ codes "\n" ++ pointer line caret ++ meant_line meant

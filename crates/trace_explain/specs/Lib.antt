@@ -1,17 +1,12 @@
 pub mod Bytes
 pub mod Carets
-pub mod Starts
-pub mod Causes
 pub mod FilterDue
 pub mod Openings
 pub mod DeclarationDue
 pub mod HistDue
 pub mod TriggerDue
-pub mod Near
 pub mod Wording
-pub mod Events
 pub mod Places
-pub mod Hints
 pub mod Layout
 pub mod Explanations
 pub mod Writes

@@ -25,15 +25,12 @@ count_due [] rest = tail_due rest
 count_due (b ∷ digits) rest =
     if b == 58 then (if is_count (up_to (2 ^ 32 - 1) (decimal_number digits)) then tail_due rest else Count) else Colon
 
--- by a first word that doesn't begin with `snapshot`: `hist` lacks its keys
-abbrev pub word_due : List ℕ → TriggerDue
-word_due word = if bytes_eq word (codes "hist") then Keys else Word
-
--- by all that follows an optional `!`
+-- by all that follows an optional `!`: `hist` lacks its keys
 abbrev pub body_due : List ℕ → TriggerDue
 body_due body =
     if nat_lt 0 (prefix_len is_blank body) then Unblank
-    else (if begins (codes "snapshot") body then count_due (drop 8 (word_of body)) (after_blanks (after_word body)) else word_due (word_of body))
+    else (if begins (codes "snapshot") body then count_due (drop 8 (word_of body)) (after_blanks (after_word body))
+    else (if bytes_eq (word_of body) (codes "hist") then Keys else Word))
 
 -- ---- where it is due
 

@@ -1,8 +1,7 @@
 -- What is wrong, in words.
-use Rattle.std.specs.Prelude.{ℕ, ◌+◌, Bool, true, false, nat_lt, not, ◌||◌, ◌==◌, if◌then◌else◌, List, [], ◌∷◌, ◌++◌, length, take, drop, codes, Option, Some}
+use Rattle.std.specs.Prelude.{ℕ, ◌+◌, Bool, nat_lt, ◌||◌, ◌==◌, if◌then◌else◌, List, [], ◌∷◌, length, take, drop, codes, Option, Some}
 use Rattle.std.specs.List.{count_by, prefix_len}
 use Rattle.std.specs.Option.{is_some}
-use Rattle.std.specs.Str.{bytes_eq}
 use Rattle.trace_lex.specs.Blanks.{is_blank, trimmed, without_end}
 use Rattle.trace_command.specs.Paths.{File, SyntheticEvents, OfInstance, OfEvent, address_of}
 use Rattle.trace_command.specs.declared.file_name.EventFile.{EventFile}
@@ -11,27 +10,17 @@ use Rattle.trace_command.specs.declared.file_name.TopFile.{TopFile}
 use Rattle.trace_command.specs.declared.file_name.TopFile.TheVariants as top
 use Rattle.trace_trigger.specs.Frames.{is_unblank}
 use Rattle.trace_trigger.specs.TriggerTexts.{begins, word_of as first_word}
-use Rattle.trace_script.specs.Tokens.{is_end, is_quote}
-use Rattle.trace_command.specs.declared.command.Command.{Command}
-use Rattle.trace_command.specs.declared.command.Command.TheVariants.{Emit, Mkdir, Rmdir, Write, Read}
 use Rattle.trace_command.specs.declared.refusal.Refusal.{Refusal}
 use Rattle.trace_command.specs.declared.refusal.Refusal.TheVariants.{NoSuchFile, NotReadable, NotWritable, BadValue, NoSuchEvent, EventExists, BadDefinition, TooBig, FilterSyntax, NoSuchField, WrongOperator, HistSyntax, BadSize, TriggerExists, NoSuchTrigger, TooMany, InstanceExists, NoSuchInstance, Busy, NoSuchCpu, BadRow, HistoryFull, Memory, Worn}
-use Rattle.trace_script.specs.declared.fault.ScriptFault.{ScriptFault}
-use Rattle.trace_script.specs.declared.fault.ScriptFault.TheVariants.{LineTooLong, BadByte, UnclosedQuote, UnknownCommand, WrongWords, BadNumber, BlockOutOfPlace, TooManyThreads}
 use Rattle.trace_explain.specs.Bytes.{has_blank, is_same_byte}
-use Rattle.trace_explain.specs.Starts.{next_stand}
-use Rattle.trace_explain.specs.declared.caret.Stand.{Stand}
-use Rattle.trace_explain.specs.declared.caret.Stand.TheVariants.{InWord, InQuotes}
 use Rattle.trace_explain.specs.FilterDue.{due_from, filter_due_words}
 use Rattle.trace_explain.specs.DeclarationDue.{due_from as declared_from, declaration_due_words}
 use Rattle.trace_explain.specs.Openings.{is_deep}
 use Rattle.trace_explain.specs.TriggerDue.{trigger_due, trigger_due_words}
-use Rattle.trace_explain.specs.HistDue.{ends_with, attribute_at, items_of, values_of, hist_due_words, field_words as hist_field_words}
+use Rattle.trace_explain.specs.HistDue.{ends_with, attribute_at, others_of, hist_due_words, field_words as hist_field_words}
 use Rattle.trace_explain.specs.declared.filter_due.FilterDue.{FilterDue}
 use Rattle.trace_explain.specs.declared.filter_due.FilterDue.TheVariants.{Operand}
 use Rattle.trace_explain.specs.declared.declaration_due.DeclarationDue.TheVariants.{Event}
-use Rattle.trace_explain.specs.declared.cause.Cause.{Cause}
-use Rattle.trace_explain.specs.declared.cause.Cause.TheVariants as cause
 use Rattle.trace_explain.specs.declared.subject.Subject.{Subject}
 use Rattle.trace_explain.specs.declared.subject.Subject.TheVariants as subject
 
@@ -57,21 +46,8 @@ written_subject (Some (OfEvent name file)) = subject_of_event_file file
 written_subject (Some (OfInstance file)) = subject_of_top_file file
 written_subject _ = subject.Write
 
--- what a command is about
-abbrev pub command_subject : Command → Subject
-command_subject (Emit event cpu pid pairs) = subject.Emission
-command_subject (Mkdir path) = subject.Instance
-command_subject (Rmdir path) = subject.Instance
-command_subject (Write path append text) = written_subject (address_of path).file
-command_subject (Read path limit) = subject.Read
-
--- the path that a command names
-abbrev pub path_of : Command → List ℕ
-path_of (Emit event cpu pid pairs) = []
-path_of (Mkdir path) = path
-path_of (Rmdir path) = path
-path_of (Write path append text) = path
-path_of (Read path limit) = path
+abbrev pub subject_at : List ℕ → Subject
+subject_at path = written_subject (address_of path).file
 
 -- N1
 abbrev pub unknown_words : Subject → List ℕ
@@ -157,12 +133,9 @@ abbrev pub filter_most_words : List ℕ → List ℕ
 filter_most_words filter =
     if nat_lt 1024 (length (trimmed filter)) then codes "a filter has at most 1,024 bytes" else codes "at most 16 `!` and `(` may be open"
 
--- N16, of a trigger: a list of it, its filter, or how many there are
-abbrev pub has_over : ℕ → List ℕ → List ℕ → Bool
-has_over most attribute text = nat_lt most (items_of attribute text)
-
-abbrev pub has_values : List ℕ → List ℕ → Bool
-has_values attribute text = nat_lt 3 (values_of attribute text)
+-- N16, of a trigger: a list of it, its filter, or how many there are; no item is a comma, so that none is left out
+abbrev pub has_over : ℕ → List ℕ → List ℕ → List ℕ → Bool
+has_over most attribute item text = nat_lt most (others_of attribute item text)
 
 abbrev pub condition_most_words : List ℕ → List ℕ
 condition_most_words filter =
@@ -171,10 +144,12 @@ condition_most_words filter =
 
 unfoldable pub trigger_most_words : List ℕ → List ℕ
 trigger_most_words text =
-    if has_over 3 (codes ":keys=") (first_word text) || has_over 3 (codes ":key=") (first_word text) then codes "a hist trigger has at most three keys"
-    else (if has_values (codes ":values=") (first_word text) || (has_values (codes ":vals=") (first_word text) || has_values (codes ":val=") (first_word text))
+    if has_over 3 (codes ":keys=") (codes ",") (first_word text) || has_over 3 (codes ":key=") (codes ",") (first_word text)
+    then codes "a hist trigger has at most three keys"
+    else (if has_over 3 (codes ":values=") (codes "hitcount") (first_word text) || (has_over 3 (codes ":vals=") (codes "hitcount") (first_word text)
+    || has_over 3 (codes ":val=") (codes "hitcount") (first_word text))
     then codes "a hist trigger has at most three values"
-    else (if has_over 2 (codes ":sort=") (first_word text) then codes "a hist trigger is sorted by at most two names"
+    else (if has_over 2 (codes ":sort=") (codes ",") (first_word text) then codes "a hist trigger is sorted by at most two names"
     else condition_most_words (drop (condition_start text) text)))
 
 -- N16
@@ -215,76 +190,3 @@ refusal_words subject path text (BadRow field) = codes "the pairs are no row of 
 refusal_words subject path text HistoryFull = codes "the history is full"
 refusal_words subject path text Memory = codes "out of memory"
 refusal_words subject path text Worn = codes "all tickets are drawn"
-
--- what is wrong with a field
-unfoldable pub cause_words : Cause → List ℕ
-cause_words cause.NotKnown = codes "no field of the event, or repeated, or its value is none of its type"
-cause_words cause.NoField = codes "the event has no field of this name"
-cause_words cause.Repeated = codes "the field is repeated"
-cause_words cause.Missing = codes "the field is missing"
-cause_words cause.NoNumber = codes "its value is no number from -2^63 to 2^64 - 1"
-cause_words cause.OutOfRange = codes "its value is out of the range of its type"
-cause_words cause.TooLong = codes "its value is too long"
-cause_words cause.NotPrintable = codes "its value has a byte that is not from 0x20 to 0x7e"
-
--- the word that some bytes of a line begin with, as it is written
-abbrev pub is_in_word : ℕ → Bool
-is_in_word b = not (is_end b)
-
-abbrev pub word_of : List ℕ → List ℕ
-word_of text = take (prefix_len is_in_word text) text
-
--- whether it ends before a byte
-abbrev pub ends_word : Stand → ℕ → Bool
-ends_word (InQuotes quote) b = false
-ends_word _ b = is_end b
-
--- whether a byte is one of the word's, and no quote around some of it
-abbrev pub is_kept : Stand → ℕ → Bool
-is_kept (InQuotes quote) b = not (b == quote)
-is_kept _ b = not (is_quote b)
-
--- the rest of the word without its quotes
-abbrev pub unquoted_from : Stand → List ℕ → List ℕ
-unquoted_from stand [] = []
-unquoted_from stand (b ∷ bs) =
-    if ends_word stand b then [] else ((if is_kept stand b then b ∷ [] else []) ++ unquoted_from (next_stand stand b) bs)
-
--- the first word of a line without its quotes
-abbrev pub name_of : List ℕ → List ℕ
-name_of line = unquoted_from InWord (drop (prefix_len is_blank line) line)
-
--- how a line of this name is written
-unfoldable pub usage_words : List ℕ → List ℕ
-usage_words name =
-    if bytes_eq name (codes "emit") then codes "expected `emit CPU PID EVENT FIELD=VALUE ..`"
-    else (if bytes_eq name (codes "echo") then codes "expected `echo WORD .. > PATH`, or `>>`"
-    else (if bytes_eq name (codes "cat") then codes "expected `cat PATH`"
-    else (if bytes_eq name (codes "take") then codes "expected `take N PATH`"
-    else (if bytes_eq name (codes "mkdir") then codes "expected `mkdir PATH`"
-    else (if bytes_eq name (codes "rmdir") then codes "expected `rmdir PATH`"
-    else codes "expected nothing more")))))
-
--- what a `parallel` can't do where it is: if the line before it was heard, no part is open
-abbrev pub parallel_words : Bool → List ℕ
-parallel_words false = codes "expected an `end` after each `parallel`, before the next one"
-parallel_words true = codes "no `end` follows"
-
--- what a line of this name can't do where it is
-unfoldable pub block_words : Bool → List ℕ → List ℕ
-block_words is_next name =
-    if bytes_eq name (codes "thread") then codes "no parallel part is open here"
-    else (if bytes_eq name (codes "end") then codes "no parallel part is open here"
-    else (if bytes_eq name (codes "parallel") then parallel_words is_next
-    else codes "expected `thread` before the first command of a part"))
-
--- what is wrong with a line that is no command, and begins with a word of this name; and whether the line before it was heard
-unfoldable pub fault_words : Bool → List ℕ → ScriptFault → List ℕ
-fault_words is_next name LineTooLong = codes "the line has over 4,096 bytes"
-fault_words is_next name BadByte = codes "this byte is neither a tab nor one from 0x20 to 0x7e"
-fault_words is_next name UnclosedQuote = codes "this quote is not closed"
-fault_words is_next name UnknownCommand = codes "unknown command"
-fault_words is_next name WrongWords = usage_words name
-fault_words is_next name BadNumber = codes "expected a number in its range"
-fault_words is_next name BlockOutOfPlace = block_words is_next name
-fault_words is_next name TooManyThreads = codes "a parallel part has at most eight threads"

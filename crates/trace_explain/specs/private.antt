@@ -1,5 +1,3 @@
 -- Words of private functions and of proofs: no public clause cites them.
 pub mod ByteSets
 pub mod Steps
-pub mod Searches
-pub mod Pieces

@@ -1,9 +1,8 @@
-//! Which byte of a line is a byte of what it writes, and where a quote begins that is not closed.
+//! Which byte of a line is a byte of what it writes, where its words begin, and where a quote begins that is not closed.
 
 ghost use Rattle.std.specs.Prelude.{◌≡◌, ◌-◌, ◌^◌, ◌<◌, if◌then◌else◌, [], ◌∷◌, ◌++◌, IfOk, OnOk};
 ghost use Rattle.trace_script.specs.Tokens.{is_end};
-ghost use Rattle.trace_explain.specs.Carets.{stand_after, offsets_of, written_offset, quote_after, open_quote};
-ghost use Rattle.trace_explain.specs.Starts.{next_stand};
+ghost use Rattle.trace_explain.specs.Carets.{stand_after, offsets_of, written_offset};
 ghost use Rattle.trace_explain.specs.private.Steps as steps;
 
 use crate::cut::{number_at, numbers_after};
@@ -33,7 +32,7 @@ pub(crate) fn is_end(byte: u8) -> bool
 }
 
 /// Where a byte outside quotes leads.
-pub(crate) fn stand_after(byte: u8) -> Stand
+fn stand_after(byte: u8) -> Stand
     ensures { result ≡ stand_after byte }
 {
     if is_end(byte) {
@@ -47,7 +46,7 @@ pub(crate) fn stand_after(byte: u8) -> Stand
 
 /// Where a byte leads.
 pub(crate) fn next_stand(stand: Stand, byte: u8) -> Stand
-    ensures { result ≡ next_stand stand byte }
+    ensures { result ≡ steps.next_stand stand byte }
 {
     match stand {
         Stand::InQuotes(quote) => { if byte == quote { Stand::InWord } else { stand } }
@@ -95,7 +94,7 @@ fn has_offset(stand: Stand, byte: u8) -> bool
 }
 
 /// Appends an offset, if it is there.
-pub(crate) fn push_if(offsets: &mut Vec<usize>, is_there: bool, at: usize) -> Result<(), AllocError>
+fn push_if(offsets: &mut Vec<usize>, is_there: bool, at: usize) -> Result<(), AllocError>
     ensures { OnOk result (offsets.new.items ≡ offsets.old.items ++ (if is_there then at ∷ [] else [])) }
 {
     if is_there {
@@ -134,33 +133,38 @@ pub(crate) fn written_offset(
     Ok(number_at(numbers_after(ECHO_PLACES, &offsets), at))
 }
 
-/// Which quote is open after one more byte, and where it stands.
-fn quote_after(before: Option<(u8, usize)>, at: usize, byte: u8) -> Option<(u8, usize)>
-    ensures { result ≡ quote_after before at byte }
-{
-    match before {
-        Some((quote, _)) => { if byte == quote { None } else { before } }
-        None => {
-            if is_quote(byte) {
-                Some((byte, at))
-            } else {
-                None
-            }
-        }
+/// Whether a word or a redirection begins at a byte.
+fn is_start(stand: Stand, byte: u8) -> bool {
+    match stand {
+        Stand::Between => !is_blank(byte),
+        Stand::InWord => byte == b'>',
+        Stand::InQuotes(_) => false,
     }
 }
 
-/// Where the quote stands that a line doesn't close.
-#[tactic(auto, unfolding(crate::specs::Carets::open_quote))]
-pub(crate) fn open_quote(line: &[u8]) -> Option<usize>
-    ensures { result ≡ open_quote line.now }
-{
-    let mut quote = None;
+/// Where each word and each `>` of a line begins, from the left.
+pub(crate) fn starts(alloc: Global, line: &[u8]) -> Result<Vec<usize>, AllocError> {
+    let mut starts = Vec::new(alloc);
+    let mut stand = Stand::Between;
     for (at, byte) in line.iter().enumerate() {
-        quote = quote_after(quote, at, *byte);
+        push_if(&mut starts, is_start(stand, *byte), at)?;
+        stand = next_stand(stand, *byte);
     }
-    match quote {
-        Some((_, at)) => Some(at),
-        None => None,
+    Ok(starts)
+}
+
+/// Where the quote stands that a line doesn't close.
+pub(crate) fn open_quote(line: &[u8]) -> Option<usize> {
+    let mut open = None;
+    let mut stand = Stand::Between;
+    for (at, byte) in line.iter().enumerate() {
+        if !matches!(stand, Stand::InQuotes(_)) {
+            open = Some(at);
+        }
+        stand = next_stand(stand, *byte);
+    }
+    match stand {
+        Stand::InQuotes(_) => open,
+        _ => None,
     }
 }

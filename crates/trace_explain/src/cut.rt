@@ -4,9 +4,11 @@ ghost use Rattle.std.specs.Prelude.{◌≡◌, ◌≤◌, drop, length, map, sli
 ghost use Rattle.std.specs.List.{count_by, prefix_len};
 ghost use Rattle.std.specs.Str.{bytes_eq};
 ghost use Rattle.trace_trigger.specs.Frames as frames;
+ghost use Rattle.trace_trigger.specs.TriggerTexts as texts;
 ghost use Rattle.trace_explain.specs.Bytes as bytes;
 
 use crate::byte_set::{ByteSet, first_len};
+use std::alloc::{AllocError, Global};
 use trace_lex::len_before;
 
 /// As many bytes as there are up to an offset.
@@ -39,6 +41,13 @@ pub(crate) fn has_byte(byte: u8, text: &[u8]) -> bool
     ensures { result ≡ bytes.has_byte byte text.now }
 {
     len_before(byte, text) < text.len()
+}
+
+/// Whether a string begins so.
+pub(crate) fn begins(beginning: &[u8], text: &[u8]) -> bool
+    ensures { result ≡ texts.begins beginning.now text.now }
+{
+    text.starts_with(beginning)
 }
 
 /// Whether a blank is there.
@@ -96,4 +105,13 @@ pub(crate) fn numbers_after(len: usize, numbers: &[usize]) -> &[usize]
         Some(rest) => rest,
         None => &[],
     }
+}
+
+/// Strings one after the other.
+pub(crate) fn joined(alloc: Global, parts: &[&[u8]]) -> Result<Vec<u8>, AllocError> {
+    let mut text = Vec::new(alloc);
+    for part in parts {
+        text.extend_from_slice(part)?;
+    }
+    Ok(text)
 }

@@ -5,8 +5,8 @@ ghost use Rattle.trace_lex.specs.Blanks as blanks;
 ghost use Rattle.trace_explain.specs.DeclarationDue.{in_type, due_after, due_from, is_reserved, field_words, type_words, declaration_due_words};
 
 use crate::byte_set::{ByteSet, first_bytes};
-use crate::cut::is_one_of;
-use crate::hist_due::{begins, ends_with};
+use crate::cut::{begins, is_one_of};
+use crate::hist_due::ends_with;
 use trace_lex::{is_blank, is_name};
 
 /// What comes next, after bytes with which a declaration can begin.

@@ -1,18 +1,12 @@
-//! The events that lines declared, and the commands that lines ask for.
-
-ghost use Rattle.std.specs.Prelude.{◌≡◌, IfOk};
-ghost use Rattle.trace_command.specs.Paths as paths;
-ghost use Rattle.trace_explain.specs.Events.{command_of, declared_at, declared_in};
+//! The commands that lines ask for, and the events that they name or declare.
 
 use std::alloc::{AllocError, Global};
 use trace_command::{Command, FileName, address_of};
-use trace_format::{DefinitionFault, EventDef};
+use trace_format::{DefinitionFault, EventDef, Field};
 use trace_script::{Line, LineError, prepare};
 
 /// The command that a line asks for, if it asks for one.
-pub(crate) fn command_of(alloc: Global, line: &[u8]) -> Result<Option<Command>, AllocError>
-    ensures { IfOk result (λ found. found ≡ command_of line.now) }
-{
+pub(crate) fn command_of(alloc: Global, line: &[u8]) -> Result<Option<Command>, AllocError> {
     match prepare(alloc, line) {
         Ok(Line::Ask(command)) => Ok(Some(command)),
         Err(LineError::Memory) => Err(AllocError),
@@ -20,26 +14,42 @@ pub(crate) fn command_of(alloc: Global, line: &[u8]) -> Result<Option<Command>, 
     }
 }
 
-/// The event that is declared by this in the file of a path, if one is.
-fn declared_at(alloc: Global, path: &[u8], text: &[u8]) -> Result<Option<EventDef>, AllocError>
-    ensures { IfOk result (λ found. found ≡ declared_at (paths.address_of path.now).file text.now) }
-{
-    let Some(FileName::SyntheticEvents) = address_of(path).file else {
+/// The event that a command declares, if it declares one.
+pub(crate) fn declared(alloc: Global, command: &Command) -> Result<Option<EventDef>, AllocError> {
+    let Command::Write { path, text, .. } = command else {
         return Ok(None);
     };
-    match EventDef::parse(alloc, text) {
+    let Some(FileName::SyntheticEvents) = address_of(path.as_bytes()).file else {
+        return Ok(None);
+    };
+    match EventDef::parse(alloc, text.as_bytes()) {
         Ok(event) => Ok(Some(event)),
         Err(DefinitionFault::BadDefinition { .. }) => Ok(None),
         Err(DefinitionFault::Memory) => Err(AllocError),
     }
 }
 
-/// The event that a command declares, if it declares one.
-pub(crate) fn declared(alloc: Global, command: &Command) -> Result<Option<EventDef>, AllocError>
-    ensures { IfOk result (λ found. found ≡ declared_in command.now) }
-{
-    match command {
-        Command::Write { path, text, .. } => declared_at(alloc, path.as_bytes(), text.as_bytes()),
-        _ => Ok(None),
+/// The event that a path names, if it names one.
+fn event_in_path(path: &[u8]) -> Option<&[u8]> {
+    match address_of(path).file {
+        Some(FileName::OfEvent(name, _)) => Some(name),
+        _ => None,
     }
+}
+
+/// The event that a command names, if it names one.
+pub(crate) fn event_of(command: &Command) -> Option<&[u8]> {
+    match command {
+        Command::Emit { event, .. } => Some(event.as_bytes()),
+        Command::Write { path, .. } | Command::Read { path, .. } => event_in_path(path.as_bytes()),
+        _ => None,
+    }
+}
+
+pub(crate) fn event_named<'a>(events: &'a [EventDef], name: &[u8]) -> Option<&'a EventDef> {
+    events.iter().find(|event| event.name() == name)
+}
+
+pub(crate) fn field_named<'a>(fields: &'a [Field], name: &[u8]) -> Option<&'a Field> {
+    fields.iter().find(|field| field.name.as_bytes() == name)
 }

@@ -1,153 +1,74 @@
 //! Where a line is at fault.
 
-ghost use Rattle.std.specs.Prelude.{◌≡◌, ◌≤◌, not, IfOk, length, find, unwrap_or};
-ghost use Rattle.std.specs.List.{prefix_len};
-ghost use Rattle.trace_script.specs.Lines.{line_of};
-ghost use Rattle.trace_explain.specs.Places as places;
-ghost use Rattle.trace_explain.specs.private.Searches.{is_sought, word_fault};
-
 use crate::byte_set::{ByteSet, first_bytes, first_outside};
-use crate::caret::open_quote;
-use crate::cut::{after, has_byte, is_one_of, is_same, number_at, numbers_after, up_to};
-use crate::layout::{Piece, joined};
-use crate::starts::starts;
+use crate::caret::{open_quote, starts};
+use crate::cut::{after, has_byte, is_one_of, is_same, joined, up_to};
 use std::alloc::{AllocError, Global};
 use trace_lex::trim_end;
 use trace_script::{LineError, ScriptFault, prepare};
 
-/// Where a line ends, without the blanks at its end.
-fn end_of(line: &[u8]) -> usize
-    ensures { result ≡ places.end_of line.now }
-{
-    trim_end(line).len()
-}
-
 /// Whether a `>` begins there.
-fn is_arrow(line: &[u8], at: usize) -> bool
-    ensures { result ≡ places.is_arrow line.now at }
-{
-    match line.get(at) {
-        Some(byte) => *byte == b'>',
-        None => false,
-    }
+fn is_arrow(line: &[u8], at: usize) -> bool {
+    matches!(after(at, line), [b'>', ..])
 }
 
 /// Whether the word that begins there has no `=`.
-fn lacks_value(line: &[u8], at: usize) -> bool
-    ensures { result ≡ places.lacks_value line.now at }
-{
+fn lacks_value(line: &[u8], at: usize) -> bool {
     !has_byte(b'=', first_bytes(ByteSet::Inside(b'>'), after(at, line)))
 }
 
-/// What begins at a start that is looked for.
-#[derive(Clone, Copy)]
-pub(crate) enum Sought {
-    /// A redirection.
-    Arrow,
-    /// A word that is no pair.
-    NoPair,
-}
-
-fn is_sought(sought: Sought, line: &[u8], at: usize) -> bool
-    ensures { result ≡ is_sought sought line.now at }
-{
-    match sought {
-        Sought::Arrow => is_arrow(line, at),
-        Sought::NoPair => lacks_value(line, at),
-    }
-}
-
-/// How many starts come before the first one that is looked for.
-fn starts_before(sought: Sought, line: &[u8], starts: &[usize]) -> usize
-    ensures value { result ≡ prefix_len (λ at. not (is_sought sought line.now at)) starts.now }
-    ensures bound { result ≤ length starts.now }
-{
-    for (index, at) in starts.iter().enumerate() {
-        if is_sought(sought, line, *at) {
-            return index;
+/// The first redirection.
+fn first_arrow(line: &[u8], starts: &[usize]) -> Option<usize> {
+    for at in starts {
+        if is_arrow(line, *at) {
+            return Some(*at);
         }
     }
-    starts.len()
+    None
 }
 
-/// The first start that is looked for.
-fn first_sought(sought: Sought, line: &[u8], starts: &[usize]) -> Option<usize>
-    ensures { result ≡ find (is_sought sought line.now) starts.now }
-{
-    number_at(starts, starts_before(sought, line, starts))
-}
-
-fn or_end(line: &[u8], start: Option<usize>) -> usize
-    ensures { result ≡ unwrap_or start (places.end_of line.now) }
-{
-    match start {
-        Some(at) => at,
-        None => end_of(line),
+/// Of an emission: the first word in place of a pair, or else the end.
+fn pair_place(line: &[u8], starts: &[usize]) -> usize {
+    for (index, at) in starts.iter().enumerate() {
+        if index >= 4 && lacks_value(line, *at) {
+            return *at;
+        }
     }
-}
-
-/// The first redirection, or else a further word, or else the end.
-fn surplus_place(line: &[u8], starts: &[usize], most: usize) -> usize
-    ensures { result ≡ places.surplus_place line.now starts.now most }
-{
-    match first_sought(Sought::Arrow, line, starts) {
-        Some(arrow) => arrow,
-        None => or_end(line, number_at(starts, most)),
-    }
-}
-
-/// Of an emission: the first redirection, or else a word in place of a pair, or else the end.
-fn emission_place(line: &[u8], starts: &[usize]) -> usize
-    ensures { result ≡ places.emission_place line.now starts.now }
-{
-    match first_sought(Sought::Arrow, line, starts) {
-        Some(arrow) => arrow,
-        None => or_end(
-            line,
-            first_sought(Sought::NoPair, line, numbers_after(4, starts)),
-        ),
-    }
+    trim_end(line).len()
 }
 
 /// What follows the path of an `echo`, or is no path.
-fn path_place(line: &[u8], starts: &[usize]) -> usize
-    ensures { result ≡ places.path_place line.now starts.now }
-{
+fn path_place(line: &[u8], starts: &[usize]) -> usize {
     match starts {
         [path, _, ..] if is_arrow(line, *path) => *path,
         [_, next, ..] => *next,
-        _ => end_of(line),
+        _ => trim_end(line).len(),
     }
 }
 
-/// Likewise, where the first start is that of the redirection.
-fn arrow_place(line: &[u8], starts: &[usize]) -> usize
-    ensures { result ≡ places.arrow_place line.now starts.now }
-{
+/// Likewise, where the first start is that of the redirection, of one or of two `>`.
+fn arrow_place(line: &[u8], starts: &[usize]) -> usize {
     match starts {
         [arrow, next, more @ ..] if is_arrow(line, *next) && next.saturating_sub(*arrow) == 1 => {
             path_place(line, more)
         }
         [_, rest @ ..] => path_place(line, rest),
-        _ => end_of(line),
+        _ => trim_end(line).len(),
     }
 }
 
 /// Of an `echo`: what follows its path, or is no path, or else the end.
-fn write_place(line: &[u8], starts: &[usize]) -> usize
-    ensures { result ≡ places.write_place line.now starts.now }
-{
-    arrow_place(
-        line,
-        numbers_after(starts_before(Sought::Arrow, line, starts), starts),
-    )
+fn write_place(line: &[u8], starts: &[usize]) -> usize {
+    for (index, at) in starts.iter().enumerate() {
+        if is_arrow(line, *at) {
+            return arrow_place(line, &starts[index..]);
+        }
+    }
+    trim_end(line).len()
 }
 
 /// How many words a line of this name has.
-#[tactic(auto, unfolding(crate::specs::Places::word_limit))]
-fn word_limit(name: &[u8]) -> usize
-    ensures { result ≡ places.word_limit name.now }
-{
+fn word_limit(name: &[u8]) -> usize {
     if is_one_of(name, &["cat", "mkdir", "rmdir"]) {
         2
     } else if is_same(b"take", name) {
@@ -157,24 +78,25 @@ fn word_limit(name: &[u8]) -> usize
     }
 }
 
-/// Where a line of this name has the wrong words.
-#[tactic(auto, unfolding(crate::specs::Places::words_place))]
-fn words_place(name: &[u8], line: &[u8], starts: &[usize]) -> usize
-    ensures { result ≡ places.words_place name.now line.now starts.now }
-{
+/// Where a line of this name has the wrong words: the first redirection or a word too many, or else the end.
+fn words_place(name: &[u8], line: &[u8], starts: &[usize]) -> usize {
+    if is_same(b"echo", name) {
+        return write_place(line, starts);
+    }
+    if let Some(arrow) = first_arrow(line, starts) {
+        return arrow;
+    }
     if is_same(b"emit", name) {
-        emission_place(line, starts)
-    } else if is_same(b"echo", name) {
-        write_place(line, starts)
-    } else {
-        surplus_place(line, starts, word_limit(name))
+        return pair_place(line, starts);
+    }
+    match starts.get(word_limit(name)) {
+        Some(at) => *at,
+        None => trim_end(line).len(),
     }
 }
 
 /// Whether a line has a number that is out of its range.
-fn is_bad_number(alloc: Global, line: &[u8]) -> Result<bool, AllocError>
-    ensures { IfOk result (λ is_bad. is_bad ≡ places.is_bad_number (line_of line.now)) }
-{
+fn is_bad_number(alloc: Global, line: &[u8]) -> Result<bool, AllocError> {
     let read = prepare(alloc, line);
     let is_bad = match &read {
         Err(LineError::Fault(ScriptFault::BadNumber)) => Ok(true),
@@ -185,58 +107,23 @@ fn is_bad_number(alloc: Global, line: &[u8]) -> Result<bool, AllocError>
     is_bad
 }
 
-/// Whether the first number of an emission, which ends before an offset, is wrong.
-#[tactic(auto, unfolding(crate::specs::Places::has_bad_cpu))]
-fn has_bad_cpu(alloc: Global, line: &[u8], at: usize) -> Result<bool, AllocError>
-    ensures { IfOk result (λ is_bad. is_bad ≡ places.has_bad_cpu line.now at) }
-{
-    let text = joined(
-        alloc,
-        &[Piece::Plain(up_to(at, line)), Piece::Plain(b" 0 a a=1")],
-    )?;
-    is_bad_number(alloc, &text)
-}
-
-/// The number of a line that is wrong, of two.
+/// The number of a line that is wrong: of two, the second, if an emission with the first alone has no wrong one.
 fn number_place(
     alloc: Global,
     name: &[u8],
     line: &[u8],
-    first: Option<usize>,
-    second: Option<usize>,
-) -> Result<Option<usize>, AllocError>
-    ensures { IfOk result (λ offset. offset ≡ places.number_place name.now line.now first second) }
-{
-    let Some(at) = second else {
+    starts: &[usize],
+) -> Result<Option<usize>, AllocError> {
+    let first = starts.get(1).copied();
+    let Some(second) = starts.get(2).copied() else {
         return Ok(first);
     };
-    if is_same(b"emit", name) && !has_bad_cpu(alloc, line, at)? {
-        Ok(second)
-    } else {
-        Ok(first)
+    if !is_same(b"emit", name) {
+        return Ok(first);
     }
-}
-
-/// Where the words of a line are at fault, or its numbers.
-fn word_fault(
-    alloc: Global,
-    name: &[u8],
-    line: &[u8],
-    fault: ScriptFault,
-) -> Result<Option<usize>, AllocError>
-    ensures { IfOk result (λ offset. offset ≡ word_fault name.now line.now fault) }
-{
-    let starts = starts(alloc, line)?;
-    match fault {
-        ScriptFault::WrongWords => Ok(Some(words_place(name, line, &starts))),
-        _ => number_place(
-            alloc,
-            name,
-            line,
-            number_at(&starts, 1),
-            number_at(&starts, 2),
-        ),
-    }
+    let text = joined(alloc, &[up_to(second, line), b" 0 a a=1"])?;
+    let is_first = is_bad_number(alloc, &text)?;
+    Ok(if is_first { first } else { Some(second) })
 }
 
 /// Where a line whose first word is this name is at fault.
@@ -245,15 +132,20 @@ pub(crate) fn fault_offset(
     name: &[u8],
     line: &[u8],
     fault: ScriptFault,
-) -> Result<Option<usize>, AllocError>
-    ensures { IfOk result (λ offset. offset ≡ places.fault_offset name.now line.now fault) }
-{
+) -> Result<Option<usize>, AllocError> {
     match fault {
         ScriptFault::LineTooLong => Ok(None),
         ScriptFault::BadByte => Ok(first_outside(ByteSet::OfLine, line)),
         ScriptFault::UnclosedQuote => Ok(open_quote(line)),
         ScriptFault::UnknownCommand | ScriptFault::BlockOutOfPlace | ScriptFault::TooManyThreads =>
             Ok(first_outside(ByteSet::Blank, line)),
-        ScriptFault::WrongWords | ScriptFault::BadNumber => word_fault(alloc, name, line, fault),
+        ScriptFault::WrongWords => {
+            let starts = starts(alloc, line)?;
+            Ok(Some(words_place(name, line, &starts)))
+        }
+        ScriptFault::BadNumber => {
+            let starts = starts(alloc, line)?;
+            number_place(alloc, name, line, &starts)
+        }
     }
 }

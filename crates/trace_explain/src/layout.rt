@@ -3,7 +3,6 @@
 ghost use Rattle.std.specs.Prelude.{◌≡◌, ◌++◌, [], IfOk, OnOk, map, codes};
 ghost use Rattle.std.specs.Fmt.{decimal};
 ghost use Rattle.trace_explain.specs.Layout.{shown_byte, pad_byte, shown_bytes, shown_line, pointer, column, meant_line, shown};
-ghost use Rattle.trace_explain.specs.private.Pieces.{piece_bytes, with_pieces};
 
 use crate::cut::up_to;
 use crate::script_line::ScriptLine;
@@ -52,48 +51,6 @@ fn push_padding(out: &mut Vec<u8>, above: &[u8]) -> Result<(), AllocError>
     Ok(())
 }
 
-/// A piece of what is told.
-#[derive(Clone, Copy)]
-pub(crate) enum Piece<'a> {
-    /// These bytes.
-    Plain(&'a [u8]),
-    /// These bytes as they are shown.
-    Shown(&'a [u8]),
-    /// What stands before a caret that has these bytes above.
-    Padding(&'a [u8]),
-    Number(usize),
-}
-
-fn push_piece(out: &mut Vec<u8>, piece: Piece<'_>) -> Result<(), AllocError>
-    ensures { OnOk result (out.new.items ≡ out.old.items ++ piece_bytes piece.entry) }
-{
-    match piece {
-        Piece::Plain(bytes) => out.extend_from_slice(bytes),
-        Piece::Shown(bytes) => push_shown(out, bytes),
-        Piece::Padding(above) => push_padding(out, above),
-        Piece::Number(number) => { out.extend_from_slice(Buffer::new().format(number).as_bytes()) }
-    }
-}
-
-/// Appends pieces one after the other.
-fn push_pieces(out: &mut Vec<u8>, pieces: &[Piece<'_>]) -> Result<(), AllocError>
-    ensures { OnOk result (out.new.items ≡ with_pieces out.old.items pieces.now) }
-{
-    for piece in pieces {
-        push_piece(out, *piece)?;
-    }
-    Ok(())
-}
-
-/// Pieces one after the other.
-pub(crate) fn joined(alloc: Global, pieces: &[Piece<'_>]) -> Result<Vec<u8>, AllocError>
-    ensures { IfOk result (λ text. text.items ≡ with_pieces [] pieces.now) }
-{
-    let mut text = Vec::new(alloc);
-    push_pieces(&mut text, pieces)?;
-    Ok(text)
-}
-
 /// Appends a line as it is shown.
 #[tactic(auto, unfolding(crate::specs::Layout::shown_line))]
 fn push_line(out: &mut Vec<u8>, line: &[u8]) -> Result<(), AllocError>
@@ -112,17 +69,19 @@ fn push_line(out: &mut Vec<u8>, line: &[u8]) -> Result<(), AllocError>
 fn push_pointer(out: &mut Vec<u8>, line: &[u8], caret: Option<usize>) -> Result<(), AllocError>
     ensures { OnOk result (out.new.items ≡ out.old.items ++ pointer line.now caret) }
 {
-    match caret {
-        Some(at) => push_pieces(
-            out,
-            &[
-                Piece::Plain(b"  "),
-                Piece::Padding(up_to(at, line)),
-                Piece::Plain(b"^\n"),
-            ],
-        ),
-        None => Ok(()),
-    }
+    let Some(at) = caret else {
+        return Ok(());
+    };
+    out.extend_from_slice(b"  ".as_slice())?;
+    push_padding(out, up_to(at, line))?;
+    out.extend_from_slice(b"^\n".as_slice())
+}
+
+/// Appends a number.
+fn push_number(out: &mut Vec<u8>, number: usize) -> Result<(), AllocError>
+    ensures { OnOk result (out.new.items ≡ out.old.items ++ decimal number) }
+{
+    out.extend_from_slice(Buffer::new().format(number).as_bytes())
 }
 
 /// Appends the column of the byte above the caret.
@@ -130,26 +89,19 @@ fn push_pointer(out: &mut Vec<u8>, line: &[u8], caret: Option<usize>) -> Result<
 fn push_column(out: &mut Vec<u8>, line: &[u8], caret: Option<usize>) -> Result<(), AllocError>
     ensures { OnOk result (out.new.items ≡ out.old.items ++ column line.now caret) }
 {
-    match caret {
-        Some(at) => push_pieces(
-            out,
-            &[Piece::Plain(b":"), Piece::Number(up_to(at, line).len() + 1)],
-        ),
-        None => Ok(()),
-    }
+    let Some(at) = caret else {
+        return Ok(());
+    };
+    out.push(b':')?;
+    push_number(out, up_to(at, line).len() + 1)
 }
 
 fn push_question(out: &mut Vec<u8>, meant: &[u8]) -> Result<(), AllocError>
     ensures { OnOk result (out.new.items ≡ out.old.items ++ codes "  did you mean `" ++ shown_bytes meant.now ++ codes "`?\n") }
 {
-    push_pieces(
-        out,
-        &[
-            Piece::Plain(b"  did you mean `"),
-            Piece::Shown(meant),
-            Piece::Plain(b"`?\n"),
-        ],
-    )
+    out.extend_from_slice(b"  did you mean `".as_slice())?;
+    push_shown(out, meant)?;
+    out.extend_from_slice(b"`?\n".as_slice())
 }
 
 /// Appends what was meant, if anything was.
@@ -163,50 +115,8 @@ fn push_meant(out: &mut Vec<u8>, meant: &[u8]) -> Result<(), AllocError>
     }
 }
 
-/// Appends `SCRIPT:LINE:COLUMN: NAME: words`, and a newline.
-fn push_heading<'a>(
-    out: &mut Vec<u8>,
-    at: ScriptLine<'a>,
-    caret: Option<usize>,
-    name: &'a str,
-    words: &'a [u8],
-) -> Result<(), AllocError>
-    ensures { OnOk result (out.new.items ≡ out.old.items ++ shown_bytes at.entry.script.now ++ codes ":" ++ decimal at.entry.number
-        ++ column at.entry.text.now caret ++ codes ": " ++ name.now ++ codes ": " ++ words.now ++ codes "\n") }
-{
-    push_pieces(
-        out,
-        &[
-            Piece::Shown(at.script),
-            Piece::Plain(b":"),
-            Piece::Number(at.number),
-        ],
-    )?;
-    push_column(out, at.text, caret)?;
-    push_pieces(
-        out,
-        &[
-            Piece::Plain(b": "),
-            Piece::Plain(name.as_bytes()),
-            Piece::Plain(b": "),
-            Piece::Plain(words),
-            Piece::Plain(b"\n"),
-        ],
-    )
-}
-
-/// Appends the line, and the caret under it.
-fn push_pointed(out: &mut Vec<u8>, line: &[u8], caret: Option<usize>) -> Result<(), AllocError>
-    ensures { OnOk result (out.new.items ≡ out.old.items ++ codes "  " ++ shown_line line.now ++ codes "\n" ++ pointer line.now caret) }
-{
-    out.extend_from_slice(b"  ".as_slice())?;
-    push_line(out, line)?;
-    out.push(b'\n')?;
-    push_pointer(out, line, caret)
-}
-
 /// What is wrong, the line, the caret under it, and what was meant.
-#[tactic(auto, unfolding(crate::specs::Layout::heading, crate::specs::Layout::shown))]
+#[tactic(auto, unfolding(crate::specs::Layout::shown))]
 pub(crate) fn shown(
     alloc: Global,
     at: ScriptLine<'_>,
@@ -218,8 +128,18 @@ pub(crate) fn shown(
     ensures { IfOk result (λ text. text.items ≡ shown at.entry.script.now at.entry.number at.entry.text.now caret name.now words.now meant.now) }
 {
     let mut text = Vec::new(alloc);
-    push_heading(&mut text, at, caret, name, words)?;
-    push_pointed(&mut text, at.text, caret)?;
+    push_shown(&mut text, at.script)?;
+    text.push(b':')?;
+    push_number(&mut text, at.number)?;
+    push_column(&mut text, at.text, caret)?;
+    text.extend_from_slice(b": ".as_slice())?;
+    text.extend_from_slice(name.as_bytes())?;
+    text.extend_from_slice(b": ".as_slice())?;
+    push_shown(&mut text, words)?;
+    text.extend_from_slice(b"\n  ".as_slice())?;
+    push_line(&mut text, at.text)?;
+    text.push(b'\n')?;
+    push_pointer(&mut text, at.text, caret)?;
     push_meant(&mut text, meant)?;
     Ok(text)
 }

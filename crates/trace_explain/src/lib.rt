@@ -4,7 +4,6 @@
 
 mod byte_set;
 mod caret;
-mod cause;
 mod cut;
 mod declaration_due;
 mod event;
@@ -12,24 +11,22 @@ mod explainer;
 mod fault_place;
 mod fault_words;
 mod filter_due;
-mod hint;
 mod hist_due;
 mod layout;
+mod meant;
 mod most_words;
-mod named;
 mod near;
 mod near_files;
-mod near_words;
 mod openings;
+mod operator_meant;
 mod place;
 mod refused_write;
+mod row;
 mod script_line;
-mod starts;
 mod subject;
 mod trigger_due;
 mod wording;
 
-pub use cause::Cause;
 pub use explainer::Explainer;
 pub use refused_write::{write_offset, write_words};
 pub use script_line::ScriptLine;

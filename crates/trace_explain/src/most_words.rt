@@ -5,7 +5,7 @@ ghost use Rattle.trace_explain.specs.Wording as wording;
 
 use crate::byte_set::{ByteSet, first_bytes};
 use crate::cut::{after, count_of};
-use crate::hist_due::{ends_with, items_of, values_of};
+use crate::hist_due::{ends_with, others_of};
 use crate::openings::is_deep;
 use crate::subject::Subject;
 use crate::trigger_due::condition_start;
@@ -51,16 +51,11 @@ fn condition_most_words(filter: &[u8]) -> &'static str
     }
 }
 
-fn has_over(most: usize, attribute: &[u8], text: &[u8]) -> bool
-    ensures { result ≡ wording.has_over most attribute.now text.now }
+/// Whether an attribute has over so many items other than this one; no item is a comma.
+fn has_over(most: usize, attribute: &[u8], item: &[u8], text: &[u8]) -> bool
+    ensures { result ≡ wording.has_over most attribute.now item.now text.now }
 {
-    items_of(attribute, text) > most
-}
-
-fn has_values(attribute: &[u8], text: &[u8]) -> bool
-    ensures { result ≡ wording.has_values attribute.now text.now }
-{
-    values_of(attribute, text) > 3
+    others_of(attribute, item, text) > most
 }
 
 #[tactic(auto, unfolding(crate::specs::Wording::trigger_most_words))]
@@ -68,14 +63,14 @@ fn trigger_most_words(text: &[u8]) -> &'static str
     ensures { result.now ≡ wording.trigger_most_words text.now }
 {
     let word = first_bytes(ByteSet::Unblank, text);
-    if has_over(3, b":keys=", word) || has_over(3, b":key=", word) {
+    if has_over(3, b":keys=", b",", word) || has_over(3, b":key=", b",", word) {
         "a hist trigger has at most three keys"
-    } else if has_values(b":values=", word)
-        || has_values(b":vals=", word)
-        || has_values(b":val=", word)
+    } else if has_over(3, b":values=", b"hitcount", word)
+        || has_over(3, b":vals=", b"hitcount", word)
+        || has_over(3, b":val=", b"hitcount", word)
     {
         "a hist trigger has at most three values"
-    } else if has_over(2, b":sort=", word) {
+    } else if has_over(2, b":sort=", b",", word) {
         "a hist trigger is sorted by at most two names"
     } else {
         condition_most_words(after(condition_start(text), text))

@@ -1,53 +1,50 @@
 //! The files whose path is near: those that are always there, and those of the events that are declared.
 
-ghost use Rattle.std.specs.Prelude.{◌≡◌, IfOk, map, option_map};
-ghost use Rattle.trace_explain.specs.Near as near;
-
-use crate::cut::after;
-use crate::hist_due::begins;
-use crate::layout::{Piece, joined};
-use crate::named::{Likeness, first_name};
-use crate::near::is_near_path;
+use crate::cut::{after, begins, joined, up_to};
+use crate::near::{first_near_path, is_near_path};
 use std::alloc::{AllocError, Global};
 use trace_format::EventDef;
+use trace_lex::len_before;
 
-/// Whether a path is of a CPU whose number begins with `0` and goes on, so that another CPU may be meant.
-fn is_other_cpu(given: &[u8]) -> bool
-    ensures { result ≡ near.is_other_cpu given.now }
-{
-    begins(b"per_cpu/cpu0", given)
-        && match after(12, given) {
-            [byte, ..] => byte.is_ascii_digit(),
-            [] => false,
-        }
+/// How many bytes of a path are those of the mount point.
+fn mount_len(path: &[u8]) -> usize {
+    if begins(b"/sys/kernel/tracing/", path) {
+        20
+    } else {
+        0
+    }
 }
 
-/// The first file of a CPU whose path is near; empty, if none is.
-#[tactic(auto, unfolding(crate::specs::Near::near_cpu_file))]
-fn near_cpu_file(given: &[u8]) -> &'static str
-    ensures { result.now ≡ near.near_cpu_file given.now }
-{
-    if is_other_cpu(given) {
-        return "";
+/// How many bytes of a path are those of `instances/NAME/`; none, where it is of the top.
+fn instance_len(path: &[u8]) -> usize {
+    if !begins(b"instances/", path) {
+        return 0;
     }
-    first_name(
-        Likeness::NearPath,
-        given,
-        &[
-            "per_cpu/cpu0/stats",
-            "per_cpu/cpu0/trace",
-            "per_cpu/cpu0/trace_pipe",
-        ],
-    )
+    let rest = after(10, path);
+    let len = len_before(b'/', rest);
+    if 0 < len && len < rest.len() {
+        len.saturating_add(11)
+    } else {
+        0
+    }
+}
+
+/// Whether a path is of a CPU whose number begins with `0` and goes on, so that another CPU may be meant.
+fn is_other_cpu(given: &[u8]) -> bool {
+    match after(12, given) {
+        [byte, ..] => begins(b"per_cpu/cpu0", given) && byte.is_ascii_digit(),
+        [] => false,
+    }
+}
+
+/// Whether a path has the name of what a file turns on, for turning it off.
+fn is_opposite(given: &[u8]) -> bool {
+    begins(b"options/no", given) || begins(b"tracing_of", given)
 }
 
 /// The first file of an instance or of all its events whose path is near; empty, if none is.
-#[tactic(auto, unfolding(crate::specs::Near::near_shared_file))]
-fn near_shared_file(given: &[u8]) -> &'static str
-    ensures { result.now ≡ near.near_shared_file given.now }
-{
-    first_name(
-        Likeness::NearPath,
+fn near_shared_file(given: &[u8]) -> &'static str {
+    first_near_path(
         given,
         &[
             "trace",
@@ -63,115 +60,81 @@ fn near_shared_file(given: &[u8]) -> &'static str
     )
 }
 
-/// Whether a path has the name of what a file turns on, for turning it off.
-fn is_opposite(given: &[u8]) -> bool
-    ensures { result ≡ near.is_opposite given.now }
-{
-    begins(b"options/no", given) || begins(b"tracing_of", given)
-}
-
-/// The first file of an instance, but of no event, whose path is near; empty, if none is.
-#[tactic(auto, unfolding(crate::specs::Near::near_file))]
-pub(crate) fn near_file(given: &[u8]) -> &'static str
-    ensures { result.now ≡ near.near_file given.now }
-{
+/// The first file, but of no event, whose path is near; empty, if none is.
+fn near_fixed_file(is_top: bool, given: &[u8]) -> &'static str {
+    if is_top && is_near_path(given, b"synthetic_events") {
+        return "synthetic_events";
+    }
     if is_opposite(given) {
         return "";
     }
     let file = near_shared_file(given);
-    if file.is_empty() {
-        near_cpu_file(given)
-    } else {
-        file
+    if !file.is_empty() || is_other_cpu(given) {
+        return file;
     }
-}
-
-/// The first file at the top, but of no event, whose path is near; empty, if none is.
-#[tactic(auto, unfolding(crate::specs::Near::near_top_file))]
-pub(crate) fn near_top_file(given: &[u8]) -> &'static str
-    ensures { result.now ≡ near.near_top_file given.now }
-{
-    if is_near_path(given, b"synthetic_events") {
-        "synthetic_events"
-    } else {
-        near_file(given)
-    }
-}
-
-/// The path of an event's file.
-#[tactic(auto, unfolding(crate::specs::Near::event_path))]
-fn event_path<'a>(alloc: Global, event: &'a [u8], file: &'a [u8]) -> Result<Vec<u8>, AllocError>
-    ensures { IfOk result (λ path. path.items ≡ near.event_path event.now file.now) }
-{
-    joined(
-        alloc,
+    first_near_path(
+        given,
         &[
-            Piece::Plain(b"events/synthetic/"),
-            Piece::Plain(event),
-            Piece::Plain(b"/"),
-            Piece::Plain(file),
+            "per_cpu/cpu0/stats",
+            "per_cpu/cpu0/trace",
+            "per_cpu/cpu0/trace_pipe",
         ],
     )
 }
 
-/// The path of an event's file, if it is near.
-fn near_event_path(
-    alloc: Global,
-    given: &[u8],
-    event: &[u8],
-    file: &[u8],
-) -> Result<Option<Vec<u8>>, AllocError>
-    ensures { IfOk result (λ found. option_map (λ path. path.items) found ≡ near.near_event_path given.now event.now file.now) }
-{
-    let path = event_path(alloc, event, file)?;
-    if is_near_path(given, &path) {
-        Ok(Some(path))
-    } else {
-        Ok(None)
-    }
+/// The path of an event's file.
+fn event_path<'a>(alloc: Global, event: &'a [u8], file: &'a [u8]) -> Result<Vec<u8>, AllocError> {
+    joined(alloc, &[b"events/synthetic/", event, b"/", file])
 }
 
-/// The first of these files of an event whose path is near.
-fn first_near_file(
-    alloc: Global,
-    given: &[u8],
-    event: &[u8],
-    files: &[&str],
-) -> Result<Option<Vec<u8>>, AllocError>
-    ensures { IfOk result (λ found. option_map (λ path. path.items) found ≡ near.first_near_file given.now event.now (map (λ file. file.now) files.now)) }
-{
-    for file in files {
-        if let Some(path) = near_event_path(alloc, given, event, file.as_bytes())? {
-            return Ok(Some(path));
+/// The first file of an event whose path is near; empty, if none is.
+fn near_file_of(alloc: Global, given: &[u8], event: &[u8]) -> Result<Vec<u8>, AllocError> {
+    for file in &["enable", "filter", "trigger", "hist", "format"] {
+        let path = event_path(alloc, event, file.as_bytes())?;
+        if is_near_path(given, &path) {
+            return Ok(path);
         }
     }
-    Ok(None)
+    Ok(Vec::new(alloc))
 }
 
-/// The first file of an event whose path is near.
-fn near_file_of(alloc: Global, given: &[u8], event: &[u8]) -> Result<Option<Vec<u8>>, AllocError>
-    ensures { IfOk result (λ found. option_map (λ path. path.items) found ≡ near.near_file_of given.now event.now) }
-{
-    first_near_file(
-        alloc,
-        given,
-        event,
-        &["enable", "filter", "trigger", "hist", "format"],
-    )
-}
-
-/// The first file of one of these events whose path is near.
-pub(crate) fn near_event_file(
+/// The first file whose path is near, those of the events last; empty, if none is.
+fn near_file(
     alloc: Global,
-    given: &[u8],
     events: &[EventDef],
-) -> Result<Option<Vec<u8>>, AllocError>
-    ensures { IfOk result (λ found. option_map (λ path. path.items) found ≡ near.near_event_file given.now events.now) }
-{
+    is_top: bool,
+    given: &[u8],
+) -> Result<Vec<u8>, AllocError> {
+    let file = near_fixed_file(is_top, given);
+    if !file.is_empty() {
+        return Vec::from_slice(alloc, file.as_bytes());
+    }
     for event in events {
-        if let Some(path) = near_file_of(alloc, given, event.name())? {
-            return Ok(Some(path));
+        let path = near_file_of(alloc, given, event.name())?;
+        if !path.is_empty() {
+            return Ok(path);
         }
     }
-    Ok(None)
+    Ok(Vec::new(alloc))
+}
+
+fn with_front<'a>(alloc: Global, front: &'a [u8], rest: &'a [u8]) -> Result<Vec<u8>, AllocError> {
+    joined(alloc, &[front, rest])
+}
+
+/// The first path that is near; empty, if none is.
+pub(crate) fn near_path(
+    alloc: Global,
+    events: &[EventDef],
+    path: &[u8],
+) -> Result<Vec<u8>, AllocError> {
+    let below = after(mount_len(path), path);
+    let len = instance_len(below);
+    let given = after(len, below);
+    let file = near_file(alloc, events, len == 0, given)?;
+    if file.is_empty() {
+        return Ok(file);
+    }
+    let front = up_to(path.len().saturating_sub(given.len()), path);
+    with_front(alloc, front, &file)
 }

@@ -2,170 +2,141 @@
 
 ghost use Rattle.std.specs.Prelude.{◌≡◌, IfOk, codes};
 ghost use Rattle.trace_trigger.specs.TriggerTexts as texts;
+ghost use Rattle.trace_explain.specs.Explanations.{IsUnder};
 ghost use Rattle.trace_explain.specs.HistDue.{attribute_at};
 ghost use Rattle.trace_explain.specs.Places as places;
 
 use crate::byte_set::{ByteSet, first_bytes};
-use crate::caret::written_offset;
-use crate::cause::Cause;
-use crate::cut::{number_at, numbers_after};
+use crate::caret::{starts, written_offset};
+use crate::cut::number_at;
 use crate::hist_due::attribute_at;
-use crate::named::first_pair;
-use crate::starts::starts;
-use crate::subject::Subject;
+use crate::row::row_fault;
+use crate::subject::{Subject, written_subject};
 use crate::trigger_due::trigger_offset;
 use std::alloc::{AllocError, Global};
-use trace_command::Refusal;
-use trace_format::Pair;
+use trace_command::{Command, Refusal};
+use trace_format::EventDef;
 use trace_lex::blanks_len;
 
-/// Where a refused line is wrong.
-#[derive(Clone, Copy)]
-pub(crate) enum Place {
-    Nowhere,
-    /// Its last word.
-    Path,
-    /// The word of this index.
-    Word(usize),
-    /// A byte of what it writes.
-    Written(usize),
-    /// A pair of an emission: the second index counts from the first.
-    OfPair(usize, usize),
-}
-
-fn value_place(subject: Subject, text: &[u8]) -> Place
-    ensures { result ≡ places.value_place subject text.now }
+fn size_offset(text: &[u8]) -> Option<usize>
+    ensures { result ≡ places.size_offset (attribute_at (codes ":size=") (texts.word_of text.now)) }
 {
-    match subject {
-        Subject::Instance | Subject::Read => Place::Path,
-        _ => Place::Written(blanks_len(text)),
+    match attribute_at(b":size=", first_bytes(ByteSet::Unblank, text)) {
+        Some(at) => Some(at + 1),
+        None => None,
     }
 }
 
 /// Where what is written is no value for its file.
-fn bad_value_place(subject: Subject, text: &[u8]) -> Place
-    ensures { result ≡ places.bad_value_place subject text.now }
+fn value_offset(subject: Subject, text: &[u8]) -> usize
+    ensures { result ≡ places.value_offset subject text.now }
 {
     match subject {
-        Subject::Trigger => Place::Written(trigger_offset(text)),
-        _ => value_place(subject, text),
+        Subject::Trigger => trigger_offset(text),
+        _ => blanks_len(text),
     }
 }
 
-fn event_place(subject: Subject) -> Place
-    ensures { result ≡ places.event_place subject }
+/// The byte of what is written that is to blame, if one is, though the refusal names none.
+fn other_offset(subject: Subject, text: &[u8], refusal: &Refusal) -> Option<usize>
+    ensures { result ≡ places.other_offset subject text.now refusal.now }
 {
-    match subject {
-        Subject::Emission => Place::Word(3),
-        _ => Place::Path,
+    match refusal {
+        Refusal::BadSize => size_offset(text),
+        Refusal::BadValue => Some(value_offset(subject, text)),
+        Refusal::EventExists
+        | Refusal::TooBig
+        | Refusal::TriggerExists
+        | Refusal::NoSuchTrigger
+        | Refusal::TooMany
+        | Refusal::Busy => Some(blanks_len(text)),
+        _ => None,
     }
 }
 
-fn cpu_place(subject: Subject) -> Place
-    ensures { result ≡ places.cpu_place subject }
-{
-    match subject {
-        Subject::Emission => Place::Word(1),
-        _ => Place::Path,
-    }
-}
-
-fn size_place(text: &[u8]) -> Place
-    ensures { result ≡ places.size_place (attribute_at (codes ":size=") (texts.word_of text.now)) }
-{
-    match attribute_at(b":size=", first_bytes(ByteSet::Unblank, text)) {
-        Some(at) => Place::Written(at + 1),
-        None => Place::Nowhere,
-    }
-}
-
-/// Where a command about this that writes this is wrong.
-pub(crate) fn refusal_place(subject: Subject, text: &[u8], refusal: &Refusal) -> Place
-    ensures { result ≡ places.refusal_place subject text.now refusal.now }
+/// The byte that is to blame of this text, if one is, where it was to be written to the file of this path.
+pub(crate) fn blamed_offset(path: &[u8], text: &[u8], refusal: &Refusal) -> Option<usize>
+    ensures { result ≡ places.blamed_offset path.now text.now refusal.now }
 {
     match refusal {
         Refusal::BadDefinition { at }
         | Refusal::FilterSyntax { at }
         | Refusal::NoSuchField { at }
         | Refusal::WrongOperator { at }
-        | Refusal::HistSyntax { at } => Place::Written(*at),
-        Refusal::NoSuchFile
-        | Refusal::NotReadable
-        | Refusal::NotWritable
-        | Refusal::NoSuchInstance
-        | Refusal::InstanceExists => Place::Path,
-        Refusal::NoSuchEvent => event_place(subject),
-        Refusal::NoSuchCpu => cpu_place(subject),
-        Refusal::BadSize => size_place(text),
-        Refusal::BadValue => bad_value_place(subject, text),
-        Refusal::EventExists
-        | Refusal::TooBig
-        | Refusal::TriggerExists
-        | Refusal::NoSuchTrigger
-        | Refusal::TooMany
-        | Refusal::Busy => value_place(subject, text),
-        _ => Place::Nowhere,
+        | Refusal::HistSyntax { at } => Some(*at),
+        _ => other_offset(written_subject(path), text, refusal),
     }
 }
 
-fn pair_after(from: usize, index: Option<usize>) -> Place
-    ensures { result ≡ places.pair_after from index }
-{
-    match index {
-        Some(index) => Place::OfPair(from, index),
-        None => Place::Word(3),
+/// The index of the word of a line that is to blame, of so many: of a row the pair, or else the event; of other commands the path, which comes last.
+fn blamed_word(
+    events: &[EventDef],
+    command: &Command,
+    refusal: &Refusal,
+    count: usize,
+) -> Option<usize> {
+    if matches!(
+        refusal,
+        Refusal::HistoryFull | Refusal::Memory | Refusal::Worn
+    ) {
+        return None;
+    }
+    let Command::Emit { event, pairs, .. } = command else {
+        return count.checked_sub(1);
+    };
+    match refusal {
+        Refusal::BadRow { field } => {
+            let event = event.as_bytes();
+            match row_fault(events, event, pairs.as_slice(), field.as_bytes()).pair {
+                Some(index) => Some(index.saturating_add(4)),
+                None => Some(3),
+            }
+        }
+        Refusal::NoSuchCpu => Some(1),
+        _ => Some(3),
     }
 }
 
-/// The second pair of a name.
-fn further_pair(pairs: &[Pair], name: &[u8]) -> Place
-    ensures { result ≡ places.further_pair pairs.now name.now (places.first_pair pairs.now name.now) }
-{
-    match first_pair(pairs, name) {
-        Some(first) => pair_after(first + 1, first_pair(&pairs[first + 1..], name)),
-        None => Place::Word(3),
-    }
-}
-
-/// The pair of an emission that is wrong at a name.
-pub(crate) fn row_place(cause: Cause, pairs: &[Pair], name: &[u8]) -> Place
-    ensures { result ≡ places.row_place cause pairs.now name.now }
-{
-    match cause {
-        Cause::Repeated => further_pair(pairs, name),
-        _ => pair_after(0, first_pair(pairs, name)),
-    }
-}
-
-/// Where a place is that a word or a pair begins, by where each word begins.
-fn start_of(starts: &[usize], place: Place) -> Option<usize>
-    ensures { result ≡ places.start_of starts.now place }
-{
-    match place {
-        Place::Path => starts.last().copied(),
-        Place::Word(index) => number_at(starts, index),
-        Place::OfPair(from, index) => number_at(
-            numbers_after(from, numbers_after(4, starts)),
-            index,
-        ),
-        _ => None,
-    }
-}
-
-/// Where a place is in a line.
-pub(crate) fn offset_of(
+/// Where in a line it is wrong, if its refusal names no offset.
+fn other_place(
     alloc: Global,
+    events: &[EventDef],
     line: &[u8],
-    place: Place,
+    command: &Command,
+    refusal: &Refusal,
+) -> Result<Option<usize>, AllocError> {
+    if let Command::Write { path, text, .. } = command {
+        let subject = written_subject(path.as_bytes());
+        if let Some(at) = other_offset(subject, text.as_bytes(), refusal) {
+            return written_offset(alloc, line, at);
+        }
+    }
+    let starts = starts(alloc, line)?;
+    Ok(match blamed_word(events, command, refusal, starts.len()) {
+        Some(index) => number_at(&starts, index),
+        None => None,
+    })
+}
+
+/// The offset in a line of the byte that is to blame for a refusal of its command.
+pub(crate) fn refusal_offset(
+    alloc: Global,
+    events: &[EventDef],
+    line: &[u8],
+    command: &Command,
+    refusal: &Refusal,
 ) -> Result<Option<usize>, AllocError>
-    ensures { IfOk result (λ offset. offset ≡ places.offset_of line.now place) }
+    ensures { IfOk result (λ caret. IsUnder line.now (places.named_offset refusal.now) caret) }
 {
-    match place {
-        Place::Nowhere => Ok(None),
-        Place::Written(at) => written_offset(alloc, line, at),
+    match refusal {
+        Refusal::BadDefinition { at }
+        | Refusal::FilterSyntax { at }
+        | Refusal::NoSuchField { at }
+        | Refusal::WrongOperator { at }
+        | Refusal::HistSyntax { at } => written_offset(alloc, line, *at),
         _ => {
-            let starts = starts(alloc, line)?;
-            Ok(start_of(&starts, place))
+            let place = other_place(alloc, events, line, command, refusal)?;
+            Ok(place)
         }
     }
 }

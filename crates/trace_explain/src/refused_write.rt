@@ -3,20 +3,10 @@
 ghost use Rattle.std.specs.Prelude.{◌≡◌};
 ghost use Rattle.trace_explain.specs.Writes as writes;
 
-use crate::place::{Place, refusal_place};
+use crate::place::blamed_offset;
 use crate::subject::written_subject;
 use crate::wording::refusal_words;
 use trace_command::Refusal;
-
-/// The offset that a place has in what is written; 0, if it is elsewhere.
-fn offset_in(place: Place) -> usize
-    ensures { result ≡ writes.offset_in place }
-{
-    match place {
-        Place::Written(at) => at,
-        _ => 0,
-    }
-}
 
 /// What is wrong, in one sentence, with the write of this text to the file of this path, which was refused so.
 pub fn write_words(path: &[u8], text: &[u8], refusal: &Refusal) -> &'static str
@@ -29,5 +19,8 @@ pub fn write_words(path: &[u8], text: &[u8], refusal: &Refusal) -> &'static str
 pub fn write_offset(path: &[u8], text: &[u8], refusal: &Refusal) -> usize
     ensures { result ≡ writes.write_offset path.now text.now refusal.now }
 {
-    offset_in(refusal_place(written_subject(path), text, refusal))
+    match blamed_offset(path, text, refusal) {
+        Some(at) => at,
+        None => 0,
+    }
 }

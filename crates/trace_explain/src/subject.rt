@@ -1,7 +1,6 @@
 //! What a command is about, and the path that it names.
 
 ghost use Rattle.std.specs.Prelude.{◌≡◌};
-ghost use Rattle.trace_command.specs.Paths as paths;
 ghost use Rattle.trace_explain.specs.Wording as wording;
 
 use trace_command::{Command, EventFile, FileName, TopFile, address_of};
@@ -58,7 +57,7 @@ fn subject_of_top_file(file: TopFile) -> Subject
 
 /// What is written to the file of a path.
 pub(crate) fn written_subject(path: &[u8]) -> Subject
-    ensures { result ≡ wording.written_subject (paths.address_of path.now).file }
+    ensures { result ≡ wording.subject_at path.now }
 {
     match address_of(path).file {
         Some(FileName::SyntheticEvents) => Subject::Declaration,
@@ -69,9 +68,7 @@ pub(crate) fn written_subject(path: &[u8]) -> Subject
 }
 
 /// What a command is about.
-pub(crate) fn command_subject(command: &Command) -> Subject
-    ensures { result ≡ wording.command_subject command.now }
-{
+pub(crate) fn command_subject(command: &Command) -> Subject {
     match command {
         Command::Emit { .. } => Subject::Emission,
         Command::Mkdir(_) | Command::Rmdir(_) => Subject::Instance,
@@ -81,9 +78,7 @@ pub(crate) fn command_subject(command: &Command) -> Subject
 }
 
 /// The path that a command names.
-pub(crate) fn path_of(command: &Command) -> &[u8]
-    ensures { result.now ≡ wording.path_of command.now }
-{
+pub(crate) fn path_of(command: &Command) -> &[u8] {
     match command {
         Command::Emit { .. } => b"",
         Command::Mkdir(path) | Command::Rmdir(path) => path.as_bytes(),

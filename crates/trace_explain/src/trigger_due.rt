@@ -7,8 +7,7 @@ ghost use Rattle.trace_explain.specs.TriggerDue as triggers;
 ghost use Rattle.trace_explain.specs.Wording as wording;
 
 use crate::byte_set::{ByteSet, are_all, first_bytes};
-use crate::cut::{after, is_same, word_len};
-use crate::hist_due::begins;
+use crate::cut::{after, begins, is_same, word_len};
 use trace_lex::{blanks_len, decimal_number, rest_of};
 
 /// What is due instead of what is written.
@@ -76,17 +75,6 @@ pub(crate) fn condition_start(text: &[u8]) -> usize
     after_gap(text) + 2
 }
 
-/// What is due by a first word that doesn't begin with `snapshot`.
-fn word_due(word: &[u8]) -> TriggerDue
-    ensures { result ≡ triggers.word_due word.now }
-{
-    if is_same(b"hist", word) {
-        TriggerDue::Keys
-    } else {
-        TriggerDue::Word
-    }
-}
-
 /// What is due by all that follows an optional `!`.
 fn body_due(body: &[u8]) -> TriggerDue
     ensures { result ≡ triggers.body_due body.now }
@@ -99,8 +87,10 @@ fn body_due(body: &[u8]) -> TriggerDue
             after(8, first_bytes(ByteSet::Unblank, body)),
             after(blanks_len(tail), tail),
         )
+    } else if is_same(b"hist", first_bytes(ByteSet::Unblank, body)) {
+        TriggerDue::Keys
     } else {
-        word_due(first_bytes(ByteSet::Unblank, body))
+        TriggerDue::Word
     }
 }
 

@@ -4,11 +4,10 @@ ghost use Rattle.std.specs.Prelude.{◌≡◌};
 ghost use Rattle.trace_explain.specs.Wording as wording;
 
 use crate::byte_set::{ByteSet, first_bytes};
-use crate::cause::Cause;
-use crate::cut::{after, has_blank, up_to};
+use crate::cut::{after, begins, has_blank, up_to};
 use crate::declaration_due::{declaration_due, declaration_due_words};
 use crate::filter_due::{FilterDue, filter_due, filter_due_words};
-use crate::hist_due::{attribute_at, begins, hist_due_words, hist_field_words};
+use crate::hist_due::{attribute_at, hist_due_words, hist_field_words};
 use crate::most_words::most_words;
 use crate::subject::Subject;
 use crate::trigger_due::{condition_start, trigger_due_words};
@@ -192,22 +191,5 @@ pub(crate) fn refusal_words(
         Refusal::HistoryFull => "the history is full",
         Refusal::Memory => "out of memory",
         Refusal::Worn => "all tickets are drawn",
-    }
-}
-
-/// What is wrong with a field.
-#[tactic(auto, unfolding(crate::specs::Wording::cause_words))]
-pub(crate) fn cause_words(cause: Cause) -> &'static str
-    ensures { result.now ≡ wording.cause_words cause }
-{
-    match cause {
-        Cause::NotKnown => "no field of the event, or repeated, or its value is none of its type",
-        Cause::NoField => "the event has no field of this name",
-        Cause::Repeated => "the field is repeated",
-        Cause::Missing => "the field is missing",
-        Cause::NoNumber => "its value is no number from -2^63 to 2^64 - 1",
-        Cause::OutOfRange => "its value is out of the range of its type",
-        Cause::TooLong => "its value is too long",
-        Cause::NotPrintable => "its value has a byte that is not from 0x20 to 0x7e",
     }
 }

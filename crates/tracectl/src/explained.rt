@@ -1,9 +1,8 @@
 //! A session's output, with what is wrong with each refused line told beside it.
 
-ghost use Rattle.std.specs.Prelude.{◌≡◌, false, None, OnOk};
+ghost use Rattle.std.specs.Prelude.{◌≡◌, ℕ, List, false, None, OnOk};
 ghost use Rattle.std.specs.Io.KnownBytes.{Appends};
-ghost use Rattle.trace_explain.specs.Events.{known_after};
-ghost use Rattle.trace_explain.specs.Explanations.{explanation};
+ghost use Rattle.trace_explain.specs.Explanations.{IsExplanation};
 
 use std::alloc::Global;
 use std::io;
@@ -34,9 +33,8 @@ impl<'a, S: Sink, E: Write> Explained<'a, S, E> {
 
     /// Tells what is wrong with a line, if anything is.
     fn explain(&mut self, number: usize, line: &[u8], outcome: &Outcome) -> io::Result<()>
-        ensures told { OnOk result (Appends (E.contents self.old.errors) (E.contents self.new.errors)
-            (explanation self.old.script.now number self.old.explainer line.now outcome.now)) }
-        ensures explainer { self.new.explainer ≡ self.old.explainer }
+        ensures told { OnOk result ((text : List ℕ) × IsExplanation self.old.script.now number line.now outcome.now text
+            × Appends (E.contents self.old.errors) (E.contents self.new.errors) text) }
         ensures output { self.new.output ≡ self.old.output }
     {
         let script = self.script.as_bytes();
@@ -46,13 +44,13 @@ impl<'a, S: Sink, E: Write> Explained<'a, S, E> {
             text: line,
         };
         let text = self.explainer.explain(at, outcome)?;
-        self.errors.write_all(&text)
+        self.errors.write_all(&text)?;
+        Ok(())
     }
 
     /// Remembers what became of a line, for those after it.
     fn remember(&mut self, number: usize, line: &[u8], outcome: &Option<Outcome>) -> io::Result<()>
-        ensures heard { OnOk result (self.new.explainer ≡ known_after self.old.explainer number line.now outcome.now) }
-        ensures output { self.new.output ≡ self.old.output }
+        ensures { self.new.output ≡ self.old.output }
     {
         self.explainer.hear(number, line, outcome)?;
         Ok(())

@@ -1,5 +1,5 @@
 -- Which bytes the program's sets have.
-use Rattle.std.specs.Prelude.{ℕ, Bool}
+use Rattle.std.specs.Prelude.{ℕ, Bool, not}
 use Rattle.trace_lex.specs.Blanks.{is_blank}
 use Rattle.trace_lex.specs.Names.{is_name_byte}
 use Rattle.trace_lex.specs.Prefixes.{is_not}
@@ -7,7 +7,6 @@ use Rattle.trace_format.specs.Cells.{is_printable}
 use Rattle.trace_trigger.specs.Frames.{is_unblank}
 use Rattle.trace_script.specs.Lines.{is_line_byte}
 use Rattle.trace_explain.specs.Bytes.{is_inside, is_same_byte}
-use Rattle.trace_explain.specs.FilterDue.{is_unnamed}
 use Rattle.trace_explain.specs.declared.byte_set.ByteSet.{ByteSet}
 use Rattle.trace_explain.specs.declared.byte_set.ByteSet.TheVariants.{Blank, Unblank, Only, Except, Inside, OfName, OfNoName, Printable, OfLine}
 
@@ -18,6 +17,6 @@ has (Only byte) b = is_same_byte byte b
 has (Except byte) b = is_not byte b
 has (Inside byte) b = is_inside byte b
 has OfName b = is_name_byte b
-has OfNoName b = is_unnamed b
+has OfNoName b = not (is_name_byte b)
 has Printable b = is_printable b
 has OfLine b = is_line_byte b

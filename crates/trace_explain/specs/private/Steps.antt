@@ -1,10 +1,15 @@
--- What one byte of a line adds to its offsets, and where the word that is open ends after it.
+-- Where one byte of a line leads, what it adds to the line's offsets, and where the word that is open ends after it.
 use Rattle.std.specs.Prelude.{ℕ, ◌+◌, Bool, true, false, not, ◌||◌, ◌==◌, if◌then◌else◌}
 use Rattle.trace_lex.specs.Blanks.{is_blank}
 use Rattle.trace_script.specs.Tokens.{is_end, is_quote}
-use Rattle.trace_explain.specs.Carets.{end_after}
+use Rattle.trace_explain.specs.Carets.{end_after, stand_after}
 use Rattle.trace_explain.specs.declared.caret.Stand.{Stand}
 use Rattle.trace_explain.specs.declared.caret.Stand.TheVariants.{Between, InWord, InQuotes}
+
+abbrev pub next_stand : Stand → ℕ → Stand
+next_stand Between b = stand_after b
+next_stand InWord b = stand_after b
+next_stand (InQuotes quote) b = if b == quote then InWord else InQuotes quote
 
 abbrev pub next_end : Stand → ℕ → ℕ → ℕ → ℕ
 next_end Between end at b = end_after end at b

@@ -1,6 +1,0 @@
-use Rattle.std.proofs.Common.{◌≡◌, ◌++◌, drop}
-use Rattle.trace_explain.specs.Starts.{starts_from, starts_of}
-use Rattle.trace_explain.proofs.starts.starts.Given as goal
-
-abbrev pub invariant-loop-at : goal.invariant-loop-at
-invariant-loop-at l = l.starts.items ++ starts_from l.stand l.at (drop l.at l.line) ≡ starts_of l.line
