@@ -8,9 +8,12 @@ use Rattle.trace_command.specs.declared.command.Reply.{Reply}
 use Rattle.trace_command.specs.declared.command.Reply.TheVariants.{Done, Text}
 use Rattle.trace_command.specs.declared.refusal.Refusal.{Refusal}
 use Rattle.trace_command.specs.declared.refusal.Refusal.TheVariants.{Memory}
+use Rattle.trace_format.specs.declared.field_value.FieldValue.{FieldValue}
 use Rattle.trace_format.specs.declared.pair.Pair.{Pair}
+use Rattle.trace_history.specs.Settings.{declared_events}
 use Rattle.trace_live.specs.LiveSeen.{LiveSeen}
 use Rattle.trace_live.specs.Lives.{IsCallWithin, IsLive, limited_answer}
+use Rattle.trace_state.specs.ValueEmissions.{values_emission}
 use Rattle.trace_script.specs.Lines.{line_of}
 use Rattle.trace_script.specs.Outcomes.{Fails, or_fault}
 use Rattle.trace_script.specs.declared.fault.LineError.{LineError}
@@ -22,7 +25,7 @@ use Rattle.trace_script.specs.declared.line.Line.TheVariants.{Ask, Blank, End, P
 use Rattle.trace_script.specs.declared.outcome.Outcome.{Outcome}
 use Rattle.trace_script.specs.declared.outcome.Outcome.TheVariants.{Fault, Refused, Replied}
 use Rattle.trace_console.specs.ConsolesSeen.{ConsoleSeen}
-use Rattle.trace_console.specs.Consoles.{Asked, ComesTo, StandsFor, after_command, after_emission, after_line, after_listing, after_pairs, after_read, answered, failed, outcome_of, with_last}
+use Rattle.trace_console.specs.Consoles.{Asked, ComesTo, StandsFor, after_command, after_emission, after_line, after_listing, after_pairs, after_read, after_request, after_values, answered, failed, outcome_of, with_last}
 use Rattle.trace_console.specs.Fields.{fields_in, pairs_in}
 use Rattle.trace_console.specs.ListedFiles.{files_after}
 
@@ -81,31 +84,45 @@ same-answer before live asked request config stands =
     ap (λ (n : ℕ). limited_answer n asked.config asked.past request) (sym stands.limit)
     ∙ ap (λ (g : Config). limited_answer before.limit g asked.past request) (sym (config ∙ stands.config))
 
-pub command_comes : (command : Command) (before after : ConsoleSeen) (live : LiveSeen) (answer : Result Reply Refusal)
+-- a request that what was asked before says
+pub request_comes : (request_of : List Request → Request) (before after : ConsoleSeen) (live : LiveSeen) (answer : Result Reply Refusal)
     → live.config ≡ before.live.config → after ≡ record before { live = live; last = outcome_of answer }
-    → ((past : List Request) → IsLive before.live.config past before.live → IsCallWithin before.limit past live (request_of command) answer)
-    → ComesTo (after_command command) before after
-command_comes command before after live (Ok reply) config is call =
-    let request = request_of command in record {
-      told = λ asked stands other.
-          let done = call asked.past stands.lives in
-          subst (λ (r : Result Reply Refusal). StandsFor after (answered r request asked))
-          (sym (same-answer before live asked request config stands ∙ done.reply))
-          (standing before after live (Replied reply) asked (request ∷ asked.past) config is stands done.done);
-      memory = λ asked stands e.
-          let told : after.last ≡ Replied reply = last_is before after live (Replied reply) is in absurd (cc);
-    }
-command_comes command before after live (Err refusal) config is call =
-    let request = request_of command in
+    → ((past : List Request) → IsLive before.live.config past before.live → IsCallWithin before.limit past live (request_of past) answer)
+    → ComesTo (λ asked. after_request (request_of asked.past) asked) before after
+request_comes request_of before after live (Ok reply) config is call = record {
+  told = λ asked stands other.
+      let request = request_of asked.past in
+      let done = call asked.past stands.lives in
+      subst (λ (r : Result Reply Refusal). StandsFor after (answered r request asked))
+      (sym (same-answer before live asked request config stands ∙ done.reply))
+      (standing before after live (Replied reply) asked (request ∷ asked.past) config is stands done.done);
+  memory = λ asked stands e. let told : after.last ≡ Replied reply = last_is before after live (Replied reply) is in absurd (cc);
+}
+request_comes request_of before after live (Err refusal) config is call =
     let told : after.last ≡ Refused refusal = last_is before after live (Refused refusal) is in
     let stays : (asked : Asked) → StandsFor before asked → StandsFor after (with_last (Refused refusal) asked) = λ asked stands.
     standing before after live (Refused refusal) asked asked.past config is stands (call asked.past stands.lives).refused in record {
       told = λ asked stands other.
+          let request = request_of asked.past in
           let differs : refusal ≢ Memory = λ same. other (told ∙ ap Refused same) in
           subst (λ (r : Result Reply Refusal). StandsFor after (answered r request asked))
           (sym (same-answer before live asked request config stands ∙ (call asked.past stands.lives).reply differs)) (stays asked stands);
       memory = λ asked stands e. subst (λ (o : Outcome). StandsFor after (with_last o asked)) (sym told ∙ e) (stays asked stands);
     }
+
+pub command_comes : (command : Command) (before after : ConsoleSeen) (live : LiveSeen) (answer : Result Reply Refusal)
+    → live.config ≡ before.live.config → after ≡ record before { live = live; last = outcome_of answer }
+    → ((past : List Request) → IsLive before.live.config past before.live → IsCallWithin before.limit past live (request_of command) answer)
+    → ComesTo (after_command command) before after
+command_comes command before after live answer config is call = request_comes (λ past. request_of command) before after live answer config is call
+
+pub values_come : (event cpu : ℕ) (pid : ℤ) (values : List FieldValue) (before after : ConsoleSeen) (live : LiveSeen) (answer : Result Reply Refusal)
+    → live.config ≡ before.live.config → after ≡ record before { live = live; last = outcome_of answer }
+    → ((past : List Request) → IsLive before.live.config past before.live
+    → IsCallWithin before.limit past live (values_emission (declared_events past) event cpu pid values) answer)
+    → ComesTo (after_values event cpu pid values) before after
+values_come event cpu pid values before after live answer config is call =
+    request_comes (λ past. values_emission (declared_events past) event cpu pid values) before after live answer config is call
 
 -- ---- a line
 
@@ -165,6 +182,13 @@ pub emission_asked : (event : List ℕ) (cpu : ℕ) (pid : ℤ) (fields : List �
     → ComesTo (after_emission event cpu pid fields) before after
 emission_asked event cpu pid fields pairs before after is comes =
     subst (λ (read : Option (List Pair)). ComesTo (after_pairs event cpu pid read) before after) (sym (some-pairs (pairs_in (fields_in fields)) pairs is)) comes
+
+-- one of a lone field
+pub lone_asked : (event : List ℕ) (cpu : ℕ) (pid : ℤ) (fields : List ℕ) (pairs : List Pair) (before after : ConsoleSeen)
+    → pairs_in (fields_in fields) ≡ Some pairs → ComesTo (after_command (Emit event cpu pid pairs)) before after
+    → ComesTo (after_emission event cpu pid fields) before after
+lone_asked event cpu pid fields pairs before after is comes =
+    subst (λ (read : Option (List Pair)). ComesTo (after_pairs event cpu pid read) before after) (sym is) comes
 
 -- one whose fields are no pairs, or for which memory was refused
 pub emission_unread : (event : List ℕ) (cpu : ℕ) (pid : ℤ) (fields : List ℕ) (error : LineError) (before after : ConsoleSeen)

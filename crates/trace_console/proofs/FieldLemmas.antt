@@ -88,6 +88,13 @@ pair_read text rest after field items pair so_far cut is =
     ∙ ap (λ (o : Option Pair). option_map (λ more. items ++ more) (option_and_then (λ pair. option_map (λ more. pair ∷ more) (pairs_in (fields_in after))) o)) (sym (is_pair (pair_of field) pair is))
     ∙ ap (λ (fields : List (List ℕ)). option_map (λ more. items ++ more) (pairs_in fields)) (sym cut) ∙ so_far
 
+-- a lone field's pair
+pub lone_field : (text : List ℕ) (pair : Pair) → text ≢ [] → len text ≡ length text → pair_of text ≡ Some pair → pairs_in (fields_in text) ≡ Some (pair ∷ [])
+unfolding pairs_in
+lone_field text pair some all is =
+    ap pairs_in (whole_field text some all)
+    ∙ ap (option_and_then (λ pair. option_map (λ more. pair ∷ more) (Some []))) is
+
 -- a field is no pair
 pub no_pair_read : (error : LineError) (text rest after field : List ℕ) (items : List Pair)
     → option_map (λ more. items ++ more) (pairs_in (fields_in rest)) ≡ pairs_in (fields_in text) → fields_in rest ≡ field ∷ fields_in after

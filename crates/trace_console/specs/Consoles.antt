@@ -8,8 +8,11 @@ use Rattle.trace_command.specs.declared.command.Reply.{Reply}
 use Rattle.trace_command.specs.declared.command.Reply.TheVariants.{Done, Text}
 use Rattle.trace_command.specs.declared.refusal.Refusal.{Refusal}
 use Rattle.trace_command.specs.declared.refusal.Refusal.TheVariants.{Memory}
+use Rattle.trace_format.specs.declared.field_value.FieldValue.{FieldValue}
 use Rattle.trace_format.specs.declared.pair.Pair.{Pair}
+use Rattle.trace_history.specs.Settings.{declared_events}
 use Rattle.trace_live.specs.Lives.{IsLive, limited_answer}
+use Rattle.trace_state.specs.ValueEmissions.{values_emission}
 use Rattle.trace_script.specs.Lines.{line_of}
 use Rattle.trace_script.specs.declared.fault.LineError.{LineError}
 use Rattle.trace_script.specs.declared.fault.LineError.TheVariants as errors
@@ -63,10 +66,13 @@ with_last outcome before = record before { last = outcome }
 abbrev pub answered : Result Reply Refusal → Request → Asked → Asked
 answered answer request before = record before { past = past_after answer before.past request; last = outcome_of answer }
 
--- a command gets the answer that the requests done before give, HistoryFull where there is no room for one more
+-- a request gets the answer that those done before it give, HistoryFull where there is no room for one more
+abbrev pub after_request : Request → Asked → Asked
+after_request request before = answered (limited_answer before.limit before.config before.past request) request before
+
+-- a command
 abbrev pub after_command : Command → Asked → Asked
-after_command command before =
-    let request = request_of command in answered (limited_answer before.limit before.config before.past request) request before
+after_command command before = after_request (request_of command) before
 
 -- a line that was read: a command gets its answer, and a line of a parallel part is out of place
 abbrev pub after_read : Result Line ScriptFault → Asked → Asked
@@ -89,6 +95,10 @@ after_pairs event cpu pid (Some pairs) before = after_command (Emit event cpu pi
 -- an emission of a string of fields
 abbrev pub after_emission : List ℕ → ℕ → ℤ → List ℕ → Asked → Asked
 after_emission event cpu pid fields before = after_pairs event cpu pid (pairs_in (fields_in fields)) before
+
+-- an emission of values, in order of declaration, of the event of a number: the events are those that the requests done before declared
+abbrev pub after_values : ℕ → ℕ → ℤ → List FieldValue → Asked → Asked
+after_values event cpu pid values before = after_request (values_emission (declared_events before.past) event cpu pid values) before
 
 -- a list of the files, which is no command
 abbrev pub after_listing : Asked → Asked

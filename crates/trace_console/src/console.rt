@@ -5,19 +5,22 @@ ghost use Rattle.trace_command.specs.Configs.{IsInRange};
 ghost use Rattle.trace_command.specs.Paths as paths;
 ghost use Rattle.trace_command.specs.declared.command.Command.{Command as CommandValue};
 ghost use Rattle.trace_command.specs.declared.command.Command.TheVariants as commands;
+ghost use Rattle.trace_command.specs.declared.command.Reply.TheVariants as replies;
 ghost use Rattle.trace_command.specs.declared.refusal.Refusal.TheVariants as refusals;
 ghost use Rattle.trace_history.specs.Waiting.{waiting};
 ghost use Rattle.trace_live.specs.Lives.{most_done};
-ghost use Rattle.trace_console.specs.Consoles.{Asked, ComesTo, StandsFor, after_command, after_emission, after_line, after_listing, failed, opened, outcome_of};
+ghost use Rattle.trace_console.specs.Consoles.{Asked, ComesTo, StandsFor, after_command, after_emission, after_line, after_listing, after_values, failed, opened, outcome_of, with_last};
 ghost use Rattle.trace_console.specs.Statuses.{offset_in, reply_in, status_of};
 ghost use Rattle.trace_script.specs.declared.outcome.Outcome.TheVariants as outcomes;
 
-use crate::fields::pairs;
+use crate::fields::{lone_pair, pairs};
 use crate::files::files_of;
 use crate::status;
 use std::alloc::{AllocError, Global};
 use std::marker::Model;
+use std::slice;
 use trace_command::{BorrowedEmission, Command, Config, Refusal, Reply};
+use trace_format::FieldValue;
 use trace_lex::Text;
 use trace_live::Live;
 use trace_script::{Line, LineError, Outcome, ScriptFault, prepare};
@@ -77,17 +80,59 @@ impl Console {
     fn ask(&mut self, command: Command)
         ensures { ComesTo (after_command command) self.old self.new }
     {
-        self.last = outcome_of(self.live.ask_within(self.limit, command));
+        let answer = self.live.ask_within(self.limit, command);
+        self.keep(answer);
     }
 
     /// Does an emission, as `ask` does a command.
     fn ask_emission(&mut self, emission: &BorrowedEmission<'_>)
         ensures { ComesTo (after_command emission.now) self.old self.new }
     {
-        self.last = outcome_of(self.live.ask_emission_within(self.limit, emission));
+        let answer = self.live.ask_emission_within(self.limit, emission);
+        self.keep(answer);
     }
 
-    /// Keeps what a call came to that asked no command.
+    /// Does an emission of a string of fields, for which a list is allocated.
+    fn ask_pairs(&mut self, event: &[u8], cpu: u32, pid: i32, fields: &[u8])
+        ensures { ComesTo (after_emission event.now cpu pid fields.now) self.old self.new }
+    {
+        match pairs(self.alloc, fields) {
+            Ok(pairs) => self.ask_emission(&BorrowedEmission::new(event, cpu, pid, &pairs)),
+            Err(error) => self.tell(failed(error)),
+        }
+    }
+
+    /// Does an emission of values, as `ask` does a command.
+    fn ask_values(&mut self, event: u32, cpu: u32, pid: i32, values: &[FieldValue<'_>])
+        ensures { ComesTo (after_values event cpu pid values.now) self.old self.new }
+    {
+        let answer = self
+            .live
+            .ask_values_within(self.limit, event, cpu, pid, values);
+        self.keep(answer);
+    }
+
+    /// Keeps an answer.
+    fn keep(&mut self, answer: Result<Reply, Refusal>)
+        ensures { self.new ≡ record self.old { last = outcome_of answer } }
+    {
+        match answer {
+            Ok(Reply::Done) => self.tell_done(),
+            Ok(reply) => self.tell(Outcome::Replied(reply)),
+            Err(refusal) => self.tell(Outcome::Refused(refusal)),
+        }
+    }
+
+    /// Keeps that a call was done. After another such call, as most are, there is nothing to write.
+    fn tell_done(&mut self)
+        ensures { self.new ≡ record self.old { last = outcomes.Replied replies.Done } }
+    {
+        if !matches!(self.last, Outcome::Replied(Reply::Done)) {
+            self.last = Outcome::Replied(Reply::Done);
+        }
+    }
+
+    /// Keeps what a call came to.
     fn tell(&mut self, outcome: Outcome)
         ensures { self.new ≡ record self.old { last = outcome } }
     {
@@ -129,10 +174,33 @@ impl Console {
         ensures done { ComesTo (after_emission event.now cpu pid fields.now) self.old self.new }
         ensures status { result ≡ status_of self.new.last }
     {
-        match pairs(self.alloc, fields) {
-            Ok(pairs) => self.ask_emission(&BorrowedEmission::new(event, cpu, pid, &pairs)),
-            Err(error) => self.tell(failed(error)),
+        match lone_pair(fields) {
+            Some(pair) => {
+                let pairs = slice::from_ref(&pair);
+                self.ask_emission(&BorrowedEmission::new(event, cpu, pid, pairs));
+            }
+            None => self.ask_pairs(event, cpu, pid, fields),
         }
+        self.status()
+    }
+
+    /// Does an emission of the event of this number: its position among the declarations, from 1, which its `format` shows as `ID`. The values are those of
+    /// its fields, in order of declaration.
+    #[inline(always)]
+    pub fn emit_values(&mut self, event: u32, cpu: u32, pid: i32, values: &[FieldValue<'_>]) -> u32
+        ensures done { ComesTo (after_values event cpu pid values.now) self.old self.new }
+        ensures status { result ≡ status_of self.new.last }
+    {
+        self.ask_values(event, cpu, pid, values);
+        self.status()
+    }
+
+    /// Tells that a call was refused before anything was asked.
+    pub fn refuse(&mut self, refusal: Refusal) -> u32
+        ensures done { ComesTo (with_last (outcomes.Refused refusal)) self.old self.new }
+        ensures status { result ≡ status_of self.new.last }
+    {
+        self.tell(Outcome::Refused(refusal));
         self.status()
     }
 
@@ -220,16 +288,6 @@ impl Console {
             → result ≡ waiting asked.config asked.past (paths.address_of path.now).instance (paths.address_of path.now).file }
     {
         self.live.waiting(path)
-    }
-}
-
-/// An answer as an outcome.
-fn outcome_of(answer: Result<Reply, Refusal>) -> Outcome
-    ensures { result ≡ outcome_of answer }
-{
-    match answer {
-        Ok(reply) => Outcome::Replied(reply),
-        Err(refusal) => Outcome::Refused(refusal),
     }
 }
 

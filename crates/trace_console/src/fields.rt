@@ -1,6 +1,6 @@
 //! The fields of an emission, as one string: `NAME=VALUE` for each field, with a byte 0 between each two. A byte 0 after the last is optional.
 
-ghost use Rattle.std.specs.Prelude.{◌≡◌, ◌≢◌, ◌<◌, ◌++◌, ◌∷◌, [], IfErr, OnOk, Ok, length, position, ◌==◌};
+ghost use Rattle.std.specs.Prelude.{◌≡◌, ◌≢◌, ◌<◌, ◌++◌, ◌∷◌, [], IfErr, IfSome, OnOk, Ok, Some, length, position, ◌==◌};
 ghost use Rattle.trace_format.specs.declared.pair.Pair.{Pair as PairValue};
 ghost use Rattle.trace_script.specs.Lines.{pair_of};
 ghost use Rattle.trace_script.specs.Outcomes.{Fails, Gives, or_fault};
@@ -26,6 +26,17 @@ fn first_equals(field: &[u8]) -> Option<usize>
     ensures { result ≡ position (λ b. b == 61) field.now }
 {
     field.iter().position(|byte| *byte == b'=')
+}
+
+/// The pair of a string that is a lone field, for which no list has to be allocated. Not every lone field is found to be one.
+#[tactic(auto, using(crate::proofs::FieldLemmas::lone_field))]
+pub(crate) fn lone_pair(text: &[u8]) -> Option<BorrowedPair<'_>>
+    ensures { IfSome result (λ pair. pairs_in (fields_in text.now) ≡ Some (pair ∷ [])) }
+{
+    if text.is_empty() || len_before(0, text) != text.len() {
+        return None;
+    }
+    pair(text)
 }
 
 /// Puts the pair that a field writes at the end.

@@ -1,0 +1,120 @@
+/* Emissions by values, each beside the same one by text in another tracer: their statuses, replies and offsets are the same, and so is what is recorded
+ * at the end. A kind that there is not is refused, and changes nothing. */
+#include <stdio.h>
+#include <string.h>
+
+#include "tracectl.h"
+
+enum { PROBE = 2, MOST_VALUES = 20 };
+
+#define TEXT(text) (text), sizeof(text) - 1
+#define NUMBER(number) tracectl_unsigned(number)
+#define SIGNED(number) tracectl_signed(number)
+#define BYTES(text) tracectl_bytes(TEXT(text))
+
+static tracectl given = TRACECTL_CLOSED, told = TRACECTL_CLOSED;
+
+/* The two tracers have the same events: `tick`, and `probe`, whose number is 2. */
+static int begin(tracectl *tracer) {
+    tracectl_settings settings = {.cpus = 2, .pages = 4, .page_bytes = 128, .history_limit = 0};
+    return !tracectl_open(tracer, &settings) && !tracectl_append(tracer, TEXT("synthetic_events"), TEXT("tick u64 n"))
+        && !tracectl_append(tracer, TEXT("synthetic_events"), TEXT("probe u64 n; s8 level; char who[8]"))
+        && !tracectl_write(tracer, TEXT("events/enable"), TEXT("1"));
+}
+
+/* The last reply of both tracers, if it is the same. */
+static const char *same_reply(void) {
+    static char one[4096], other[4096];
+    size_t count = tracectl_reply(&given, 0, one, sizeof one - 1);
+    if (tracectl_reply(&told, 0, other, sizeof other) != count || memcmp(one, other, count)) return 0;
+    one[count] = 0;
+    return one;
+}
+
+/* Tells what both emissions came to, if that is the same. */
+static int compared(const char *name, uint32_t by_values, uint32_t by_text) {
+    const char *reply = same_reply();
+    int same = reply && by_values == by_text && tracectl_offset(&given) == tracectl_offset(&told) && tracectl_entries(&given) == tracectl_entries(&told);
+    return printf("%s: %u%s%s%s\n", name, (unsigned)by_values, reply && *reply ? " " : "", reply ? reply : "", same ? "" : ", and otherwise by text") > 0
+        && same;
+}
+
+/* Emits `probe` both ways. */
+static int probed(const char *name, uint32_t cpu, const tracectl_value *values, size_t count, const char *fields, size_t fields_length) {
+    return compared(name, tracectl_emit_values(&given, PROBE, cpu, -7, values, count), tracectl_emit(&told, TEXT("probe"), cpu, -7, fields, fields_length));
+}
+
+#define PROBED(name, cpu, fields, ...) \
+    probed(name, cpu, (tracectl_value[]){__VA_ARGS__}, sizeof((tracectl_value[]){__VA_ARGS__}) / sizeof(tracectl_value), TEXT(fields))
+
+static int right(void) {
+    return PROBED("three values", 0, "n=7\0level=-5\0who=me", NUMBER(7), SIGNED(-5), BYTES("me"))
+        && PROBED("the greatest and the least", 1, "n=18446744073709551615\0level=-128\0who=", NUMBER(UINT64_MAX), SIGNED(-128), BYTES(""))
+        && PROBED("a signed number from 0", 0, "n=9223372036854775807\0level=127\0who=~", SIGNED(INT64_MAX), SIGNED(127), BYTES("~"))
+        && PROBED("bytes for numbers", 0, "n=12\0level=-0\0who=x", BYTES("12"), BYTES("-0"), BYTES("x"))
+        && PROBED("numbers for a string", 0, "n=1\0level=1\0who=1234567", NUMBER(1), NUMBER(1), NUMBER(1234567))
+        && PROBED("a number with a sign for a string", 0, "n=1\0level=1\0who=-123456", NUMBER(1), NUMBER(1), SIGNED(-123456));
+}
+
+static int wrong(void) {
+    return PROBED("no such CPU", 2, "n=7\0level=-5\0who=me", NUMBER(7), SIGNED(-5), BYTES("me"))
+        && PROBED("too few", 0, "n=7", NUMBER(7))
+        && probed("none", 0, (tracectl_value[]){NUMBER(7)}, 0, TEXT(""))
+        && PROBED("too many", 0, "n=7\0level=5\0who=me\0=1", NUMBER(7), NUMBER(5), BYTES("me"), NUMBER(1))
+        && PROBED("below 0", 0, "n=-1\0level=5\0who=me", SIGNED(-1), NUMBER(5), BYTES("me"))
+        && PROBED("the least of all", 0, "n=1\0level=-9223372036854775808\0who=me", NUMBER(1), SIGNED(INT64_MIN), BYTES("me"))
+        && PROBED("above the range", 0, "n=1\0level=128\0who=me", NUMBER(1), NUMBER(128), BYTES("me"))
+        && PROBED("the greatest of all", 0, "n=1\0level=18446744073709551615\0who=me", NUMBER(1), NUMBER(UINT64_MAX), BYTES("me"))
+        && PROBED("bytes that are no number", 0, "n=seven\0level=1\0who=me", BYTES("seven"), NUMBER(1), BYTES("me"))
+        && PROBED("no bytes for a number", 0, "n=\0level=1\0who=me", BYTES(""), NUMBER(1), BYTES("me"))
+        && PROBED("a string too long", 0, "n=1\0level=1\0who=too long", NUMBER(1), NUMBER(1), BYTES("too long"))
+        && PROBED("a number too long for a string", 0, "n=1\0level=1\0who=12345678", NUMBER(1), NUMBER(1), NUMBER(12345678))
+        && PROBED("a byte that is not printable", 0, "n=1\0level=1\0who=\t", NUMBER(1), NUMBER(1), BYTES("\t"));
+}
+
+/* As many values as no event has fields. The first that is wrong is named. */
+static int many(void) {
+    tracectl_value values[MOST_VALUES];
+    for (int i = 0; i < MOST_VALUES; i++) values[i] = NUMBER(1);
+    int done = probed("many", 0, values, MOST_VALUES, TEXT("n=1\0level=1\0who=1\0=1\0=1\0=1"));
+    values[1] = NUMBER(1000);
+    return probed("many, and one out of range", 0, values, MOST_VALUES, TEXT("n=1\0level=1000\0who=1\0=1\0=1\0=1")) && done;
+}
+
+/* Numbers that no event has. */
+static int unknown(void) {
+    static const uint32_t numbers[] = {0, 3, 64, 65, UINT32_MAX};
+    tracectl_value n = NUMBER(1);
+    int same = 1;
+    for (size_t i = 0; i < sizeof numbers / sizeof *numbers; i++)
+        same &= compared("no such event", tracectl_emit_values(&given, numbers[i], 0, 7, &n, 1), tracectl_emit(&told, TEXT("nothing"), 0, 7, TEXT("n=1")));
+    return same && compared("another event", tracectl_emit_values(&given, 1, 0, 7, &n, 1), tracectl_emit(&told, TEXT("tick"), 0, 7, TEXT("n=1")));
+}
+
+/* A value of a kind that there is not, in each place. */
+static int unknown_kind(void) {
+    tracectl_value values[] = {NUMBER(1), NUMBER(1), BYTES("me")};
+    uint64_t entries = tracectl_entries(&given);
+    int refused = 1;
+    for (int i = 0; i < 3; i++) {
+        tracectl_value right = values[i];
+        values[i].kind = i == 1 ? UINT32_MAX : 3;
+        uint32_t status = tracectl_emit_values(&given, PROBE, 9, 7, values, 3);
+        refused &= status == TRACECTL_BAD_VALUE && tracectl_reply_length(&given) == 0 && tracectl_entries(&given) == entries;
+        refused &= tracectl_emit_values(&given, 1, 9, 7, &values[i], 1) == TRACECTL_BAD_VALUE;
+        values[i] = right;
+    }
+    return printf("unknown kind: %s\n", refused ? "refused" : "not refused") > 0 && refused;
+}
+
+static int same_file(const char *path) {
+    uint32_t statuses[] = {tracectl_read(&given, path, strlen(path)), tracectl_read(&told, path, strlen(path))};
+    return compared(path, statuses[0], statuses[1]);
+}
+
+int main(void) {
+    tracectl_value n = NUMBER(1);
+    int done = tracectl_emit_values(&given, 1, 0, 7, &n, 1) == TRACECTL_NOT_OPEN && begin(&given) && begin(&told);
+    done = done && right() && wrong() && many() && unknown() && unknown_kind() && same_file("trace") && same_file("per_cpu/cpu0/stats");
+    return tracectl_close(&given) || tracectl_close(&told) || !done;
+}
