@@ -9,7 +9,8 @@
  *  - A handle is set to TRACECTL_CLOSED (all zeros) before it is first opened. Only these functions change it, and it is not copied.
  *  - One call at a time works on a handle, on the thread that opened it. Each thread may have handles of its own.
  *  - No pointer is null. A string is a pointer to bytes that nobody writes during the call, and how many they are, below 2^63; its last byte
- *    need not be 0. A string of no bytes has a pointer too. Memory that a call writes to overlaps none of its other arguments.
+ *    need not be 0. A string of no bytes has a pointer too, and so has an array of no values. Nobody writes an array of values during the call, and
+ *    it has fewer than 2^58. Memory that a call writes to overlaps none of its other arguments.
  *  - No call comes from a signal handler, nor from the child of a fork in a process with threads.
  *  - malloc, realloc and free come from one allocator, and align blocks to 16 bytes. They may refuse memory: the call is then refused
  *    (TRACECTL_MEMORY), and has changed nothing.
@@ -73,6 +74,37 @@ uint32_t tracectl_line(tracectl *handle, const char *line, size_t line_length);
  * written as in a script, but without quotes, and may have any bytes but 0. */
 uint32_t tracectl_emit(tracectl *handle, const char *event, size_t event_length, uint32_t cpu, int32_t process, const char *fields,
                        size_t fields_length);
+
+/* A value of a field: a number of 64 bits with or without a sign, or bytes. The functions after it make one. */
+typedef struct tracectl_value {
+    uint32_t kind;       /* one of those below */
+    uint64_t number;     /* of TRACECTL_SIGNED the same 64 bits as the number with its sign */
+    const char *bytes;   /* not null, whatever the kind */
+    size_t bytes_length; /* below 2^63, and 0 is right for a number */
+} tracectl_value;
+
+enum { TRACECTL_UNSIGNED = 0, TRACECTL_SIGNED = 1, TRACECTL_BYTES = 2 };
+
+static inline tracectl_value tracectl_unsigned(uint64_t number) {
+    tracectl_value value = {TRACECTL_UNSIGNED, number, "", 0};
+    return value;
+}
+
+static inline tracectl_value tracectl_signed(int64_t number) {
+    tracectl_value value = {TRACECTL_SIGNED, (uint64_t)number, "", 0};
+    return value;
+}
+
+static inline tracectl_value tracectl_bytes(const char *bytes, size_t bytes_length) {
+    tracectl_value value = {TRACECTL_BYTES, 0, bytes, bytes_length};
+    return value;
+}
+
+/* An event happens, as by tracectl_emit, but no text is written for it: the event is named by its number, which is the ID in
+ * events/synthetic/EVENT/format (1 for the event that was declared first, and so on), and its fields have the values, in order of declaration. A
+ * value means what its text does: a number its decimal digits. Refused as tracectl_emit is, a number that no event has as a name that none has (5),
+ * and a value beyond the last field as one of a field with no name; and with TRACECTL_BAD_VALUE if a kind is none of the three. */
+uint32_t tracectl_emit_values(tracectl *handle, uint32_t event, uint32_t cpu, int32_t process, const tracectl_value *values, size_t count);
 
 /* Writes a string to a file (docs/FILES.md), as `echo TEXT > PATH` does, and appends it, as `echo TEXT >> PATH`. */
 uint32_t tracectl_write(tracectl *handle, const char *path, size_t path_length, const char *text, size_t text_length);

@@ -19,12 +19,13 @@ static int show(tracectl *tracer, const char *path) {
     return 1;
 }
 
-/* Emits `tick`, with a field n below eight, count times. */
+/* Emits `tick`, whose number is 1, with a field n below eight, count times: on CPU 0 by text, on CPU 1 by values. */
 static int emit(tracectl *tracer, unsigned count) {
     char fields[] = "n=0";
     for (unsigned i = 0; i < count; i++) {
+        tracectl_value n = tracectl_unsigned(i % 8);
         fields[2] = (char)('0' + i % 8);
-        if (tracectl_emit(tracer, "tick", 4, i % 2, 7, fields, 3)) return 0;
+        if (i % 2 ? tracectl_emit_values(tracer, 1, 1, 7, &n, 1) : tracectl_emit(tracer, "tick", 4, 0, 7, fields, 3)) return 0;
     }
     return 1;
 }

@@ -1,14 +1,29 @@
 """tracectl by ctypes: a tracer whose calls are methods. TRACECTL_LIBRARY names the shared object, which examples/c/build makes."""
 import os
 from contextlib import AbstractContextManager
-from ctypes import CDLL, Structure, byref, c_int32, c_size_t, c_uint32, c_uint64, create_string_buffer
+from ctypes import CDLL, Structure, byref, c_char_p, c_int32, c_size_t, c_uint32, c_uint64, create_string_buffer
 from functools import partialmethod
 
 NO_OFFSET = c_size_t(-1).value
+UNSIGNED, SIGNED, BYTES = range(3)  # kinds of values
 
 
 class Settings(Structure):
     _fields_ = [("cpus", c_uint32), ("pages", c_uint32), ("page_bytes", c_uint32), ("history_limit", c_uint64)]
+
+
+class Value(Structure):
+    """A value of a field."""
+
+    _fields_ = [("kind", c_uint32), ("number", c_uint64), ("bytes", c_char_p), ("bytes_length", c_size_t)]
+
+    @classmethod
+    def of(cls, value):
+        """A number, if 64 bits hold it, or anything else as its bytes."""
+        if isinstance(value, int) and -(2**63) <= value < 2**64:
+            return cls(SIGNED if value < 0 else UNSIGNED, value % 2**64, b"", 0)
+        text = value if isinstance(value, bytes) else str(value).encode()
+        return cls(BYTES, 0, text, len(text))
 
 
 class Refused(Exception):
@@ -55,6 +70,16 @@ class Tracer(AbstractContextManager):
 
     def emit(self, event, cpu=0, process=0, **fields):
         self._ask("emit", event, c_uint32(cpu), c_int32(process), "\0".join("%s=%s" % field for field in fields.items()))
+
+    def number_of(self, event):
+        """The number of an event, by which `emit_values` names it: the ID in its format. This is a read."""
+        lines = self.read("events/synthetic/%s/format" % event).split(b"\n")
+        return int(next(line[4:] for line in lines if line.startswith(b"ID: ")))
+
+    def emit_values(self, number, *values, cpu=0, process=0):
+        """As `emit`, of the event of this number and with the values of its fields in order of declaration, numbers or strings."""
+        given = (Value * len(values))(*map(Value.of, values))
+        self._ask("emit_values", c_uint32(number), c_uint32(cpu), c_int32(process), given, c_size_t(len(values)))
 
     def take(self, path, limit):
         return self._ask("take", path, c_uint64(limit))

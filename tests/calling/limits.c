@@ -22,7 +22,19 @@ static int try_limit(uint64_t limit) {
     return tracectl_close(&tracer) == TRACECTL_DONE;
 }
 
+/* Emits by values more often than a limit of 3 says, of which the declaration takes one; then asks for what is refused in any case. */
+static int try_emissions(void) {
+    tracectl tracer = TRACECTL_CLOSED;
+    tracectl_settings settings = with(3);
+    tracectl_value n = tracectl_unsigned(1);
+    if (tracectl_open(&tracer, &settings) || tracectl_append(&tracer, TEXT("synthetic_events"), TEXT("tick u64 n"))) return 0;
+    for (int i = 0; i < 3; i++) printf("%u ", (unsigned)tracectl_emit_values(&tracer, 1, 0, 7, &n, 1));
+    printf("%u ", (unsigned)tracectl_emit_values(&tracer, 2, 0, 7, &n, 1));
+    printf("emissions by values: entries: %llu\n", (unsigned long long)tracectl_entries(&tracer));
+    return tracectl_close(&tracer) == TRACECTL_DONE;
+}
+
 int main(void) {
     return !(try_limit(1) && try_limit(2) && try_limit(0) && try_limit((uint64_t)1 << 32) && try_limit(((uint64_t)1 << 32) + 1)
-        && try_limit((uint64_t)1 << 60) && try_limit(UINT64_MAX));
+        && try_limit((uint64_t)1 << 60) && try_limit(UINT64_MAX) && try_emissions());
 }

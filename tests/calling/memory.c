@@ -36,6 +36,11 @@ static uint32_t counted(void) { return tracectl_write(&tracer, TEXT("events/synt
 
 static uint32_t emitted(void) { return tracectl_emit(&tracer, TEXT("long_named_event"), 1, 7, TEXT("n=3\0who=a value of 15")); }
 
+static uint32_t emitted_by_values(void) {
+    tracectl_value values[] = {tracectl_unsigned(4), tracectl_bytes(TEXT("a value of 15"))};
+    return tracectl_emit_values(&tracer, 1, 0, 7, values, 2);
+}
+
 static uint32_t taken(void) { return tracectl_take(&tracer, TEXT("per_cpu/cpu1/trace_pipe"), 1); }
 
 static uint32_t read_hist(void) { return tracectl_read(&tracer, TEXT("events/synthetic/long_named_event/hist")); }
@@ -71,10 +76,10 @@ int main(void) {
     int done = enabled() == TRACECTL_NOT_OPEN && listed() == TRACECTL_NOT_OPEN && tracectl_close(&tracer) == TRACECTL_NOT_OPEN
         && tells(TEXT("trace_pipe"), -TRACECTL_NOT_OPEN)
         && is_done("open", opened) && opened() == TRACECTL_ALREADY_OPEN && is_done("append", declared) && is_done("line", enabled) && is_done("write", filtered)
-        && is_done("trigger", counted) && tells(TEXT("trace_pipe"), 0) && is_done("emit", emitted)
-        && tells(TEXT("trace_pipe"), 1) && tells(TEXT("per_cpu/cpu1/trace_pipe"), 1) && tells(TEXT("per_cpu/cpu0/trace_pipe"), 0)
+        && is_done("trigger", counted) && tells(TEXT("trace_pipe"), 0) && is_done("emit", emitted) && is_done("emit_values", emitted_by_values)
+        && tells(TEXT("trace_pipe"), 1) && tells(TEXT("per_cpu/cpu1/trace_pipe"), 1) && tells(TEXT("per_cpu/cpu0/trace_pipe"), 1)
         && tells(TEXT("per_cpu/cpu2/trace_pipe"), -20) && tells(TEXT("no_file"), -1) && tells(TEXT("trace"), -TRACECTL_BAD_VALUE)
-        && tells(TEXT("instances/a/trace_pipe"), -18) && is_done("take", taken) && tells(TEXT("trace_pipe"), 0) && is_done("read", read_hist) && is_done("files", listed);
+        && tells(TEXT("instances/a/trace_pipe"), -18) && is_done("take", taken) && tells(TEXT("per_cpu/cpu1/trace_pipe"), 0) && is_done("read", read_hist) && is_done("files", listed);
     printf("entries: %llu\n", (unsigned long long)tracectl_entries(&tracer));
     return tracectl_close(&tracer) || !done;
 }

@@ -1,6 +1,8 @@
-"""The library for C and Python: its examples, and scripts of tests/rows done by it line by line, with the list of files after them."""
+"""The library for C and Python: its examples, and scripts of tests/rows done by it line by line, with the list of files after them; also with the
+emissions by values in which each pair gives the field in its place its value."""
 import atexit
 import os
+import re
 import shutil
 import subprocess
 import sys
@@ -30,7 +32,7 @@ def built():
     atexit.register(shutil.rmtree, str(folder))
     subprocess.run([str(TOP / "examples" / "c" / "build"), str(folder)], check=True)
     heap = Path(subprocess.run(["rt", "doc"], stdout=subprocess.PIPE, check=True).stdout.decode().strip()).parent / "c" / "liblibc_c.a"
-    for name, words in (("memory", ["-Wl,--wrap=malloc,--wrap=realloc"]), ("limits", [])):
+    for name, words in (("memory", ["-Wl,--wrap=malloc,--wrap=realloc"]), ("limits", []), ("values", [])):
         words += ["-I", LIBRARY.parent.parent, "-o", folder / name, CALLING / (name + ".c"), folder / "libtracectl_c.a", heap]
         subprocess.run([os.environ.get("CC", "cc")] + [str(word) for word in words], check=True)
     return folder
@@ -48,15 +50,41 @@ def is_plain(script):
     return settings_of(words_of(script)) is not None and b"parallel" not in script.read_bytes() and wanted(script).status == 0
 
 
-def by_lines(tracer_of, script):
-    """What a script's lines reply, one after another, and which files are listed after them."""
+def fields_of(tracer, event):
+    """The names of an event's fields, which its format shows after that of the process."""
+    lines = tracer.read("events/synthetic/%s/format" % event).split(b"\n")
+    declared = [line[len(b"\tfield:") :].split(b";")[0] for line in lines if line.startswith(b"\tfield:")]
+    return [words.split()[-1].split(b"[")[0] for words in declared[1:]]
+
+
+def value_of(text):
+    """A value that a script writes: a number where that has this text, or bytes."""
+    return int(text) if re.fullmatch(rb"0|-?[1-9][0-9]*", text) else text
+
+
+def emit_by_values(tracer, line):
+    """Does a line by values, if it is an emission without quotes whose pairs name all fields in order of declaration. Has whether it is."""
+    words = line.split()
+    if words[:1] != [b"emit"] or any(quote in line for quote in b"'\""):
+        return False
+    cpu, process, event = int(words[1]), int(words[2]), words[3].decode()
+    pairs = [word.partition(b"=") for word in words[4:]]
+    if [name for name, _, _ in pairs] != fields_of(tracer, event):
+        return False
+    tracer.emit_values(tracer.number_of(event), *[value_of(text) for _, _, text in pairs], cpu=cpu, process=process)
+    return True
+
+
+def by_lines(tracer_of, script, does_another_way):
+    """What a script's lines reply, one after another, and which files are listed after them. A line may be done another way, which has no reply."""
     with tracer_of(**settings_of(words_of(script))) as tracer:
-        return b"".join(tracer.line(line) for line in script.read_bytes().split(b"\n")), tracer.files()
+        lines = script.read_bytes().split(b"\n")
+        return b"".join(b"" if does_another_way(tracer, line) else tracer.line(line) for line in lines), tracer.files()
 
 
-def called(program, tracer_of, script):
+def called(program, tracer_of, script, does_another_way=lambda tracer, line: False):
     """That calls reply to a script's lines as the program does, and list the files that it lists."""
-    replies, files = by_lines(tracer_of, script)
+    replies, files = by_lines(tracer_of, script, does_another_way)
     listed = run([program, "--list"] + words_of(script), script=script.read_bytes()).stdout
     return text_differences("replies", replies, wanted(script).stdout) + text_differences("replies and the list", replies + files, listed)
 
@@ -81,9 +109,14 @@ def calling_cases():
     def script_case(script):
         return Case("by calls: " + script.name, lambda program: called(program, tracer_of, script))
 
+    def values_case(script):
+        return Case("by values: " + script.name, lambda program: called(program, tracer_of, script, emit_by_values))
+
+    scripts = [script for script in scripts_of(TOP / "tests" / "rows") if is_plain(script)]
     return [
         example_case("examples/c/million.c", [folder / "million"], folder, TOP / "examples" / "c" / "million.stdout"),
         example_case("tests/calling/memory.c", [folder / "memory"], folder, CALLING / "memory.stdout"),
         example_case("tests/calling/limits.c", [folder / "limits"], folder, CALLING / "limits.stdout"),
+        example_case("tests/calling/values.c", [folder / "values"], folder, CALLING / "values.stdout"),
         example_case("examples/python/ticks.py", [sys.executable, PYTHON / "ticks.py"], folder, PYTHON / "ticks.stdout"),
-    ] + [script_case(script) for script in scripts_of(TOP / "tests" / "rows") if is_plain(script)]
+    ] + list(map(script_case, scripts)) + [values_case(script) for script in scripts if b"\nemit " in script.read_bytes()]

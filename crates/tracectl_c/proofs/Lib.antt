@@ -1,3 +1,4 @@
 pub mod AsBox
 pub mod HandleLemmas
 pub mod ReplyLemmas
+pub mod ValueLemmas

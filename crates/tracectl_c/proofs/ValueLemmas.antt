@@ -1,5 +1,5 @@
 -- Values that C gives, read one by one.
-use Rattle.std.proofs.Common.{◌≡◌, ℕ, ◌+◌, ◌<◌, ◌≤◌, List, [], ◌∷◌, ◌++◌, length, get_or, drop, Option, Some, None, refl, ap, sym, ◌∙◌, append_assoc}
+use Rattle.std.proofs.Common.{◌≡◌, ℕ, ◌+◌, ◌<◌, ◌≤◌, List, [], ◌∷◌, ◌++◌, length, get_or, drop, Option, Some, None, refl, ap, sym, ◌∙◌, append_assoc, arith}
 use Rattle.std.specs.Option.{option_and_then, option_map}
 use Rattle.std.proofs.lemmas.List.{append-nil, drop_all, drop_more}
 use Rattle.trace_format.specs.declared.field_value.FieldValue.{FieldValue}
@@ -50,3 +50,9 @@ one_read value given some = ap (λ (o : Option FieldValue). option_and_then (λ 
 pub none_in_one : (value : Value) → value_in value ≡ None → values_in (value ∷ []) ≡ None
 unfolding values_in
 none_in_one value none = ap (λ (o : Option FieldValue). option_and_then (λ given. option_map (λ more. given ∷ more) (Some [])) o) none
+
+-- a list of a lone value
+pub lone_read : (values : List Value) (other : Value) → 1 ≤ length values → length values < 2 → values_in (get_or values 0 other ∷ []) ≡ values_in values
+lone_read [] other some one = absurd (omega (arith, some))
+lone_read (value ∷ []) other some one = refl
+lone_read (value ∷ next ∷ rest) other some one = absurd (omega (arith, one))

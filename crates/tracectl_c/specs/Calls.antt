@@ -4,11 +4,14 @@ use Rattle.trace_command.specs.Paths.{address_of}
 use Rattle.trace_command.specs.Refusals.{number_of}
 use Rattle.trace_command.specs.declared.command.Config.{Config}
 use Rattle.trace_command.specs.declared.refusal.Refusal.{Refusal}
+use Rattle.trace_command.specs.declared.refusal.Refusal.TheVariants.{BadValue}
+use Rattle.trace_format.specs.declared.field_value.FieldValue.{FieldValue}
 use Rattle.trace_history.specs.Waiting.{waiting}
 use Rattle.trace_live.specs.Lives.{most_done}
-use Rattle.trace_console.specs.Consoles.{Asked, ComesTo, StandsFor}
+use Rattle.trace_console.specs.Consoles.{Asked, ComesTo, StandsFor, after_values, with_last}
 use Rattle.trace_console.specs.ConsolesSeen.{ConsoleSeen}
 use Rattle.trace_console.specs.Statuses.{offset_in, reply_in, status_of}
+use Rattle.trace_script.specs.declared.outcome.Outcome.TheVariants.{Refused}
 use Rattle.tracectl_c.specs.declared.Settings.{Settings}
 
 -- ---- settings
@@ -33,6 +36,11 @@ abbrev pub Does : (Asked → Asked) → Option ConsoleSeen → Option ConsoleSee
 Does expected None after status = (status ≡ 200) × (after ≡ None)
 Does expected (Some before) None status = ⊥
 Does expected (Some before) (Some after) status = (status ≡ status_of after.last) × ComesTo expected before after
+
+-- an emission of the values that are given; one of an unknown kind is refused, and nothing is asked
+abbrev pub after_given : ℕ → ℕ → ℤ → Option (List FieldValue) → Asked → Asked
+after_given event cpu process None before = with_last (Refused BadValue) before
+after_given event cpu process (Some values) before = after_values event cpu process values before
 
 -- ---- looks
 

@@ -1,3 +1,4 @@
 pub mod Calls
+pub mod GivenValues
 pub mod Handles
 pub mod Owned

@@ -1,25 +1,30 @@
 //! tracectl for C: a static library whose exports are the calls of a console. `tracectl.h` declares them and says what C must uphold.
 #![tactic(auto)]
 
-ghost use Rattle.std.specs.Prelude.{◌≡◌, ◌≢◌, ◌≤◌, None, Some, false, true, length, min, take, drop, ◌++◌, IfSome};
+ghost use Rattle.std.specs.Prelude.{◌≡◌, ◌≢◌, ◌≤◌, None, Some, false, true, [], ◌∷◌, length, min, take, drop, ◌++◌, IfSome};
 ghost use Rattle.trace_command.specs.Configs.{IsInRange};
 ghost use Rattle.trace_command.specs.declared.command.Command.{Command as CommandValue};
 ghost use Rattle.trace_command.specs.declared.command.Command.TheVariants as commands;
 ghost use Rattle.trace_live.specs.Lives.{most_done};
-ghost use Rattle.trace_console.specs.Consoles.{StandsFor, after_command, after_emission, after_line, after_listing, opened};
+ghost use Rattle.trace_console.specs.Consoles.{ComesTo, StandsFor, after_command, after_emission, after_line, after_listing, opened};
+ghost use Rattle.trace_console.specs.Statuses.{status_of};
+ghost use Rattle.tracectl_c.specs.GivenValues.{values_in};
 ghost use Rattle.tracectl_c.specs.Handles.{console_of};
-ghost use Rattle.tracectl_c.specs.Calls.{Does, WasAsked, TellsDone, TellsWaiting, config_of, limit_of, offset_read, reply_read, waiting_number};
+ghost use Rattle.tracectl_c.specs.Calls.{Does, WasAsked, TellsDone, TellsWaiting, after_given, config_of, limit_of, offset_read, reply_read, waiting_number};
 
 mod handle;
 mod opening;
 mod parts;
 mod sealed;
+mod value;
 
 use handle::Handle;
-use std::alloc::Global;
+use std::alloc::{AllocError, Global};
+use std::slice;
 use trace_command::{Config, Refusal};
 use trace_console::Console;
 use trace_live::MOST_DONE;
+use value::{Value, value_in, values_in};
 
 /// The status of a call whose handle is not open.
 const NOT_OPEN: u32 = 200;
@@ -125,6 +130,76 @@ pub extern "C" fn tracectl_emit(
         return NOT_OPEN;
     };
     let status = console.emit(event, cpu, process, fields);
+    handle.keep(console);
+    status
+}
+
+/// Asks a console for an emission of a lone value, for which no list is allocated.
+fn emit_one(console: &mut Console, event: u32, cpu: u32, process: i32, value: &Value<'_>) -> u32
+    ensures done { ComesTo (after_given event cpu process (values_in (value.now ∷ []))) console.old console.new }
+    ensures status { result ≡ status_of console.new.last }
+{
+    match value_in(value) {
+        Some(value) => console.emit_values(event, cpu, process, slice::from_ref(&value)),
+        None => console.refuse(Refusal::BadValue),
+    }
+}
+
+/// Asks a console for an emission of the values of a list.
+#[cold]
+#[inline(never)]
+fn emit_list(
+    console: &mut Console,
+    alloc: Global,
+    event: u32,
+    cpu: u32,
+    process: i32,
+    values: &[Value<'_>],
+) -> u32
+    ensures done { ComesTo (after_given event cpu process (values_in values.now)) console.old console.new }
+    ensures status { result ≡ status_of console.new.last }
+{
+    match values_in(alloc, values) {
+        Ok(Some(values)) => console.emit_values(event, cpu, process, &values),
+        Ok(None) => console.refuse(Refusal::BadValue),
+        Err(AllocError) => console.refuse(Refusal::Memory),
+    }
+}
+
+/// Asks a console for an emission of the values that are given.
+fn emit_given(
+    console: &mut Console,
+    alloc: Global,
+    event: u32,
+    cpu: u32,
+    process: i32,
+    values: &[Value<'_>],
+) -> u32
+    ensures done { ComesTo (after_given event cpu process (values_in values.now)) console.old console.new }
+    ensures status { result ≡ status_of console.new.last }
+{
+    match values {
+        [value] => emit_one(console, event, cpu, process, value),
+        _ => emit_list(console, alloc, event, cpu, process, values),
+    }
+}
+
+/// Does an emission of the event of this number, from 1 in order of declaration. The values are those of its fields, in order of declaration.
+#[unsafe(no_mangle)]
+pub extern "C" fn tracectl_emit_values(
+    alloc: Global,
+    handle: &mut Handle,
+    event: u32,
+    cpu: u32,
+    process: i32,
+    values: &[Value<'_>],
+) -> u32
+    ensures { Does (after_given event cpu process (values_in values.now)) (console_of handle.old) (console_of handle.new) result }
+{
+    let Some(mut console) = handle.take(alloc) else {
+        return NOT_OPEN;
+    };
+    let status = emit_given(&mut console, alloc, event, cpu, process, values);
     handle.keep(console);
     status
 }

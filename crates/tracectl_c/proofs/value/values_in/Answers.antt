@@ -11,7 +11,7 @@ pub loop-value-preserved : goal.loop-value-preserved
 loop-value-preserved c = (
   omega (arith, c.loop-value.invariant.0, c.loop-value-test.true, c.push_reserved.ensures.len, c.push_reserved.ensures.capacity),
   rw c.push_reserved.ensures.items (value_read c.args.values.now c.loop-value.value-index c.loop-value.list.items c.loop-value.invariant.1 _ c.value_in.result
-  c.loop-value-test.true c.value_in.ensures c.in-Some.given c.in-Some.is),
+      c.loop-value-test.true c.value_in.ensures c.in-Some.given c.in-Some.is),
 )
 
 pub returns : goal.returns
