@@ -8,7 +8,7 @@ from cases.running import TOP, Case, Outcome, differences, run
 from cases.words import named
 
 CHECKED = "echo \"%s $* RT_JOBS=$RT_JOBS $TRACECTL_PROGRAM\"\necho '%d passed, %d failed'\nexit %d"
-CRATES = "tracectl tracectl_mount trace_lex trace_hist trace_text trace_book trace_snapshot ticket_lock fuse_wire fuse_serve mount_tree trace_explain trace_list trace_items trace_parts trace_words trace_log".split()
+CRATES = "tracectl tracectl_mount trace_lex trace_hist trace_text trace_book trace_snapshot ticket_lock fuse_wire fuse_serve mount_tree trace_explain file_list script_reader thread_output command_line trace_log".split()
 CHECK_USAGE = b"usage: ./check [--quick | --planted [CRATE..] | --help]\n"
 
 

@@ -14,7 +14,7 @@ use Rattle.trace_trigger.specs.declared.spec.Action.{Action}
 use Rattle.trace_trigger.specs.declared.spec.Action.TheVariants.{Attach as AttachIt, Pause, Continue, Clear}
 use Rattle.trace_trigger.specs.declared.trigger.TriggerText.{TriggerText}
 use Rattle.trace_trigger.specs.declared.trigger.TriggerText.TheVariants.{Nothing, Attach, Remove, Hist, RemoveHist}
-use Rattle.trace_entries.specs.Hits.{Hit}
+use Rattle.hist_entries.specs.Hits.{Hit}
 use Rattle.trace_hist.specs.Groups.{grouped}
 use Rattle.trace_text.specs.BufferText.{trace_text, pipe_text}
 use Rattle.trace_text.specs.HistText.{hist_text}

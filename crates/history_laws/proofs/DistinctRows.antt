@@ -7,9 +7,9 @@ use Rattle.std.proofs.lemmas.List.{length-map, length-take}
 use Rattle.std.proofs.lemmas.List.Elements.{filter-append}
 use Rattle.std.proofs.lemmas.List.Filters.{length-filter_both}
 use Rattle.trace_format.specs.Cells.{Datum}
-use Rattle.trace_entries.specs.Hits.{Hit}
-use Rattle.trace_entries.specs.HistEntries.{Entry, same_key, is_among}
-use Rattle.trace_entries.proofs.Keys.{key-refl}
+use Rattle.hist_entries.specs.Hits.{Hit}
+use Rattle.hist_entries.specs.HistEntries.{Entry, same_key, is_among}
+use Rattle.hist_entries.proofs.Keys.{key-refl}
 use Rattle.trace_hist.specs.Groups.{distinct, keys_of, admitted, entry_of}
 use Rattle.trace_hist.proofs.DistinctKeys.{is_among-distinct}
 use Rattle.trace_hist.proofs.GroupLaws.{entry_keys-of}

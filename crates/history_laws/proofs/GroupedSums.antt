@@ -5,10 +5,10 @@ use Rattle.std.proofs.Math.IntN.{+ℤ_idl, +ℤ_idr, +ℤ_assoc, +ℤ_comm}
 use Rattle.std.proofs.lemmas.Bool.{cond-true, cond-false, cases_Bool}
 use Rattle.std.proofs.lemmas.List.Sums.{sum_by-cons}
 use Rattle.trace_format.specs.Cells.{Datum}
-use Rattle.trace_entries.specs.Hits.{Hit}
-use Rattle.trace_entries.specs.HistEntries.{Entry, same_key, is_among, added}
-use Rattle.trace_entries.specs.PrintOrder.{sum_at}
-use Rattle.trace_entries.proofs.Keys.{key_decided, key-refl, not_same}
+use Rattle.hist_entries.specs.Hits.{Hit}
+use Rattle.hist_entries.specs.HistEntries.{Entry, same_key, is_among, added}
+use Rattle.hist_entries.specs.PrintOrder.{sum_at}
+use Rattle.hist_entries.proofs.Keys.{key_decided, key-refl, not_same}
 use Rattle.trace_hist.specs.Groups.{admitted, with_key, summed, entry_of}
 use Rattle.trace_hist.proofs.GroupLaws.{entry_keys-of}
 use Rattle.history_laws.specs.GroupedRows.{total, total_of, HitcountsAreHits, SumsAreOfTheirRows, SumsAreOfCountedRows}

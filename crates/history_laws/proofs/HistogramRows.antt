@@ -1,8 +1,8 @@
 -- The rows of a table, while requests come.
 use Rattle.std.proofs.Common.{◌≡◌, ℕ, Bool, false, if◌then◌else◌, List, [], ◌∷◌, ◌++◌, length, take, Option, sym, ap, ◌∙◌}
 use Rattle.std.proofs.lemmas.List.{append-nil, append_assoc}
-use Rattle.trace_entries.specs.Hits.{Hit}
-use Rattle.trace_entries.specs.RowPlaces.{entry_keys}
+use Rattle.hist_entries.specs.Hits.{Hit}
+use Rattle.hist_entries.specs.RowPlaces.{entry_keys}
 use Rattle.trace_hist.specs.Groups.{group, grouped}
 use Rattle.trace_command.specs.Requests.{Request}
 use Rattle.trace_history.specs.Emissions.{emitted}

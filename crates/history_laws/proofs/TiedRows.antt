@@ -9,12 +9,12 @@ use Rattle.std.proofs.lemmas.Bool.{cond-true, cond-false, cases_Bool}
 use Rattle.std.proofs.lemmas.List.Sorted.{All-permutation}
 use Rattle.trace_format.specs.Cells.{Datum}
 use Rattle.trace_trigger.specs.declared.sort_rule.SortRule.{SortRule}
-use Rattle.trace_entries.specs.Hits.{Hit}
-use Rattle.trace_entries.specs.HistEntries.{Entry, same_key}
-use Rattle.trace_entries.specs.PrintOrder.{entry_cmp, comes_before, printed}
-use Rattle.trace_entries.proofs.Keys.{key-refl, not_same}
-use Rattle.trace_entries.proofs.Printing.{entry_cmp_total}
-use Rattle.trace_entries.proofs.PrintLaws.{printed_is_in_print_order}
+use Rattle.hist_entries.specs.Hits.{Hit}
+use Rattle.hist_entries.specs.HistEntries.{Entry, same_key}
+use Rattle.hist_entries.specs.PrintOrder.{entry_cmp, comes_before, printed}
+use Rattle.hist_entries.proofs.Keys.{key-refl, not_same}
+use Rattle.hist_entries.proofs.Printing.{entry_cmp_total}
+use Rattle.hist_entries.proofs.PrintLaws.{printed_is_in_print_order}
 use Rattle.trace_hist.specs.Groups.{distinct, keys_of, admitted, entry_of, group}
 use Rattle.history_laws.specs.GroupedRows.{rows_before, TiesAreByFirstRow}
 use Rattle.history_laws.proofs.DistinctRows.{all-filter, all-take, filter-passes}

@@ -3,10 +3,10 @@ use Rattle.std.specs.Prelude.{◌≡◌, ℕ, suc, ◌+◌, ◌<◌, ◌≤◌, 
 use Rattle.std.specs.declared.cmp.Ordering.TheVariants.{Equal}
 use Rattle.trace_format.specs.Cells.{Datum}
 use Rattle.trace_trigger.specs.declared.sort_rule.SortRule.{SortRule}
-use Rattle.trace_entries.specs.Hits.{Hit}
-use Rattle.trace_entries.specs.HistEntries.{Entry, same_key, is_among}
-use Rattle.trace_entries.specs.PrintOrder.{entry_cmp, printed, sum_at}
-use Rattle.trace_entries.specs.RowPlaces.{entry_keys}
+use Rattle.hist_entries.specs.Hits.{Hit}
+use Rattle.hist_entries.specs.HistEntries.{Entry, same_key, is_among}
+use Rattle.hist_entries.specs.PrintOrder.{entry_cmp, printed, sum_at}
+use Rattle.hist_entries.specs.RowPlaces.{entry_keys}
 use Rattle.trace_hist.specs.Groups.{group, with_key}
 
 -- ---- counts

@@ -2,10 +2,10 @@
 use Rattle.std.specs.Prelude.{◌≡◌, ℕ, ◌+◌, ◌<◌, ◌≤◌, false, List, ◌++◌, length, map, sum_by, take, Option}
 use Rattle.std.specs.List.{AllPairs}
 use Rattle.std.specs.declared.cmp.Ordering.TheVariants.{Equal}
-use Rattle.trace_entries.specs.HistEntries.{Entry}
-use Rattle.trace_entries.specs.Hits.{Hit}
-use Rattle.trace_entries.specs.PrintOrder.{entry_cmp, printed, sum_at}
-use Rattle.trace_entries.specs.RowPlaces.{entry_keys}
+use Rattle.hist_entries.specs.HistEntries.{Entry}
+use Rattle.hist_entries.specs.Hits.{Hit}
+use Rattle.hist_entries.specs.PrintOrder.{entry_cmp, printed, sum_at}
+use Rattle.hist_entries.specs.RowPlaces.{entry_keys}
 use Rattle.trace_hist.specs.Groups.{with_key}
 use Rattle.trace_command.specs.Requests.{Request}
 use Rattle.trace_history.specs.HistTriggers.{HistTrigger, asked_by, empties, hits_of, table_of}

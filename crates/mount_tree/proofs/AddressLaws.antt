@@ -15,8 +15,8 @@ use Rattle.trace_command.specs.declared.file_name.EventFile.TheVariants as per_e
 use Rattle.trace_command.specs.declared.file_name.TopFile.{TopFile}
 use Rattle.trace_command.specs.declared.file_name.TopFile.TheVariants as top
 use Rattle.trace_lex.specs.Names.{is_letter, is_name, is_name_byte}
-use Rattle.trace_list.specs.Files.{cpu_folder, event_folder}
-use Rattle.trace_list.specs.Listings.{instance_folder}
+use Rattle.file_list.specs.Files.{cpu_folder, event_folder}
+use Rattle.file_list.specs.Listings.{instance_folder}
 use Rattle.mount_tree.specs.Children.{cpu_name, file_is_there, is_there}
 use Rattle.mount_tree.specs.NodePaths.{address_meant, file_meant, folder_path, path_of}
 use Rattle.mount_tree.specs.Scenes.{SceneSeen, event_at, event_name, instance_at}

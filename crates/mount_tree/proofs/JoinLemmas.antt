@@ -2,8 +2,8 @@
 use Rattle.std.proofs.Common.{◌≡◌, ℕ, zero, suc, eqb, Bool, true, false, ◌&&◌, cond, List, [], ◌∷◌, ◌++◌, map, Some, codes, refl, sym, ap, subst, ◌∙◌, append_assoc, append-nil}
 use Rattle.std.specs.List.{AllByRecursion, find}
 use Rattle.std.proofs.lemmas.Bool.{eq-eqb, false≢true}
-use Rattle.trace_list.specs.Files.{cpu_folder, event_folder}
-use Rattle.trace_list.specs.Listings.{instance_folder}
+use Rattle.file_list.specs.Files.{cpu_folder, event_folder}
+use Rattle.file_list.specs.Listings.{instance_folder}
 use Rattle.mount_tree.specs.Children.{Child, children, cpu_child, cpu_children, cpu_name, event_child, fixed_children, instance_child, is_there, made_children, node_named, owner_is_there}
 use Rattle.mount_tree.specs.NodePaths.{owner_path, path_of}
 use Rattle.mount_tree.specs.Scenes.{SceneSeen}

@@ -1,8 +1,8 @@
 -- The examples, computed.
 use Rattle.std.proofs.Common.{refl}
 use Rattle.std.specs.Fmt.{digits}
-use Rattle.trace_list.specs.Files.{cpu_folder, event_folder}
-use Rattle.trace_list.specs.Listings.{instance_folder}
+use Rattle.file_list.specs.Files.{cpu_folder, event_folder}
+use Rattle.file_list.specs.Listings.{instance_folder}
 use Rattle.mount_tree.specs.Children.{cpu_name}
 use Rattle.mount_tree.specs.Nodes.{number_of}
 use Rattle.mount_tree.specs.TreeExamples.{ListsOfFolders, LookUps, NumbersAndPaths, SecondOfItsName}

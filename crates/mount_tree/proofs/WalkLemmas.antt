@@ -3,10 +3,10 @@ use Rattle.std.proofs.Common.{◌≡◌, ℕ, zero, suc, ◌≤◌, eqb, true, �
 use Rattle.std.proofs.lemmas.Grind.{flat_map-append}
 use Rattle.std.specs.List.{AllByRecursion, flat_map}
 use Rattle.std.proofs.lemmas.Bool.{and_from, eq-eqb, lt-ltb}
-use Rattle.trace_list.specs.Files.{cpu_folder, declarations_file, event_folder, files_of_all_events, files_of_cpu, files_of_cpus, files_of_event, files_of_instance, own_files}
-use Rattle.trace_list.specs.declared.access.Access.{Access}
-use Rattle.trace_list.specs.declared.access.Access.TheVariants.{Read, Write, Both}
-use Rattle.trace_list.specs.Listings.{instance_folder, line_of, line_of_file, lines_in, listing}
+use Rattle.file_list.specs.Files.{cpu_folder, declarations_file, event_folder, files_of_all_events, files_of_cpu, files_of_cpus, files_of_event, files_of_instance, own_files}
+use Rattle.file_list.specs.declared.access.Access.{Access}
+use Rattle.file_list.specs.declared.access.Access.TheVariants.{Read, Write, Both}
+use Rattle.file_list.specs.Listings.{instance_folder, line_of, line_of_file, lines_in, listing}
 use Rattle.mount_tree.specs.Children.{Child, cpu_child, cpu_children, event_child, fixed_children, folder_child, instance_child, is_there, last_children, made_children, own_children, owner_is_there}
 use Rattle.mount_tree.specs.NodePaths.{owner_path}
 use Rattle.mount_tree.specs.Nodes as numbers
@@ -177,7 +177,7 @@ own_lines scene owner depth sound o =
     let per_cpu_files = per_cpu_lines scene owner (suc depth) o in
     rw (snapshot, tracing_on, trace, pipe, options, trace_options, events, per_cpu_files) (simp (append_assoc, append-nil))
 
--- the same parts by trace_list
+-- the same parts by file_list
 listed_parts : (scene : SceneSeen) (owner : Owner)
     → lines_in (files_of_instance scene.cpus (scene_names scene).events) (owner_path scene owner) ≡ parted scene (owner_path scene owner) (lines_of_events scene owner)
 listed_parts scene owner =

@@ -1,9 +1,9 @@
 -- How the files of a mounted tracer can be used, as docs/FILES.md says.
 use Rattle.trace_command.specs.declared.file_name.CpuFile.TheVariants as per_cpu
 use Rattle.trace_command.specs.declared.file_name.TopFile.TheVariants as top
-use Rattle.trace_list.specs.Files.{cpu_access, event_access, top_access}
-use Rattle.trace_list.specs.declared.access.Access.{Access}
-use Rattle.trace_list.specs.declared.access.Access.TheVariants as access
+use Rattle.file_list.specs.Files.{cpu_access, event_access, top_access}
+use Rattle.file_list.specs.declared.access.Access.{Access}
+use Rattle.file_list.specs.declared.access.Access.TheVariants as access
 use Rattle.mount_tree.specs.declared.file.File.{File}
 use Rattle.mount_tree.specs.declared.file.File.TheVariants.{SyntheticEvents, OfInstance, SystemEnable, OfCpu, OfEvent, Inject, Tool, OfTop, CpuSize, EventId, ErrorLog}
 use Rattle.mount_tree.specs.declared.file.FileKind.{FileKind}

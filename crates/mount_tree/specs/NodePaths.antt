@@ -3,8 +3,8 @@ use Rattle.std.specs.Prelude.{ℕ, List, [], ◌++◌, Option, Some, None, unwra
 use Rattle.std.specs.Option.{option_map}
 use Rattle.trace_command.specs.Paths as paths
 use Rattle.trace_command.specs.declared.file_name.TopFile.TheVariants as top
-use Rattle.trace_list.specs.Files.{cpu_folder, event_folder}
-use Rattle.trace_list.specs.Listings.{instance_folder}
+use Rattle.file_list.specs.Files.{cpu_folder, event_folder}
+use Rattle.file_list.specs.Listings.{instance_folder}
 use Rattle.mount_tree.specs.Scenes.{SceneSeen, event_name, instance_name}
 use Rattle.mount_tree.specs.TreeNames.{file_name, file_parent}
 use Rattle.mount_tree.specs.declared.file.File.{File}

@@ -1,8 +1,8 @@
 -- A walk through a mounted tracer, and the lines that `tracectl --list` prints of it.
 use Rattle.std.specs.Prelude.{◌≡◌, ℕ, zero, suc, List, [], map}
 use Rattle.std.specs.List.{flat_map}
-use Rattle.trace_list.specs.Listings.{line_of, listing}
-use Rattle.trace_list.specs.Names.{NamesSeen}
+use Rattle.file_list.specs.Listings.{line_of, listing}
+use Rattle.file_list.specs.Names.{NamesSeen}
 use Rattle.mount_tree.specs.Children.{Child, children}
 use Rattle.mount_tree.specs.FileKinds.{access_of_file}
 use Rattle.mount_tree.specs.NodePaths.{path_of}

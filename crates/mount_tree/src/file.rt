@@ -7,8 +7,8 @@ ghost use Rattle.mount_tree.specs.TreeNames.{cpu_file_name, event_file_name, fil
 
 use crate::folder::Folder;
 use crate::tool::{ToolFile, TopTool};
+use file_list::{Access, cpu_access, event_access, top_access};
 use trace_command::{CpuFile, EventFile, TopFile};
-use trace_list::{Access, cpu_access, event_access, top_access};
 
 /// A file of an instance.
 #[derive(Clone, Copy)]

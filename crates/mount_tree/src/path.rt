@@ -3,8 +3,8 @@
 ghost use Rattle.std.specs.Prelude.{◌≡◌, ◌++◌, OnOk, codes};
 ghost use Rattle.std.specs.Option.{option_map};
 ghost use Rattle.trace_command.specs.FileNames.{bytes_now};
-ghost use Rattle.trace_list.specs.Files.{cpu_folder, event_folder};
-ghost use Rattle.trace_list.specs.Listings.{instance_folder};
+ghost use Rattle.file_list.specs.Files.{cpu_folder, event_folder};
+ghost use Rattle.file_list.specs.Listings.{instance_folder};
 ghost use Rattle.mount_tree.specs.NodePaths.{folder_path, owner_path, path_of};
 
 use crate::file::File;
@@ -25,7 +25,7 @@ fn push_folder(out: &mut Vec<u8>, before: &[u8], name: &[u8]) -> Result<(), Allo
 }
 
 // Appends the folder of a CPU in its instance.
-#[tactic(auto, unfolding(trace_list::specs::Files::cpu_folder))]
+#[tactic(auto, unfolding(file_list::specs::Files::cpu_folder))]
 fn push_cpu(out: &mut Vec<u8>, cpu: u8) -> Result<(), AllocError>
     ensures { OnOk result (out.new.items ≡ out.old.items ++ cpu_folder cpu) }
 {
@@ -39,7 +39,7 @@ fn push_cpu(out: &mut Vec<u8>, cpu: u8) -> Result<(), AllocError>
 
 impl Scene {
     // Appends the path of an instance's own folder.
-    #[tactic(auto, unfolding(trace_list::specs::Listings::instance_folder))]
+    #[tactic(auto, unfolding(file_list::specs::Listings::instance_folder))]
     fn push_owner(&self, out: &mut Vec<u8>, owner: Owner) -> Result<(), AllocError>
         ensures { OnOk result (out.new.items ≡ out.old.items ++ owner_path self.now owner) }
     {
@@ -69,7 +69,7 @@ impl Scene {
     }
 
     // Appends the folder of an event in its instance.
-    #[tactic(auto, unfolding(trace_list::specs::Files::event_folder))]
+    #[tactic(auto, unfolding(file_list::specs::Files::event_folder))]
     fn push_event(&self, out: &mut Vec<u8>, event: u8) -> Result<(), AllocError>
         ensures { OnOk result (out.new.items ≡ out.old.items ++ folder_path self.now (Folder.Event event)) }
     {

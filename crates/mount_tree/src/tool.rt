@@ -5,7 +5,7 @@ ghost use Rattle.mount_tree.specs.FileKinds.{tool_access, top_tool_access};
 ghost use Rattle.mount_tree.specs.Nodes.{tool_place, top_tool_place};
 ghost use Rattle.mount_tree.specs.TreeNames.{tool_file_name, top_tool_name};
 
-use trace_list::Access;
+use file_list::Access;
 
 /// A file of each instance that tools ask for, in the instance's own folder.
 #[derive(Clone, Copy)]

@@ -9,10 +9,10 @@ use Rattle.std.proofs.lemmas.List.Sums.{count_by-le-length}
 use Rattle.trace_lex.specs.Decimals.{decimal_number}
 use Rattle.trace_command.specs.Requests.{request_of, FitsItsTypes}
 use Rattle.trace_command.specs.declared.command.Command.{Command}
-use Rattle.trace_items.specs.Items.{Item, Single, Threads, Faulty, first_fault, own_with, own_commands, threads_with, threads_of, is_end, part_with, part_of, before_end, begun, taken_at, item_at, items_from, items_of}
-use Rattle.trace_items.specs.ScriptLines.{lines_of}
-use Rattle.trace_items.specs.declared.part.FaultAt.{FaultAt}
-use Rattle.trace_items.specs.declared.part.Numbered.{Numbered}
+use Rattle.script_reader.specs.Items.{Item, Single, Threads, Faulty, first_fault, own_with, own_commands, threads_with, threads_of, is_end, part_with, part_of, before_end, begun, taken_at, item_at, items_from, items_of}
+use Rattle.script_reader.specs.ScriptLines.{lines_of}
+use Rattle.script_reader.specs.declared.part.FaultAt.{FaultAt}
+use Rattle.script_reader.specs.declared.part.Numbered.{Numbered}
 use Rattle.trace_script.proofs.LineLaws.{line_asks}
 use Rattle.trace_script.proofs.NumberLemmas.{found_le}
 use Rattle.trace_script.specs.Commands.{IsCommandOf, AnEmit, AnEcho, ACat, ATake, AMkdir, ARmdir, IsAskedBy, ACommand, AParallel, AThread, AnEnd, AsksFor, Nothing, Something}

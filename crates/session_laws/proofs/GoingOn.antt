@@ -6,8 +6,8 @@ use Rattle.trace_command.specs.Configs.{IsInRange}
 use Rattle.trace_command.specs.declared.command.Config.{Config}
 use Rattle.trace_command.specs.declared.command.Entry.{Entry}
 use Rattle.trace_history.specs.History.{IsLegal}
-use Rattle.trace_items.specs.FewThreads.{HasFewThreads, PartsHaveFewThreads}
-use Rattle.trace_items.specs.Items.{Item, items_of}
+use Rattle.script_reader.specs.FewThreads.{HasFewThreads, PartsHaveFewThreads}
+use Rattle.script_reader.specs.Items.{Item, items_of}
 use Rattle.trace_session.proofs.Standing.{given_front}
 use Rattle.trace_session.specs.Fronts.{HasGiven}
 use Rattle.trace_session.specs.Parts.{Given, ends, EndsOr, MayGiveAll, session_with, IsSession, IsBegun}

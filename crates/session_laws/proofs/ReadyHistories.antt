@@ -11,7 +11,7 @@ use Rattle.trace_command.specs.declared.refusal.Refusal.{Refusal}
 use Rattle.trace_history.proofs.LegalEvents.{done-had_room}
 use Rattle.trace_history.specs.History.{IsLegal, answer_to, past_of}
 use Rattle.trace_session.specs.Sessions.{Progress, so_far}
-use Rattle.trace_state.proofs.Histories.{IsLegal-push, length-past_of, past_of-push}
+use Rattle.tracer_state.proofs.Histories.{IsLegal-push, length-past_of, past_of-push}
 
 -- Where so many items ran, no more tickets were drawn than these and the commands that were done.
 pub record IsReady (g : Config) (items : ℕ) (now : Progress) : Type 0 where

@@ -15,7 +15,7 @@ use Rattle.trace_history.specs.History.{IsEntry, IsLegal, IsLegalNewestFirst, an
 use Rattle.trace_history.specs.Trails.{IsTrail}
 use Rattle.trace_session.specs.Parts.{Given, PartMayGive}
 use Rattle.trace_session.specs.Sessions.{Progress, so_far}
-use Rattle.trace_items.specs.declared.part.Numbered.{Numbered}
+use Rattle.script_reader.specs.declared.part.Numbered.{Numbered}
 use Rattle.session_laws.proofs.ReadyHistories.{IsReady, Follows, entry_by, after_one, ready_after, same_push}
 
 abbrev Answer : Type 0

@@ -9,9 +9,9 @@ use Rattle.trace_command.specs.declared.command.Reply.{Reply}
 use Rattle.trace_command.specs.declared.refusal.Refusal.{Refusal}
 use Rattle.trace_history.specs.Blocks.{Trail}
 use Rattle.trace_history.specs.History.{IsLegal, answer, answer_to}
-use Rattle.trace_items.specs.FewThreads.{HasFewThreads}
-use Rattle.trace_items.specs.Items.{Item, Single, Threads, Faulty}
-use Rattle.trace_items.specs.declared.part.Numbered.{Numbered}
+use Rattle.script_reader.specs.FewThreads.{HasFewThreads}
+use Rattle.script_reader.specs.Items.{Item, Single, Threads, Faulty}
+use Rattle.script_reader.specs.declared.part.Numbered.{Numbered}
 use Rattle.trace_script.specs.Lines.{line_of}
 use Rattle.trace_script.specs.declared.fault.ScriptFault.{ScriptFault}
 use Rattle.trace_script.specs.declared.line.Line.{Line}

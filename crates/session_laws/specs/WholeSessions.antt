@@ -3,7 +3,7 @@
 use Rattle.std.specs.Prelude.{◌≡◌, ℕ, ◌<◌, ◌^◌, List, ◌++◌, map, length, take}
 use Rattle.trace_command.specs.Configs.{IsInRange}
 use Rattle.trace_command.specs.declared.command.Config.{Config}
-use Rattle.trace_items.specs.Items.{Item, items_of}
+use Rattle.script_reader.specs.Items.{Item, items_of}
 use Rattle.trace_session.specs.Fronts.{HasGiven}
 use Rattle.trace_session.specs.Parts.{Given, IsSession, IsBegun}
 use Rattle.trace_session.specs.Sessions.{Progress, Session, beginning}

@@ -6,7 +6,7 @@ ghost use Rattle.session_laws.specs.WholeSessions.{EachScriptHasASession, BegunS
 pub fn each_script_has_a_session()
     ensures { EachScriptHasASession }
 {
-    trace_items::laws::parts_have_few_threads();
+    script_reader::laws::parts_have_few_threads();
 }
 
 /// What a session wrote before memory ran out, or before a gate stopped it, is the beginning of what some lawful session of the script writes: nothing
@@ -15,5 +15,5 @@ pub fn begun_sessions_go_on()
     ensures begun { BegunSessionsGoOn }
     ensures stopped { StoppedSessionsGoOn }
 {
-    trace_items::laws::parts_have_few_threads();
+    script_reader::laws::parts_have_few_threads();
 }

@@ -9,7 +9,7 @@ use Rattle.trace_command.specs.declared.refusal.Refusal.{Refusal}
 use Rattle.trace_command.specs.declared.refusal.Refusal.TheVariants.{Memory}
 use Rattle.trace_history.specs.History.{answer, answer_with_room, past_of, IsEntry, IsLegal}
 use Rattle.trace_history.specs.LateMemory.{TakesMemoryLate}
-use Rattle.trace_state.proofs.Histories.{IsLegal-push, length-past_of}
+use Rattle.tracer_state.proofs.Histories.{IsLegal-push, length-past_of}
 use Rattle.trace_live.specs.Lives.{limited_answer}
 use Rattle.trace_live.proofs.BookAnswers.{book-answer}
 use Rattle.trace_live.proofs.Limits.{limited-done, limited-late}

@@ -4,23 +4,23 @@ use Rattle.std.specs.List.{AllByRecursion, IsDistinct}
 use Rattle.std.proofs.lemmas.Bool.{cond-true, cond-false, cases_Bool, lt-ltb, le-ltb, ltb-true, ltb-false}
 use Rattle.std.proofs.lemmas.List.{length-take-le, length-map}
 use Rattle.std.specs.Global.{Vec}
-use Rattle.trace_entries.specs.declared.key_cell.KeyCell.{KeyCell}
-use Rattle.trace_entries.specs.declared.tally.Tally.{Tally}
-use Rattle.trace_entries.specs.declared.next.Next.{Next}
-use Rattle.trace_entries.specs.declared.next.Next.TheVariants as nexts
+use Rattle.hist_entries.specs.declared.key_cell.KeyCell.{KeyCell}
+use Rattle.hist_entries.specs.declared.tally.Tally.{Tally}
+use Rattle.hist_entries.specs.declared.next.Next.{Next}
+use Rattle.hist_entries.specs.declared.next.Next.TheVariants as nexts
 use Rattle.trace_hist.specs.declared.counts.Counts.TheInside.{Inside}
 use Rattle.trace_format.specs.Cells.{Datum}
 use Rattle.trace_trigger.specs.HistSpecs.{SpecSeen}
-use Rattle.trace_entries.specs.Hits.{Hit}
-use Rattle.trace_entries.specs.HistEntries.{Entry, same_key, is_among}
-use Rattle.trace_entries.specs.RowPlaces.{Place, Unknown, In, Nowhere, entry_keys, IsPlaceOf}
+use Rattle.hist_entries.specs.Hits.{Hit}
+use Rattle.hist_entries.specs.HistEntries.{Entry, same_key, is_among}
+use Rattle.hist_entries.specs.RowPlaces.{Place, Unknown, In, Nowhere, entry_keys, IsPlaceOf}
 use Rattle.trace_hist.specs.Groups.{Table, group, grouped}
-use Rattle.trace_entries.specs.KeptEntries.{entry_in, entries_in, empty_entry, place_at, place_in, IsEnd, counted_once, counted_at}
+use Rattle.hist_entries.specs.KeptEntries.{entry_in, entries_in, empty_entry, place_at, place_in, IsEnd, counted_once, counted_at}
 use Rattle.trace_hist.specs.Stored.{seen, IsSound, Kept}
 use Rattle.trace_hist.specs.private.Steps.{bumped, first_entry, stepped, after_row, after_hit}
-use Rattle.trace_entries.proofs.Keys.{key-refl, not_same}
+use Rattle.hist_entries.proofs.Keys.{key-refl, not_same}
 use Rattle.trace_hist.proofs.GroupLaws.{group-push}
-use Rattle.trace_entries.proofs.Reserving.{among-take}
+use Rattle.hist_entries.proofs.Reserving.{among-take}
 
 some_is : {X : Type 0} {x y : X} → Some x ≡ Some y → x ≡ y
 some_is {X} {x} {y} e = ap (λ o. unwrap_or o x) e

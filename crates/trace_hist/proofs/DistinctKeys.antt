@@ -5,8 +5,8 @@ use Rattle.std.proofs.lemmas.List.{append-nil}
 use Rattle.std.proofs.lemmas.List.Elements.{filter-append}
 use Rattle.std.proofs.lemmas.Map.Views.{any-filter_same}
 use Rattle.trace_format.specs.Cells.{Datum}
-use Rattle.trace_entries.specs.HistEntries.{same_key, is_among}
-use Rattle.trace_entries.proofs.Keys.{key_decided, key-refl, not_same}
+use Rattle.hist_entries.specs.HistEntries.{same_key, is_among}
+use Rattle.hist_entries.proofs.Keys.{key_decided, key-refl, not_same}
 use Rattle.trace_hist.specs.Groups.{distinct}
 
 -- a key of the distinct ones is one of the keys

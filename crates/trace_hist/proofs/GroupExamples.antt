@@ -1,6 +1,6 @@
 -- The worked tables, computed.
 use Rattle.std.proofs.Common.{◌≡◌, ℕ, ap, ◌∙◌, List, length}
-use Rattle.trace_entries.specs.Hits.{Hit}
+use Rattle.hist_entries.specs.Hits.{Hit}
 use Rattle.trace_hist.specs.Groups.{Table, group, grouped}
 use Rattle.trace_hist.specs.GroupExamples.{HasTable}
 use Rattle.trace_hist.specs.Hists.{StandsFor}

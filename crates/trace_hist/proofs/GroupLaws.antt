@@ -7,11 +7,11 @@ use Rattle.std.proofs.lemmas.List.{append-nil, map-append, length-append, length
 use Rattle.std.proofs.lemmas.List.Elements.{filter-append}
 use Rattle.std.proofs.lemmas.List.Folds.{list_any-append}
 use Rattle.trace_format.specs.Cells.{Datum}
-use Rattle.trace_entries.specs.Hits.{Hit}
-use Rattle.trace_entries.specs.HistEntries.{Entry, same_key, is_among, added}
+use Rattle.hist_entries.specs.Hits.{Hit}
+use Rattle.hist_entries.specs.HistEntries.{Entry, same_key, is_among, added}
 use Rattle.trace_hist.specs.Groups.{Table, distinct, keys_of, admitted, with_key, summed, entry_of, group}
 use Rattle.trace_hist.specs.private.Steps.{bumped, first_entry, stepped, after_row}
-use Rattle.trace_entries.proofs.Keys.{not_same, key_decided, key-refl}
+use Rattle.hist_entries.proofs.Keys.{not_same, key_decided, key-refl}
 use Rattle.trace_hist.proofs.DistinctKeys.{is_among-distinct, distinct-known, distinct-new}
 
 -- ---- entries

@@ -1,8 +1,8 @@
 -- Rows that a histogram counted, and the tables that they come to, worked by hand (histogram.rst, "hist triggers"). The checker computes them.
 use Rattle.std.specs.Prelude.{◌≡◌, ℕ, ◌^◌, ◌-◌, ℤ, pos, neg_ℤ, List, [], ◌∷◌, length, codes}
 use Rattle.trace_format.specs.Cells.{Datum, Whole, Bytes}
-use Rattle.trace_entries.specs.Hits.{Hit}
-use Rattle.trace_entries.specs.HistEntries.{Entry}
+use Rattle.hist_entries.specs.Hits.{Hit}
+use Rattle.hist_entries.specs.HistEntries.{Entry}
 use Rattle.trace_hist.specs.Groups.{Table}
 use Rattle.trace_hist.specs.Hists.{Seen, StandsFor}
 

@@ -3,8 +3,8 @@
 use Rattle.std.specs.Prelude.{ℕ, ℤ, pos, not, List, [], ◌∷◌, length, map, take, replicate, filter}
 use Rattle.trace_format.specs.Cells.{Datum}
 use Rattle.trace_trigger.specs.HistSpecs.{SpecSeen}
-use Rattle.trace_entries.specs.Hits.{Hit}
-use Rattle.trace_entries.specs.HistEntries.{Entry, same_key, is_among, added}
+use Rattle.hist_entries.specs.Hits.{Hit}
+use Rattle.hist_entries.specs.HistEntries.{Entry, same_key, is_among, added}
 
 -- ---- keys
 

@@ -1,6 +1,6 @@
 -- What it comes to that a histogram stands for a list of rows.
 use Rattle.std.specs.Prelude.{◌≡◌, List, length}
-use Rattle.trace_entries.specs.Hits.{Hit}
+use Rattle.hist_entries.specs.Hits.{Hit}
 use Rattle.trace_hist.specs.Groups.{grouped}
 use Rattle.trace_hist.specs.Hists.{Seen, StandsFor, counted}
 

@@ -2,8 +2,8 @@
 use Rattle.std.specs.Prelude.{ℕ, ◌≤◌, Bool, length, take, drop}
 use Rattle.trace_trigger.specs.HistSpecs.{SpecSeen}
 use Rattle.trace_hist.specs.declared.counts.Counts.TheInside.{Inside}
-use Rattle.trace_entries.specs.RowPlaces.{Place}
-use Rattle.trace_entries.specs.KeptEntries.{entries_in, place_in, IsEnd, AreCounted}
+use Rattle.hist_entries.specs.RowPlaces.{Place}
+use Rattle.hist_entries.specs.KeptEntries.{entries_in, place_in, IsEnd, AreCounted}
 use Rattle.trace_hist.specs.Groups.{Table}
 use Rattle.trace_hist.specs.Hists.{Seen}
 

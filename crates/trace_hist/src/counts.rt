@@ -1,18 +1,18 @@
 //! What a histogram has counted: its entries and totals, and where the next row is counted.
 
 ghost use Rattle.std.specs.Prelude.{◌≡◌, ◌≢◌, ◌+◌, ◌<◌, false, length, map, IfOk, OnOk, OnErr};
-ghost use Rattle.trace_entries.specs.HistEntries.{is_among};
-ghost use Rattle.trace_entries.specs.RowPlaces.{In, IsPlaceOf, entry_keys, most_rows};
-ghost use Rattle.trace_entries.specs.Hits.{hit_of};
-ghost use Rattle.trace_entries.specs.PrintOrder.{row_in, printed};
+ghost use Rattle.hist_entries.specs.HistEntries.{is_among};
+ghost use Rattle.hist_entries.specs.RowPlaces.{In, IsPlaceOf, entry_keys, most_rows};
+ghost use Rattle.hist_entries.specs.Hits.{hit_of};
+ghost use Rattle.hist_entries.specs.PrintOrder.{row_in, printed};
 ghost use Rattle.trace_hist.specs.private.Steps.{after_hit, none_kept};
 
 use crate::sort::entries_in_order;
 use crate::totals::Totals;
+use hist_entries::{Entries, Hints, HistRow, Next, count_row, reserve, shown_with};
 use indexmap::IndexMap;
 use std::alloc::{AllocError, Global};
 use std::marker::Model;
-use trace_entries::{Entries, Hints, HistRow, Next, count_row, reserve, shown_with};
 use trace_format::Emission;
 use trace_trigger::{HistSpec, SortRule};
 

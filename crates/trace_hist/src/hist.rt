@@ -20,8 +20,8 @@
 //!   hit           adds the row to the entry at that index. If that is the reserved one, it is shown from then on
 //! ```
 //!
-//! The entry of a key is found by a hint, mostly (hints.rt of trace_entries): the entry that a hint names is compared with the row, and only if the key
-//! is not its own is the key looked up by its hash.
+//! The entry of a key is found by a hint, mostly (hints.rt of hist_entries): the entry that a hint names is compared with the row, and only if the
+//! key is not its own is the key looked up by its hash.
 //!
 //! `next` stays after a hit, so that it counts another row with the same key, which another trigger reads. If a row is not counted after all (the emission
 //! was refused), the reserved entry is left at the end and not shown. The next `reserve_hit` of another key takes it out, unless it is refused or the
@@ -34,14 +34,14 @@
 
 ghost use Rattle.std.specs.Prelude.{◌≡◌, [], IsOk, IfOk, OnOk, OnErr, length, map, IsTrue, ◌↔◌, false, true};
 ghost use Rattle.trace_trigger.specs.declared.spec.Action.TheVariants as actions;
-ghost use Rattle.trace_entries.specs.PrintOrder.{row_in, printed};
+ghost use Rattle.hist_entries.specs.PrintOrder.{row_in, printed};
 ghost use Rattle.trace_hist.specs.Hists.{StandsFor, IsReserved, IsReservedAs, NeedsEntry, NeedsEntryAs, HasRoom, IsReservedFor, IsCountedFor};
 
 use crate::counts::Counts;
 use crate::totals::Totals;
+use hist_entries::HistRow;
 use std::alloc::{AllocError, Global};
 use std::marker::Model;
-use trace_entries::HistRow;
 use trace_format::{Emission, Row};
 use trace_trigger::{Action, HistSpec};
 

@@ -4,7 +4,7 @@
 ghost use Rattle.trace_hist.specs.GroupExamples.{HasTable, seven_rows, full_table, table_with_room, rows_of_pairs, table_of_pairs};
 ghost use Rattle.trace_hist.specs.Laws.{CountedAreTheRows, StandingIsOfTheTable, TablesAreGrouped};
 
-pub use trace_entries::laws::{each_value_is_in_one_bucket, printed_is_in_print_order};
+pub use hist_entries::laws::{each_value_is_in_one_bucket, printed_is_in_print_order};
 
 /// A histogram that stands for a list of rows shows what these come to, and has counted as many as there are. It stands for them as long as its
 /// trigger and its table stay, whether or not it is paused or has a row reserved.

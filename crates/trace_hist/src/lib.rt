@@ -11,7 +11,7 @@ mod sort;
 mod totals;
 
 pub use hist::Hist;
+pub use hist_entries::HistRow;
 pub use totals::Totals;
-pub use trace_entries::HistRow;
 pub use trace_format::Text;
 pub use trace_trigger::{Action, HistSpec, Key, Modifier, SortKey, TriggerFault};

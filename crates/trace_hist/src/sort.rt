@@ -1,12 +1,12 @@
 //! The order in which entries are printed.
 
 ghost use Rattle.std.specs.Prelude.{◌≡◌, ◌≤◌, map, length, take, IfOk, OnOk, false};
-ghost use Rattle.trace_entries.specs.KeptEntries.{entries_in};
-ghost use Rattle.trace_entries.specs.PrintOrder as order;
+ghost use Rattle.hist_entries.specs.KeptEntries.{entries_in};
+ghost use Rattle.hist_entries.specs.PrintOrder as order;
 
+use hist_entries::{Entries, HistRow, compare_keys, rows_of, sum_at};
 use std::alloc::{AllocError, Global};
 use std::cmp::Ordering;
-use trace_entries::{Entries, HistRow, compare_keys, rows_of, sum_at};
 use trace_trigger::{SortRule, SortSource};
 
 fn compare_by(source: SortSource, left: &HistRow, right: &HistRow) -> Ordering

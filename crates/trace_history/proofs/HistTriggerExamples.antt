@@ -17,7 +17,7 @@ use Rattle.trace_trigger.specs.HistParts.{attributes_of, tail_of}
 use Rattle.trace_trigger.specs.HistOffsets.{attribute_offsets, key_offsets, name_offsets, value_offsets, sort_offsets, wrong_offsets}
 use Rattle.trace_trigger.specs.Frames.{filter_of}
 use Rattle.trace_trigger.specs.HistTexts.{read_of, spec_from, spec_of}
-use Rattle.trace_entries.specs.PrintOrder.{printed}
+use Rattle.hist_entries.specs.PrintOrder.{printed}
 use Rattle.trace_trigger.specs.FittingSpecs.{is_fitting}
 use Rattle.trace_trigger.specs.SameSpecs.{is_same}
 use Rattle.trace_text.specs.EntryText.{entry_line}

@@ -1,6 +1,6 @@
 -- Whether a table is paused: until something is asked of it, it stays as it is.
 use Rattle.std.proofs.Common.{◌≡◌, Bool, false, if◌then◌else◌, List, [], ◌∷◌, ◌++◌, is_some, Option, None, Some, refl, ap, ◌∙◌, append-nil}
-use Rattle.trace_entries.specs.Hits.{Hit}
+use Rattle.hist_entries.specs.Hits.{Hit}
 use Rattle.trace_trigger.specs.declared.spec.Action.{Action}
 use Rattle.trace_history.specs.Emissions.{emitted}
 use Rattle.trace_history.specs.HistTriggers.{asked_by, counted_by, empties, hist_triggers, hits_of, is_paused, paused_after}

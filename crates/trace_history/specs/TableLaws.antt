@@ -3,7 +3,7 @@ use Rattle.std.specs.Prelude.{◌≡◌, ◌⊎◌, ℕ, ◌==◌, nat_lt, Bool,
 use Rattle.std.specs.List.{Contains, filter, flat_map}
 use Rattle.trace_format.specs.Definitions.{Definition}
 use Rattle.trace_hist.specs.Groups.{grouped}
-use Rattle.trace_entries.specs.Hits.{Hit}
+use Rattle.hist_entries.specs.Hits.{Hit}
 use Rattle.trace_trigger.specs.FittingSpecs.{Fits}
 use Rattle.trace_trigger.specs.HistSpecs.{SpecSeen}
 use Rattle.trace_trigger.specs.SameSpecs.{IsSame}

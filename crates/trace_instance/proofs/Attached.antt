@@ -3,7 +3,7 @@ use Rattle.std.proofs.Common.{◌≡◌, ℕ, ◌==◌, Bool, true, false, not, 
 use Rattle.std.specs.List.{flat_map, list_any}
 use Rattle.std.proofs.lemmas.Slice.Eq.{bytes_eq-Decides}
 use Rattle.std.proofs.lemmas.List.{map-append}
-use Rattle.trace_entries.specs.Hits.{Hit}
+use Rattle.hist_entries.specs.Hits.{Hit}
 use Rattle.trace_format.specs.Definitions.{Definition}
 use Rattle.trace_trigger.specs.HistSpecs.{SpecSeen}
 use Rattle.trace_trigger.specs.SameSpecs.{is_same}

@@ -28,7 +28,7 @@ use Rattle.trace_history.proofs.Triggered.{number-before, times_left-less, times
 use Rattle.trace_format.specs.Operands.{Emission as Row}
 use Rattle.trace_history.specs.HistTriggers.{counted_row}
 use Rattle.trace_instance.specs.Instances.{InstanceSeen, InstanceStandsFor, IsSpared, WereOffered, kept_as, kept_trigger, side_families}
-use Rattle.trace_entries.specs.Hits.{Hit}
+use Rattle.hist_entries.specs.Hits.{Hit}
 use Rattle.trace_instance.specs.KeptHists.{AreHit, IsHitIf, KeptTable, TableStandsFor, is_used, kept_at, kept_hists}
 use Rattle.trace_instance.specs.Deliveries.{CanFire, IsDelivered, counted_down, recorded_in, row_of}
 use Rattle.trace_instance.proofs.HistSteps.{KeepsHists, fitting-calm}

@@ -8,9 +8,9 @@ use Rattle.trace_format.specs.Operands.{Emission}
 use Rattle.trace_hist.specs.Groups.{grouped}
 use Rattle.trace_trigger.specs.HistSpecs.{SpecSeen}
 use Rattle.trace_trigger.specs.declared.key.Key.{Key}
-use Rattle.trace_entries.specs.Hits.{Hit, hit_of, key_cell}
-use Rattle.trace_entries.specs.HistEntries.{Entry}
-use Rattle.trace_entries.specs.RowPlaces.{Place, Unknown, In, Nowhere, IsPlaceOf, most_rows}
+use Rattle.hist_entries.specs.Hits.{Hit, hit_of, key_cell}
+use Rattle.hist_entries.specs.HistEntries.{Entry}
+use Rattle.hist_entries.specs.RowPlaces.{Place, Unknown, In, Nowhere, IsPlaceOf, most_rows}
 use Rattle.trace_hist.specs.Hists.{IsCountedFor, IsReservedAs, Seen, StandsFor, counted}
 use Rattle.trace_trigger.specs.SameSpecs.{is_passed}
 use Rattle.trace_instance.specs.KeptHists.{AreHit, CanCount, HasRoomToCount, IsHit, IsHitIf, KeptTable, KeysAgree, NeedsMemory, NeedsMemoryIn, is_passed_at, kept_at, kept_table, passed, row_counted, rows_counted, table_numbered}

@@ -12,7 +12,7 @@ use Rattle.trace_text.specs.HistText.{hist_text}
 use Rattle.trace_text.specs.TriggerText as texts
 use Rattle.trace_text.specs.TriggerText.{trigger_text}
 use Rattle.trace_hist.specs.Groups.{group, grouped}
-use Rattle.trace_entries.specs.Hits.{Hit}
+use Rattle.hist_entries.specs.Hits.{Hit}
 use Rattle.trace_trigger.specs.FittingLaws.{CountsAlike}
 use Rattle.trace_trigger.specs.HistSpecs.{SpecSeen}
 use Rattle.trace_history.specs.FileTexts.{filter_text, format_of_event, hists_of_event, in_order, shown_hist, shown_trigger, triggers_of_event}

@@ -2,7 +2,7 @@
 use Rattle.std.proofs.Common.{◌≡◌, ℕ, Bool, true, false, if◌then◌else◌, List, [], ◌∷◌, ◌++◌, length, map, Option, None, sym, ap, ◌∙◌, subst, append-nil}
 use Rattle.std.specs.List.{Contains}
 use Rattle.trace_format.specs.Definitions.{Definition}
-use Rattle.trace_entries.specs.Hits.{Hit}
+use Rattle.hist_entries.specs.Hits.{Hit}
 use Rattle.trace_trigger.specs.FittingSpecs.{is_fitting}
 use Rattle.trace_trigger.specs.declared.spec.Action.{Action}
 use Rattle.trace_command.specs.Requests.{Request}

@@ -5,7 +5,7 @@ use Rattle.std.proofs.lemmas.Slice.Eq.{bytes_eq-Decides}
 use Rattle.trace_filter.specs.Filters.{Parsed}
 use Rattle.trace_hist.specs.Groups.{grouped}
 use Rattle.trace_hist.specs.Hists.{Seen, StandsFor}
-use Rattle.trace_entries.specs.Hits.{Hit}
+use Rattle.hist_entries.specs.Hits.{Hit}
 use Rattle.trace_trigger.specs.FittingLaws.{CountsAlike}
 use Rattle.trace_trigger.specs.HistSpecs.{SpecSeen}
 use Rattle.trace_trigger.specs.SameSpecs.{is_passed}

@@ -16,13 +16,13 @@ use Rattle.trace_instance.specs.Deliveries.{most_requests}
 use Rattle.trace_instance.specs.Instances.{InstanceSeen, InstanceStandsFor, TablesFit, kept_trigger, IsUsableInstance}
 use Rattle.std.proofs.lemmas.List.Filters.{length-filter_both}
 use Rattle.trace_hist.specs.Groups.{admitted, grouped}
-use Rattle.trace_entries.specs.HistEntries.{is_among}
+use Rattle.hist_entries.specs.HistEntries.{is_among}
 use Rattle.trace_trigger.specs.HistSpecs.{SpecSeen}
 use Rattle.trace_trigger.specs.HistTexts.{spec_of}
 use Rattle.trace_trigger.proofs.FittingLaws.{fitting_specs_of_one_event_read_alike}
 use Rattle.trace_hist.specs.Hists.{Seen, counted}
-use Rattle.trace_entries.specs.RowPlaces.{most_rows}
-use Rattle.trace_entries.specs.Hits.{Hit}
+use Rattle.hist_entries.specs.RowPlaces.{most_rows}
+use Rattle.hist_entries.specs.Hits.{Hit}
 use Rattle.trace_history.specs.Emissions.{Emitted, emitted, emitted_event, emitted_row}
 use Rattle.trace_history.specs.History.{trigger_count}
 use Rattle.trace_history.specs.Pasts.{AreDone}

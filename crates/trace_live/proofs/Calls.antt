@@ -8,8 +8,8 @@ use Rattle.trace_command.specs.declared.refusal.Refusal.{Refusal}
 use Rattle.trace_command.specs.declared.refusal.Refusal.TheVariants.{Memory}
 use Rattle.trace_history.specs.History.{answer_with_room}
 use Rattle.trace_history.specs.LateMemory.{TakesMemoryLate}
-use Rattle.trace_state.specs.States.{IsPrepared}
-use Rattle.trace_state.specs.declared.state.Prepared.{Prepared}
+use Rattle.tracer_state.specs.States.{IsPrepared}
+use Rattle.tracer_state.specs.declared.state.Prepared.{Prepared}
 use Rattle.trace_live.specs.LiveSeen.{LiveSeen}
 use Rattle.trace_live.specs.Lives.{IsCallWithin, IsLive, limited_answer}
 use Rattle.trace_live.proofs.Limits.{early-with_room, limited-done, limited-late}

@@ -8,13 +8,13 @@ use Rattle.trace_command.specs.declared.command.Reply.TheVariants.{Done}
 use Rattle.trace_history.specs.History.{answer_with_room}
 use Rattle.trace_instance.specs.Deliveries.{HasFew, HasFewRows}
 use Rattle.trace_instance.specs.declared.change.Delivery.{Delivery}
-use Rattle.trace_state.specs.States.{IsEmitted, IsPrepared, IsPreparedEmission, IsStateAlike, IsStep, IsUnchanged, IsUsable, StandsFor}
-use Rattle.trace_state.specs.declared.state.Named.{Named}
-use Rattle.trace_state.specs.declared.state.Prepared.{Prepared}
-use Rattle.trace_state.specs.declared.state.State.{State}
-use Rattle.trace_state.proofs.Alike.{state_alike-stands, unchanged-stands}
-use Rattle.trace_state.proofs.Stands.{stands_after, stands_after_emission}
-use Rattle.trace_state.proofs.Usable.{few_from_stands, few_rows_from_stands, usable_from_stands}
+use Rattle.tracer_state.specs.States.{IsEmitted, IsPrepared, IsPreparedEmission, IsStateAlike, IsStep, IsUnchanged, IsUsable, StandsFor}
+use Rattle.tracer_state.specs.declared.state.Named.{Named}
+use Rattle.tracer_state.specs.declared.state.Prepared.{Prepared}
+use Rattle.tracer_state.specs.declared.state.State.{State}
+use Rattle.tracer_state.proofs.Alike.{state_alike-stands, unchanged-stands}
+use Rattle.tracer_state.proofs.Stands.{stands_after, stands_after_emission}
+use Rattle.tracer_state.proofs.Usable.{few_from_stands, few_rows_from_stands, usable_from_stands}
 use Rattle.trace_live.specs.LiveSeen.{LiveSeen}
 use Rattle.trace_live.specs.Lives.{IsLive, most_done}
 

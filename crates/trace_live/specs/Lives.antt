@@ -10,9 +10,9 @@ use Rattle.trace_history.specs.History.{answer_with_room, unless_full}
 use Rattle.trace_history.specs.LateMemory.{TakesMemoryLate}
 use Rattle.trace_history.specs.Pasts.{AreDone}
 use Rattle.trace_instance.specs.Deliveries.{most_requests}
-use Rattle.trace_state.specs.States.{IsPrepared, IsPreparedEmission, StandsFor}
-use Rattle.trace_state.specs.declared.state.Prepared.{Prepared}
-use Rattle.trace_state.specs.declared.state.State.{State}
+use Rattle.tracer_state.specs.States.{IsPrepared, IsPreparedEmission, StandsFor}
+use Rattle.tracer_state.specs.declared.state.Prepared.{Prepared}
+use Rattle.tracer_state.specs.declared.state.State.{State}
 use Rattle.trace_live.specs.LiveSeen.{LiveSeen}
 
 -- ---- answers

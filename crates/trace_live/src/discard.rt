@@ -1,7 +1,7 @@
 //! Dropping what is not needed any more, out of line, so that calls that do without don't pay for the code.
 
 use trace_command::Command;
-use trace_state::Prepared;
+use tracer_state::Prepared;
 
 /// Drops a command, out of line.
 #[inline(never)]

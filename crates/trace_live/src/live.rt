@@ -41,7 +41,7 @@ use std::marker::Model;
 use trace_command::{Config, Refusal};
 use trace_format::EventDef;
 use trace_instance::{Delivery, Instance, event_at};
-use trace_state::{Named, State};
+use tracer_state::{Named, State};
 
 /// How many commands a tracer does.
 pub const MOST_DONE: u64 = 1 << 60;

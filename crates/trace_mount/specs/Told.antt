@@ -8,8 +8,8 @@ use Rattle.fuse_wire.specs.declared.directory.DirectoryEntry.{DirectoryEntry}
 use Rattle.fuse_wire.specs.declared.errno.Errno.TheVariants.{ENOENT, EACCES, EINVAL, ENOTDIR, EPROTO}
 use Rattle.fuse_wire.specs.declared.reply.Reply.{Reply}
 use Rattle.fuse_wire.specs.declared.reply.Reply.TheVariants as replies
-use Rattle.trace_list.specs.declared.access.Access.{Access}
-use Rattle.trace_list.specs.declared.access.Access.TheVariants as access
+use Rattle.file_list.specs.declared.access.Access.{Access}
+use Rattle.file_list.specs.declared.access.Access.TheVariants as access
 use Rattle.mount_tree.specs.Children.{Child, children, is_there, node_named}
 use Rattle.mount_tree.specs.FileKinds.{access_of_file}
 use Rattle.mount_tree.specs.Nodes.{number_of}

@@ -7,9 +7,9 @@ ghost use Rattle.trace_mount.specs.Told as told;
 ghost use Rattle.trace_mount.specs.private.ShortReplies.{IsShort};
 
 use crate::mount::Mount;
+use file_list::Access;
 use fuse_wire::{Agreement, Attributes, Errno, FileKind, Reply};
 use mount_tree::{File, Node};
-use trace_list::Access;
 
 /// What kind of node.
 pub(crate) fn kind_of_node(node: Node) -> FileKind

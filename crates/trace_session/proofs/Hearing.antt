@@ -1,12 +1,12 @@
 -- What a writer has heard, one after the other, and the lines of the commands that it is yet to hear of.
 use Rattle.std.proofs.Common.{◌≡◌, ◌↔◌, ℕ, ◌-◌, ◌≤◌, Bool, true, false, List, [], ◌∷◌, ◌++◌, map, Option, Some, None, slice_get, unwrap_or, refl, ap, sym, subst, ◌∙◌, append_assoc, arith}
 use Rattle.std.proofs.lemmas.List.{append-nil}
-use Rattle.trace_items.specs.PartReads.{IsLineAt}
+use Rattle.script_reader.specs.PartReads.{IsLineAt}
 use Rattle.trace_script.specs.declared.outcome.Outcome.{Outcome}
 use Rattle.trace_session.specs.Heard.{Heard, Hears, heard_of, line_at}
 use Rattle.trace_session.specs.private.HeardItems.{AreInOrder, heard_each}
-use Rattle.trace_parts.specs.ThreadTexts.{told_if}
-use Rattle.trace_parts.specs.declared.outcome_at.OutcomeAt.{OutcomeAt}
+use Rattle.thread_output.specs.ThreadTexts.{told_if}
+use Rattle.thread_output.specs.declared.outcome_at.OutcomeAt.{OutcomeAt}
 
 pub Hears_nothing : (a : Option (List Heard)) → Hears a a []
 Hears_nothing None = tt

@@ -5,21 +5,21 @@ use Rattle.std.proofs.lemmas.Option.{slice_get_past}
 use Rattle.std.specs.List.{concat, list_any}
 use Rattle.std.specs.Io.KnownBytes.{Appends}
 use Rattle.trace_command.specs.declared.command.Config.{Config}
-use Rattle.trace_items.specs.Items.{Item, Single, first_fault, threads_of, is_end, part_with, before_end, begun, taken_at, item_at, items_from}
-use Rattle.trace_items.specs.NextItems.{item_read, HasFaultLine, HasItsText}
-use Rattle.trace_items.specs.PartReads.{IsLineAt, commands_in}
-use Rattle.trace_items.specs.ScriptLines.{lines_of}
-use Rattle.trace_items.specs.declared.item.ItemRead.TheVariants as reads
-use Rattle.trace_items.specs.declared.item.ItemRead.{ItemRead}
-use Rattle.trace_items.specs.declared.part.FaultAt.{FaultAt}
-use Rattle.trace_items.specs.declared.part.Numbered.{Numbered}
+use Rattle.script_reader.specs.Items.{Item, Single, first_fault, threads_of, is_end, part_with, before_end, begun, taken_at, item_at, items_from}
+use Rattle.script_reader.specs.NextItems.{item_read, HasFaultLine, HasItsText}
+use Rattle.script_reader.specs.PartReads.{IsLineAt, commands_in}
+use Rattle.script_reader.specs.ScriptLines.{lines_of}
+use Rattle.script_reader.specs.declared.item.ItemRead.TheVariants as reads
+use Rattle.script_reader.specs.declared.item.ItemRead.{ItemRead}
+use Rattle.script_reader.specs.declared.part.FaultAt.{FaultAt}
+use Rattle.script_reader.specs.declared.part.Numbered.{Numbered}
 use Rattle.trace_script.specs.Lines.{line_of}
 use Rattle.trace_script.specs.declared.fault.ScriptFault.{ScriptFault}
 use Rattle.trace_script.specs.declared.line.Line.{Line}
 use Rattle.trace_script.specs.declared.line.Line.TheVariants.{Blank, Ask, Parallel, Thread, End}
 use Rattle.trace_script.specs.declared.outcome.Outcome.{Outcome}
 use Rattle.trace_script.specs.declared.outcome.Outcome.TheVariants as outcomes
-use Rattle.trace_parts.specs.declared.outcome_at.OutcomeAt.{OutcomeAt}
+use Rattle.thread_output.specs.declared.outcome_at.OutcomeAt.{OutcomeAt}
 use Rattle.trace_session.specs.Devices.{Passes}
 use Rattle.trace_session.specs.Fronts.{HasGiven}
 use Rattle.trace_session.specs.Heard.{Heard, Hears, heard_of, line_at, heard_lines, numbers_in, numbers_told, IsWrittenFirst, HoldsTexts, IsHeard, HearsAll}

@@ -2,7 +2,7 @@
 use Rattle.std.proofs.Common.{◌≡◌, ℕ, List, refl, ◌∙◌, sym}
 use Rattle.std.specs.Fmt.{digits}
 use Rattle.trace_command.specs.declared.command.Config.{Config}
-use Rattle.trace_items.specs.Items.{item_at, items_of}
+use Rattle.script_reader.specs.Items.{item_at, items_of}
 use Rattle.trace_script.specs.Lines.{process_id, pair_of, pairs_of, emission_of, write_of, read_of, take_of, mkdir_of, rmdir_of, named_command, named_line, asked_of, spoken, line_of}
 use Rattle.trace_script.specs.Rendering.{detail_of, fault_name, refusal_line, fault_line}
 use Rattle.trace_script.specs.Tokens.{tokens_of}

@@ -1,14 +1,14 @@
 -- The commands of a part stand in lines of its string, in order.
 use Rattle.std.proofs.Common.{◌≡◌, ℕ, suc, ◌+◌, ◌≤◌, Bool, true, false, if◌then◌else◌, List, [], ◌∷◌, ◌++◌, map, Option, Some, None, Result, Ok, Err, refl, sym, subst, arith}
 use Rattle.std.specs.List.{list_any}
-use Rattle.trace_items.specs.Items.{Item, Threads, first_fault, own_with, own_commands, threads_with, threads_of, is_end, part_with, before_end, begun, taken_at, item_at, items_from}
-use Rattle.trace_items.specs.NextItems.{item_read, HasItsText}
-use Rattle.trace_items.specs.PartReads.{commands_in}
-use Rattle.trace_items.specs.ScriptLines.{lines_of}
-use Rattle.trace_items.specs.declared.item.ItemRead.TheVariants as reads
-use Rattle.trace_items.specs.declared.item.ItemRead.{ItemRead}
-use Rattle.trace_items.specs.declared.part.FaultAt.{FaultAt}
-use Rattle.trace_items.specs.declared.part.Numbered.{Numbered}
+use Rattle.script_reader.specs.Items.{Item, Threads, first_fault, own_with, own_commands, threads_with, threads_of, is_end, part_with, before_end, begun, taken_at, item_at, items_from}
+use Rattle.script_reader.specs.NextItems.{item_read, HasItsText}
+use Rattle.script_reader.specs.PartReads.{commands_in}
+use Rattle.script_reader.specs.ScriptLines.{lines_of}
+use Rattle.script_reader.specs.declared.item.ItemRead.TheVariants as reads
+use Rattle.script_reader.specs.declared.item.ItemRead.{ItemRead}
+use Rattle.script_reader.specs.declared.part.FaultAt.{FaultAt}
+use Rattle.script_reader.specs.declared.part.Numbered.{Numbered}
 use Rattle.trace_script.specs.Lines.{line_of}
 use Rattle.trace_script.specs.declared.fault.ScriptFault.{ScriptFault}
 use Rattle.trace_script.specs.declared.line.Line.{Line}

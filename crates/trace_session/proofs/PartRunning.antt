@@ -12,14 +12,14 @@ use Rattle.trace_command.specs.declared.command.Config.{Config}
 use Rattle.trace_command.specs.declared.command.Entry.{Entry}
 use Rattle.trace_command.specs.declared.command.Reply.{Reply}
 use Rattle.trace_command.specs.declared.refusal.Refusal.{Refusal}
-use Rattle.trace_items.specs.declared.part.Numbered.{Numbered}
+use Rattle.script_reader.specs.declared.part.Numbered.{Numbered}
 use Rattle.trace_session.specs.Parts.{Given, PartMayGive, outcomes_in}
 use Rattle.trace_session.specs.declared.part_line.AskedLine.{AskedLine}
-use Rattle.trace_parts.specs.ThreadTexts.{told_if}
+use Rattle.thread_output.specs.ThreadTexts.{told_if}
 use Rattle.trace_session.specs.PartTexts.{asked_command, numbered_threads, outcomes_of_threads, replies_in, AreNumbered, AreOutcomesOf}
 use Rattle.trace_session.specs.Passes.{IsSessionPass, progress_of}
 use Rattle.trace_session.specs.Sessions.{status_of}
-use Rattle.trace_parts.specs.declared.outcome_at.OutcomeAt.{OutcomeAt}
+use Rattle.thread_output.specs.declared.outcome_at.OutcomeAt.{OutcomeAt}
 use Rattle.trace_session.specs.declared.status.Status.{Status}
 use Rattle.trace_session.proofs.PartWriting.{numbered_is, are_outcomes}
 use Rattle.trace_workers.proofs.Blocking.{is_block}

@@ -3,8 +3,8 @@ use Rattle.std.proofs.Common.{◌≡◌, ◌≢◌, ◌↔◌, ℕ, zero, suc, �
 use Rattle.std.proofs.lemmas.List.Elements.{All-head, All-tail}
 use Rattle.std.proofs.lemmas.List.{take-map}
 use Rattle.trace_command.specs.declared.command.Config.{Config}
-use Rattle.trace_items.specs.Items.{Item, Single, Threads, Faulty, Taken, taken_at, item_at, items_from, items_of, HasNoPart}
-use Rattle.trace_items.specs.ScriptLines.{lines_of}
+use Rattle.script_reader.specs.Items.{Item, Single, Threads, Faulty, Taken, taken_at, item_at, items_from, items_of, HasNoPart}
+use Rattle.script_reader.specs.ScriptLines.{lines_of}
 use Rattle.trace_script.specs.Lines.{line_of}
 use Rattle.trace_script.specs.declared.fault.ScriptFault.{ScriptFault}
 use Rattle.trace_script.specs.declared.line.Line.{Line}

@@ -1,8 +1,8 @@
 -- A single line that was asked: what its item gives.
 use Rattle.std.proofs.Common.{◌≡◌, ℕ, List, [], ◌∷◌, ◌++◌, Option, Result, Ok, Err, IfOk, OnOk, ap, sym, subst}
 use Rattle.trace_command.specs.declared.command.Config.{Config}
-use Rattle.trace_items.specs.Items.{Single}
-use Rattle.trace_items.specs.declared.stop.Stop.{Stop}
+use Rattle.script_reader.specs.Items.{Single}
+use Rattle.script_reader.specs.declared.stop.Stop.{Stop}
 use Rattle.trace_script.specs.declared.outcome.Outcome.{Outcome}
 use Rattle.trace_session.specs.Devices.{AppendsFront, Passes}
 use Rattle.trace_session.specs.private.StepFronts.{PassesItem, AppendsItem}

@@ -8,10 +8,10 @@ use Rattle.std.proofs.lemmas.Grind.{flat_map-append}
 use Rattle.std.specs.List.{concat, list_any}
 use Rattle.std.specs.Io.KnownBytes.{Appends}
 use Rattle.trace_command.specs.declared.command.Config.{Config}
-use Rattle.trace_items.specs.Items.{Item, Single, Threads, Faulty, items_from, items_of}
-use Rattle.trace_items.specs.FewThreads.{HasFewThreads}
-use Rattle.trace_items.specs.ScriptLines.{lines_of, lines_left}
-use Rattle.trace_items.proofs.PartThreads.{parts_have_few_threads}
+use Rattle.script_reader.specs.Items.{Item, Single, Threads, Faulty, items_from, items_of}
+use Rattle.script_reader.specs.FewThreads.{HasFewThreads}
+use Rattle.script_reader.specs.ScriptLines.{lines_of, lines_left}
+use Rattle.script_reader.proofs.PartThreads.{parts_have_few_threads}
 use Rattle.trace_script.specs.declared.outcome.Outcome.{Outcome}
 use Rattle.trace_session.specs.Devices.{AppendsFront, Passes}
 use Rattle.trace_session.specs.Heard.{Heard, Hears, heard_lines, numbers_told, IsWrittenFirst, HoldsTexts, HearsAll}

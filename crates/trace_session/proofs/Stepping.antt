@@ -2,14 +2,14 @@
 use Rattle.std.proofs.Common.{◌≡◌, ◌≢◌, ℕ, Bool, false, List, [], ◌∷◌, ◌++◌, Option, Some, None, Result, Ok, Err, IfOk, OnOk, IsSome, refl, ap, sym, subst, ◌∙◌}
 use Rattle.trace_command.specs.declared.command.Config.{Config}
 use Rattle.trace_command.specs.declared.command.Reply.TheVariants as replies
-use Rattle.trace_items.specs.Items.{Item, Single, Faulty}
-use Rattle.trace_items.specs.declared.part.FaultAt.{FaultAt}
-use Rattle.trace_items.specs.declared.stop.Stop.{Stop}
+use Rattle.script_reader.specs.Items.{Item, Single, Faulty}
+use Rattle.script_reader.specs.declared.part.FaultAt.{FaultAt}
+use Rattle.script_reader.specs.declared.stop.Stop.{Stop}
 use Rattle.trace_script.specs.declared.outcome.Outcome.{Outcome}
 use Rattle.trace_script.specs.declared.outcome.Outcome.TheVariants as outcomes
 use Rattle.trace_session.specs.Devices.{AppendsFront, Passes}
-use Rattle.trace_items.specs.NextItems.{item_read}
-use Rattle.trace_items.specs.declared.item.ItemRead.{ItemRead}
+use Rattle.script_reader.specs.NextItems.{item_read}
+use Rattle.script_reader.specs.declared.item.ItemRead.{ItemRead}
 use Rattle.trace_session.specs.private.StepFronts.{PassesItem, GivesItem, AppendsItem}
 use Rattle.trace_session.specs.Heard.{Heard, IsWrittenFirst}
 use Rattle.trace_session.specs.private.HeardItems.{HearsItem}

@@ -1,10 +1,10 @@
 -- A session that was stopped, and a script without parts.
 use Rattle.std.proofs.Common.{ℕ, Bool, List, [], ◌∷◌, ◌++◌, Option, subst}
 use Rattle.trace_command.specs.declared.command.Config.{Config}
-use Rattle.trace_items.specs.Items.{Item, Single, Threads, Faulty, HasNoPart}
-use Rattle.trace_items.specs.declared.part.Numbered.{Numbered}
+use Rattle.script_reader.specs.Items.{Item, Single, Threads, Faulty, HasNoPart}
+use Rattle.script_reader.specs.declared.part.Numbered.{Numbered}
 use Rattle.trace_session.specs.Heard.{Heard}
-use Rattle.trace_items.specs.Sources.{GivesScript}
+use Rattle.script_reader.specs.Sources.{GivesScript}
 use Rattle.trace_session.specs.Fronts.{AppendsStopped}
 use Rattle.trace_workers.specs.declared.gate.Point.{Point}
 use Rattle.trace_session.proofs.PartSessions.{ArePlain, items_are_plain}

@@ -1,8 +1,8 @@
--- What writes do to the bytes and the failures of a device. How failures are counted is in Sources of trace_items.
+-- What writes do to the bytes and the failures of a device. How failures are counted is in Sources of script_reader.
 use Rattle.std.specs.Prelude.{◌≡◌, ℕ, ◌==◌, ◌&&◌, nat_lt, if◌then◌else◌, List, ◌++◌, Option, Some, None, Result, Ok, Err}
 use Rattle.std.specs.Coded.{coded_ℕ, coded_list}
 use Rattle.std.specs.Io.KnownBytes.{Appends}
-use Rattle.trace_items.specs.Sources.{one_more}
+use Rattle.script_reader.specs.Sources.{one_more}
 use base.Stored.{Coded-set}
 use mathlib.Core.HLevel.{Unit-prop}
 

@@ -3,8 +3,8 @@ use Rattle.std.specs.Prelude.{◌≡◌, ℕ, Bool, false, List, [], ◌∷◌, 
 use Rattle.std.specs.List.{concat}
 use Rattle.std.specs.Io.KnownBytes.{Appends}
 use Rattle.trace_command.specs.declared.command.Config.{Config}
-use Rattle.trace_items.specs.Items.{Item, Threads, items_of}
-use Rattle.trace_items.specs.declared.part.Numbered.{Numbered}
+use Rattle.script_reader.specs.Items.{Item, Threads, items_of}
+use Rattle.script_reader.specs.declared.part.Numbered.{Numbered}
 use Rattle.trace_session.specs.Devices.{AppendsFront}
 use Rattle.trace_session.specs.Gated.{LetsGivenPass, commands_asked}
 use Rattle.trace_session.specs.Heard.{Heard, HearsAll}

@@ -2,8 +2,8 @@
 -- thread, at this point (`Gate::may_answer`).
 use Rattle.std.specs.Prelude.{ℕ, Bool, List, ◌∷◌, map}
 use Rattle.trace_command.specs.declared.command.Command.{Command}
-use Rattle.trace_items.specs.Items.{Item, Single, Threads, Faulty}
-use Rattle.trace_items.specs.declared.part.Numbered.{Numbered}
+use Rattle.script_reader.specs.Items.{Item, Single, Threads, Faulty}
+use Rattle.script_reader.specs.declared.part.Numbered.{Numbered}
 use Rattle.trace_session.specs.Parts.{Given}
 use Rattle.trace_workers.specs.Gates.{LetsAllPass, StopsOne}
 use Rattle.trace_workers.specs.declared.gate.Point.{Point}

@@ -1,9 +1,9 @@
 -- What a sink hears of lines and of the commands of parts, and of a whole session.
 use Rattle.std.specs.Prelude.{◌≡◌, ◌≢◌, ◌⊎◌, ℕ, ◌-◌, Bool, true, List, [], ◌∷◌, ◌++◌, map, flat_map, Option, Some, None, slice_get, unwrap_or}
 use Rattle.std.specs.Io.KnownBytes.{Appends}
-use Rattle.trace_items.specs.Items.{Item, Single, Threads, Faulty}
-use Rattle.trace_items.specs.ScriptLines.{lines_of}
-use Rattle.trace_items.specs.declared.part.Numbered.{Numbered}
+use Rattle.script_reader.specs.Items.{Item, Single, Threads, Faulty}
+use Rattle.script_reader.specs.ScriptLines.{lines_of}
+use Rattle.script_reader.specs.declared.part.Numbered.{Numbered}
 use Rattle.trace_script.specs.declared.outcome.Outcome.{Outcome}
 use Rattle.trace_session.specs.Devices.{AppendsFront}
 use Rattle.trace_session.specs.Parts.{Given}

@@ -1,7 +1,7 @@
 -- What the sessions of scripts with parts come to.
 use Rattle.std.specs.Prelude.{◌≡◌, ◌↔◌, ℕ, List, take}
 use Rattle.trace_command.specs.declared.command.Config.{Config}
-use Rattle.trace_items.specs.Items.{HasNoPart}
+use Rattle.script_reader.specs.Items.{HasNoPart}
 use Rattle.trace_session.specs.Parts.{IsSession, IsBegun}
 use Rattle.trace_session.specs.Sessions.{Session, session}
 

@@ -7,9 +7,9 @@ use Rattle.trace_command.specs.declared.command.Config.{Config}
 use Rattle.trace_command.specs.declared.command.Entry.{Entry}
 use Rattle.trace_command.specs.declared.command.Reply.{Reply}
 use Rattle.trace_command.specs.declared.refusal.Refusal.{Refusal}
-use Rattle.trace_items.specs.Items.{Item, Single, Threads, Faulty, items_of}
-use Rattle.trace_items.specs.declared.part.Numbered.{Numbered}
-use Rattle.trace_parts.specs.ThreadLines.{outcome_of, thread_line}
+use Rattle.script_reader.specs.Items.{Item, Single, Threads, Faulty, items_of}
+use Rattle.script_reader.specs.declared.part.Numbered.{Numbered}
+use Rattle.thread_output.specs.ThreadLines.{outcome_of, thread_line}
 use Rattle.trace_script.specs.Rendering.{rendered}
 use Rattle.trace_script.specs.declared.outcome.Outcome.{Outcome}
 use Rattle.trace_script.specs.declared.outcome.Outcome.TheVariants as outcomes

@@ -7,7 +7,7 @@ use Rattle.trace_command.specs.declared.command.Config.{Config}
 use Rattle.trace_command.specs.declared.command.Entry.{Entry}
 use Rattle.trace_command.specs.declared.command.Reply.{Reply}
 use Rattle.trace_command.specs.declared.refusal.Refusal.{Refusal}
-use Rattle.trace_items.specs.ScriptLines.{lines_of}
+use Rattle.script_reader.specs.ScriptLines.{lines_of}
 use Rattle.trace_script.specs.Lines.{line_of}
 use Rattle.trace_script.specs.Rendering.{rendered}
 use Rattle.trace_script.specs.declared.fault.ScriptFault.{ScriptFault}

@@ -1,4 +1,4 @@
-//! What a session writes to; what it reads from is a `Source` of trace_items. Contracts see its bytes and what it heard, if the device states them,
+//! What a session writes to; what it reads from is a `Source` of script_reader. Contracts see its bytes and what it heard, if the device states them,
 //! and how many of its calls failed. A writer of std states the bytes that its calls took, whatever it is.
 
 ghost use Rattle.std.specs.Prelude.{◌≡◌, ℕ, Bool, false, List, [], ◌∷◌, Option, None, Some, length};
@@ -7,10 +7,10 @@ ghost use Rattle.std.specs.Io.KnownBytes.{Appends, WriteAppends};
 ghost use Rattle.trace_session.specs.Devices.{Appends_prop, failures_after_write};
 ghost use Rattle.trace_session.specs.Heard.{Heard, Hears, heard_of};
 
+use script_reader::Told;
 use std::io;
 use std::io::Write;
 use std::snapshot::Snapshot;
-use trace_items::Told;
 use trace_script::Outcome;
 
 /// What takes the bytes that a session writes.

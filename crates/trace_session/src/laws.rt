@@ -3,7 +3,7 @@
 ghost use Rattle.trace_session.specs.PartExamples.{HasOnly, end_out_of_place, end_out_of_place_session, part_without_end, part_without_end_session, part_in_a_part, part_in_a_part_session, command_before_threads, command_before_threads_session, fault_in_a_part, fault_in_a_part_session, nine_threads, nine_threads_session};
 ghost use Rattle.trace_session.specs.PartLaws.{OneThreadHasOneSession, OneThreadBeginsOneSession};
 
-pub use trace_items::laws::parts_have_few_threads;
+pub use script_reader::laws::parts_have_few_threads;
 
 /// A script with no line `parallel` has one lawful session, that of one thread.
 pub fn one_thread_has_one_session()

@@ -18,7 +18,7 @@ mod step;
 mod told;
 
 pub use device::{Output, Sink};
+pub use script_reader::{Input, MOST_SCRIPT_BYTES, Source, item, part};
 pub use session::run_session;
 pub use status::Status;
-pub use trace_items::{Input, MOST_SCRIPT_BYTES, Source, item, part};
 pub use trace_workers::{Gate, OpenGate, Point};

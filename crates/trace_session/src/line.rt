@@ -9,12 +9,12 @@ ghost use Rattle.trace_script.specs.PlainEmissions.{emission_said};
 ghost use Rattle.trace_session.specs.Passes.{IsSessionPass, IsRefusedEarly, progress_of};
 ghost use Rattle.trace_session.specs.Sessions.{Progress, answered, is_fault, turn_of};
 
+use script_reader::Stop;
 use std::sync::Wait;
 use ticket_lock::{Pass, TicketLock};
 use trace_book::Book;
 use trace_command::{BorrowedEmission, Command, Refusal};
 use trace_format::BorrowedPair;
-use trace_items::Stop;
 use trace_script::{EmissionHead, Line, Outcome, ScriptFault};
 use trace_workers::{ask, ask_emission};
 

@@ -1,15 +1,15 @@
 //! The output of a session's lines.
 
 ghost use Rattle.std.specs.Prelude.{◌≡◌, [], ◌++◌, OnOk, IsErrOf};
-ghost use Rattle.trace_items.specs.Sources.{HasRisen};
+ghost use Rattle.script_reader.specs.Sources.{HasRisen};
 ghost use Rattle.trace_session.specs.Devices.{AppendsFront, Passes};
 ghost use Rattle.trace_session.specs.Sessions.{text_of};
 
 use crate::device::Sink;
 use crate::replies::Replies;
+use script_reader::Stop;
 use std::alloc::Global;
 use trace_command::Reply;
-use trace_items::Stop;
 use trace_script::{Outcome, render};
 
 /// Appends the output of the line with this number to the replies: a reply's bytes as they are, anything else rendered. A command without a reply has

@@ -3,25 +3,25 @@
 ghost use Rattle.std.specs.Prelude.{◌≡◌, ◌≤◌, List, true, vec_len, IfOk, OnOk, IsErrOf};
 ghost use Rattle.ticket_lock.specs.Calls.{view_of, IsOf};
 ghost use Rattle.trace_command.specs.declared.command.Config.{Config};
-ghost use Rattle.trace_items.specs.PartReads.{commands_in};
+ghost use Rattle.script_reader.specs.PartReads.{commands_in};
 ghost use Rattle.trace_session.specs.Gated.{commands_asked};
 ghost use Rattle.trace_session.specs.Parts.{Given, PartMayGive};
-ghost use Rattle.trace_parts.specs.ThreadTexts.{told_if};
+ghost use Rattle.thread_output.specs.ThreadTexts.{told_if};
 ghost use Rattle.trace_session.specs.PartTexts.{AreOutcomesOf};
 ghost use Rattle.trace_session.specs.Passes.{IsSessionPass, progress_of};
 ghost use Rattle.trace_session.specs.Sessions.{status_of};
-ghost use Rattle.trace_parts.specs.declared.outcome_at.OutcomeAt.{OutcomeAt};
+ghost use Rattle.thread_output.specs.declared.outcome_at.OutcomeAt.{OutcomeAt};
 ghost use Rattle.trace_workers.specs.Gates.{LetsAllPass, StopsOne};
 
 use crate::environment::Environment;
 use crate::part_split::split_threads;
 use crate::part_text::{PartOutput, write_threads};
+use script_reader::Stop;
+use script_reader::part_line::PartLine;
 use std::sync::Wait;
 use std::thread::Threads;
 use ticket_lock::Pass;
 use trace_book::Book;
-use trace_items::Stop;
-use trace_items::part_line::PartLine;
 use trace_workers::{BlockFault, Gate, run_block_of};
 
 /// Runs the threads of a part concurrently, and returns the output and, if somebody is told, each command's outcome.

@@ -1,13 +1,13 @@
 //! The lines of a part's threads, separated from their numbers.
 
 ghost use Rattle.std.specs.Prelude.{◌≡◌, map, IfOk};
-ghost use Rattle.trace_items.specs.PartReads.{asked_of, commands_in};
+ghost use Rattle.script_reader.specs.PartReads.{asked_of, commands_in};
 ghost use Rattle.trace_session.specs.PartTexts.{asked_command, items_in};
 ghost use Rattle.trace_workers.specs.BlockRuns.{commands_of};
 
 use crate::part_line::AskedLine;
+use script_reader::part_line::PartLine;
 use std::alloc::{AllocError, Global};
-use trace_items::part_line::PartLine;
 
 /// The numbers and the lines of a thread.
 fn split_thread<'a>(

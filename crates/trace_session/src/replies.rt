@@ -2,13 +2,13 @@
 
 ghost use Rattle.std.specs.Prelude.{◌≡◌, ℕ, ◌+◌, ◌<◌, ◌≤◌, List, [], ◌++◌, length, take, IfOk, OnOk, OnErr, IsErrOf};
 ghost use Rattle.std.specs.Io.KnownBytes.{Appends};
-ghost use Rattle.trace_items.specs.Sources.{HasRisen};
+ghost use Rattle.script_reader.specs.Sources.{HasRisen};
 ghost use Rattle.trace_session.specs.Devices.{AppendsFront, Passes};
 
 use crate::device::Sink;
+use script_reader::Stop;
 use std::alloc::{AllocError, Global};
 use std::marker::Model;
-use trace_items::Stop;
 
 /// The bytes of a piece.
 const PIECE_BYTES: usize = 8192;

@@ -1,8 +1,8 @@
 //! Outcomes of lines and parts, written and told to a writer that hears.
 
 ghost use Rattle.std.specs.Prelude.{◌≡◌, ◌≤◌, ◌↔◌, ℕ, List, [], ◌∷◌, ◌++◌, map, IfOk, IsSome, OnOk, OnErr, IsErrOf};
-ghost use Rattle.trace_items.specs.ScriptLines.{lines_of};
-ghost use Rattle.trace_items.specs.Sources.{HasRisen};
+ghost use Rattle.script_reader.specs.ScriptLines.{lines_of};
+ghost use Rattle.script_reader.specs.Sources.{HasRisen};
 ghost use Rattle.trace_session.specs.Devices.{AppendsFront, Passes};
 ghost use Rattle.trace_session.specs.Heard.{Hears, IsWrittenFirst, heard_of};
 ghost use Rattle.trace_session.specs.private.HeardItems.{AreInOrder, IsLeft, heard_each, left_at};
@@ -13,9 +13,9 @@ use crate::output::write_outcome;
 use crate::part_text::PartOutput;
 use crate::replies::Replies;
 use crate::status::Status;
+use script_reader::{LinesFrom, Stop};
 use std::alloc::Global;
-use trace_items::{LinesFrom, Stop};
-use trace_parts::OutcomeAt;
+use thread_output::OutcomeAt;
 use trace_script::Outcome;
 
 /// The status of a single line.

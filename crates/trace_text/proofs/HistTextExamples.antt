@@ -7,8 +7,8 @@ use Rattle.trace_trigger.specs.HistLists.{lists_of}
 use Rattle.trace_trigger.specs.HistOffsets.{attribute_offsets, name_offsets, key_offsets, value_offsets, sort_offsets, wrong_offsets}
 use Rattle.trace_trigger.specs.Frames.{filter_of}
 use Rattle.trace_trigger.specs.HistTexts.{read_of, spec_from, spec_of}
-use Rattle.trace_entries.specs.Buckets.{log2_of}
-use Rattle.trace_entries.specs.PrintOrder.{printed}
+use Rattle.hist_entries.specs.Buckets.{log2_of}
+use Rattle.hist_entries.specs.PrintOrder.{printed}
 use Rattle.trace_hist.specs.Groups.{grouped}
 use Rattle.trace_text.specs.EntryText.{entry_line}
 use Rattle.trace_text.specs.HistText.{hist_head, total_line, totals_text, one_hist}

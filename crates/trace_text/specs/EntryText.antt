@@ -3,8 +3,8 @@ use Rattle.std.specs.Prelude.{ℕ, ◌-◌, false, ℤ, List, ◌++◌, length, 
 use Rattle.std.specs.Fmt.{decimal, digits, signed_decimal}
 use Rattle.std.specs.List.{flat_map, join_by, zip}
 use Rattle.trace_format.specs.Cells.{Datum, Whole, Bytes}
-use Rattle.trace_entries.specs.Buckets.{pattern_of, highest_from}
-use Rattle.trace_entries.specs.HistEntries.{Entry}
+use Rattle.hist_entries.specs.Buckets.{pattern_of, highest_from}
+use Rattle.hist_entries.specs.HistEntries.{Entry}
 use Rattle.trace_trigger.specs.declared.key.Key.{Key}
 use Rattle.trace_trigger.specs.declared.modifier.Modifier.{Modifier}
 use Rattle.trace_trigger.specs.declared.modifier.Modifier.TheVariants.{Plain, Hex, Log2, Buckets}

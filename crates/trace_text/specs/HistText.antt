@@ -3,7 +3,7 @@ use Rattle.std.specs.Prelude.{ℕ, List, ◌++◌, length, Option, None, Some, c
 use Rattle.std.specs.Fmt.{decimal}
 use Rattle.std.specs.List.{flat_map, filter_map, join_by}
 use Rattle.trace_hist.specs.Groups.{Table}
-use Rattle.trace_entries.specs.PrintOrder.{printed}
+use Rattle.hist_entries.specs.PrintOrder.{printed}
 use Rattle.trace_text.specs.EntryText.{entry_line}
 use Rattle.trace_text.specs.TriggerText.{ShownHist, Trigger, Snapshot, Hist, hist_line}
 

@@ -12,7 +12,7 @@ use Rattle.trace_trigger.specs.declared.fault.TriggerFault.{TriggerFault}
 use Rattle.trace_trigger.specs.HistSpecs.{SpecSeen}
 use Rattle.trace_trigger.specs.HistTexts.{spec_of}
 use Rattle.trace_trigger.specs.HistExamples.{tick, move}
-use Rattle.trace_entries.specs.Hits.{hit_of}
+use Rattle.hist_entries.specs.Hits.{hit_of}
 use Rattle.trace_hist.specs.Groups.{grouped}
 use Rattle.trace_text.specs.TriggerText.{ShownHist}
 use Rattle.trace_text.specs.HistText.{one_hist}

@@ -3,8 +3,8 @@
 ghost use Rattle.std.specs.Prelude.{◌≡◌, ◌++◌, ◌-◌, ◌≤◌, map, replicate, codes, string_bytes, OnOk};
 ghost use Rattle.std.specs.List.{flat_map, join_by, zip};
 ghost use Rattle.trace_format.specs.Cells.{datum_of};
-ghost use Rattle.trace_entries.specs.Buckets.{pattern_of as spec_pattern_of};
-ghost use Rattle.trace_entries.specs.PrintOrder.{row_in};
+ghost use Rattle.hist_entries.specs.Buckets.{pattern_of as spec_pattern_of};
+ghost use Rattle.hist_entries.specs.PrintOrder.{row_in};
 ghost use Rattle.trace_text.specs.EntryText as texts;
 
 use crate::append::{push, push_three};

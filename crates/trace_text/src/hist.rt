@@ -2,7 +2,7 @@
 
 ghost use Rattle.std.specs.Prelude.{◌≡◌, ◌++◌, codes, map, OnOk, OnErr};
 ghost use Rattle.std.specs.List.{flat_map, filter_map, join_by};
-ghost use Rattle.trace_entries.specs.PrintOrder.{row_in, printed};
+ghost use Rattle.hist_entries.specs.PrintOrder.{row_in, printed};
 ghost use Rattle.trace_text.specs.EntryText.{entry_line};
 ghost use Rattle.trace_text.specs.HistText as texts;
 ghost use Rattle.trace_text.specs.ShownTriggers.{shown_hist, shown_trigger};

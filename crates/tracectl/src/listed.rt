@@ -2,12 +2,12 @@
 
 ghost use Rattle.std.specs.Prelude.{◌≡◌, OnOk};
 ghost use Rattle.std.specs.Io.KnownBytes.{Appends};
-ghost use Rattle.trace_list.specs.Listings.{listing};
+ghost use Rattle.file_list.specs.Listings.{listing};
 
+use file_list::Names;
 use std::alloc::Global;
 use std::io;
 use std::io::Write;
-use trace_list::Names;
 use trace_script::Outcome;
 use trace_session::{Sink, Status};
 

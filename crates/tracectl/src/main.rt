@@ -9,6 +9,7 @@ mod stop;
 
 ghost use Rattle.trace_command.specs.Configs.{IsInRange};
 
+use command_line::{Notes, Script, Stop, Words, words_of};
 use drawn::Drawn;
 use explained::Explained;
 use listed::Listed;
@@ -20,7 +21,6 @@ use std::thread::Threads;
 use stop::tell;
 use trace_command::Config;
 use trace_session::{Input, OpenGate, Output, Sink, Status, run_session};
-use trace_words::{Notes, Script, Stop, Words, words_of};
 
 /// Does the session of a script with this output, its parts on these threads, and lists the files after it, if that was asked for.
 fn session_to<R: Read + Drop, W: Sink + Drop>(

@@ -1,7 +1,7 @@
 //! What is told where the program ends before its script does.
+use command_line::Stop;
 use std::process::ExitCode;
 use trace_session::Status;
-use trace_words::Stop;
 
 /// The exit status of a configuration that is out of range.
 const BAD_VALUE: u8 = 2;

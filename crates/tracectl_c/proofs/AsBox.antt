@@ -6,8 +6,8 @@ use Rattle.std_alloc.proofs.BoxSteps.Form.{Bx}
 use Rattle.std_heap.specs.contracts.Global as Heap
 use Rattle.std_heap.specs.contracts.GlobalAllocator.TheImpl.{ghosts, dict}
 use Rattle.std_heap.proofs.Global.TheLaws as heap
-use Rattle.trace_console.specs.contracts.console.Console as Console
-use Rattle.trace_console.proofs.console.Console.TheLaws as console
+use Rattle.library_tracer.specs.contracts.console.Console as Console
+use Rattle.library_tracer.proofs.console.Console.TheLaws as console
 use Rattle.tracectl_c.specs.contracts.parts.Parts as Parts
 use Rattle.tracectl_c.specs.contracts.sealed.Sealed as Sealed
 

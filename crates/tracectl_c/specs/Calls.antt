@@ -8,9 +8,9 @@ use Rattle.trace_command.specs.declared.refusal.Refusal.TheVariants.{BadValue}
 use Rattle.trace_format.specs.declared.field_value.FieldValue.{FieldValue}
 use Rattle.trace_history.specs.Waiting.{waiting}
 use Rattle.trace_live.specs.Lives.{most_done}
-use Rattle.trace_console.specs.Consoles.{Asked, ComesTo, StandsFor, after_values, with_last}
-use Rattle.trace_console.specs.ConsolesSeen.{ConsoleSeen}
-use Rattle.trace_console.specs.Statuses.{offset_in, reply_in, status_of}
+use Rattle.library_tracer.specs.Consoles.{Asked, ComesTo, StandsFor, after_values, with_last}
+use Rattle.library_tracer.specs.ConsolesSeen.{ConsoleSeen}
+use Rattle.library_tracer.specs.Statuses.{offset_in, reply_in, status_of}
 use Rattle.trace_script.specs.declared.outcome.Outcome.TheVariants.{Refused}
 use Rattle.tracectl_c.specs.declared.Settings.{Settings}
 

@@ -7,7 +7,7 @@ use denote.RawPtr.{Ptr}
 use Rattle.std.specs.Box.Ownership.{box_owns}
 use Rattle.std.specs.Global.{Global}
 use Rattle.std_heap.specs.contracts.GlobalAllocator.TheImpl.{ghosts}
-use Rattle.trace_console.specs.contracts.console.Console.{the_row}
+use Rattle.library_tracer.specs.contracts.console.Console.{the_row}
 
 -- what a contract sees of a console
 abbrev pub Seen : Type 0

@@ -6,8 +6,8 @@ ghost use Rattle.trace_command.specs.Configs.{IsInRange};
 ghost use Rattle.trace_command.specs.declared.command.Command.{Command as CommandValue};
 ghost use Rattle.trace_command.specs.declared.command.Command.TheVariants as commands;
 ghost use Rattle.trace_live.specs.Lives.{most_done};
-ghost use Rattle.trace_console.specs.Consoles.{ComesTo, StandsFor, after_command, after_emission, after_line, after_listing, opened};
-ghost use Rattle.trace_console.specs.Statuses.{status_of};
+ghost use Rattle.library_tracer.specs.Consoles.{ComesTo, StandsFor, after_command, after_emission, after_line, after_listing, opened};
+ghost use Rattle.library_tracer.specs.Statuses.{status_of};
 ghost use Rattle.tracectl_c.specs.GivenValues.{values_in};
 ghost use Rattle.tracectl_c.specs.Handles.{console_of};
 ghost use Rattle.tracectl_c.specs.Calls.{Does, WasAsked, TellsDone, TellsWaiting, after_given, config_of, limit_of, offset_read, reply_read, waiting_number};
@@ -19,10 +19,10 @@ mod sealed;
 mod value;
 
 use handle::Handle;
+use library_tracer::Console;
 use std::alloc::{AllocError, Global};
 use std::slice;
 use trace_command::{Config, Refusal};
-use trace_console::Console;
 use trace_live::MOST_DONE;
 use value::{Value, value_in, values_in};
 

@@ -7,9 +7,9 @@ ghost use Rattle.tracectl_c.specs.Handles.{console_of};
 use crate::handle::{Handle, OPEN};
 use crate::parts::Parts;
 use crate::sealed::Sealed;
+use library_tracer::Console;
 use std::alloc::Global;
 use std::{mem, ptr};
-use trace_console::Console;
 
 impl Handle {
     /// Whether there is a console.

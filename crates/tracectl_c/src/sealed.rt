@@ -4,9 +4,9 @@ ghost use Rattle.std.specs.Prelude.{◌≡◌, Option, Some, None, is_some, true
 ghost use Rattle.tracectl_c.specs.Owned.{Seen, seen_coded, sealed_owns};
 
 use crate::parts::Parts;
+use library_tracer::Console;
 use std::alloc::Global;
 use std::marker::Model;
-use trace_console::Console;
 
 /// A box with a console, or nothing. It is not let go with a console in it: the console would never be.
 #[repr(C)]

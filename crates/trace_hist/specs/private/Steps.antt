@@ -2,10 +2,10 @@
 -- proofs/GroupLaws.antt.
 use Rattle.std.specs.Prelude.{◌≡◌, ℕ, pos, ◌+◌, Bool, true, false, nat_lt, if◌then◌else◌, [], ◌∷◌, ◌++◌, length, map, replicate}
 use Rattle.trace_trigger.specs.HistSpecs.{SpecSeen}
-use Rattle.trace_entries.specs.Hits.{Hit}
-use Rattle.trace_entries.specs.HistEntries.{Entry, same_key, is_among, added}
-use Rattle.trace_entries.specs.RowPlaces.{entry_keys, Unknown}
-use Rattle.trace_entries.specs.KeptEntries.{counted_once}
+use Rattle.hist_entries.specs.Hits.{Hit}
+use Rattle.hist_entries.specs.HistEntries.{Entry, same_key, is_among, added}
+use Rattle.hist_entries.specs.RowPlaces.{entry_keys, Unknown}
+use Rattle.hist_entries.specs.KeptEntries.{counted_once}
 use Rattle.trace_hist.specs.Groups.{Table}
 use Rattle.trace_hist.specs.Stored.{Kept}
 

@@ -8,15 +8,15 @@ ghost use Rattle.trace_format.specs.declared.pair.Pair.{Pair as PairSeen};
 ghost use Rattle.trace_history.specs.History.{emission_answer};
 ghost use Rattle.trace_history.specs.LateMemory.{TakesMemoryLate};
 ghost use Rattle.trace_history.specs.Settings.{declared_events, ticks};
-ghost use Rattle.trace_state.specs.States.{IsPrepared, IsPreparedEmission};
-ghost use Rattle.trace_state.specs.ValueEmissions.{values_emission};
+ghost use Rattle.tracer_state.specs.States.{IsPrepared, IsPreparedEmission};
+ghost use Rattle.tracer_state.specs.ValueEmissions.{values_emission};
 ghost use Rattle.trace_live.specs.Lives.{IsLive, IsPreparedWithin, IsReadyFor, CanDeliver, limited_answer, most_done};
 
 use super::Live;
 use crate::discard::let_go_change;
 use trace_command::{Command, Refusal, Reply};
 use trace_format::{BorrowedPair, FieldValue};
-use trace_state::Prepared;
+use tracer_state::Prepared;
 
 impl Live {
     /// Looks at a command other than an emission, and allocates what it needs: its change and its reply, or its refusal. It is refused with

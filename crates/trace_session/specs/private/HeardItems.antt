@@ -2,12 +2,12 @@
 use Rattle.std.specs.Prelude.{ℕ, ◌≤◌, List, [], ◌∷◌, map, Option, Some}
 use Rattle.std.specs.Option.{option_copied}
 use Rattle.trace_command.specs.declared.command.Config.{Config}
-use Rattle.trace_items.specs.PartReads.{commands_in, IsLineAt}
-use Rattle.trace_items.specs.ScriptLines.{lines_of, lines_left}
-use Rattle.trace_items.specs.declared.item.ItemRead.TheVariants as reads
-use Rattle.trace_items.specs.declared.item.ItemRead.{ItemRead}
-use Rattle.trace_items.specs.declared.lines_from.LinesFrom.{LinesFrom}
-use Rattle.trace_parts.specs.declared.outcome_at.OutcomeAt.{OutcomeAt}
+use Rattle.script_reader.specs.PartReads.{commands_in, IsLineAt}
+use Rattle.script_reader.specs.ScriptLines.{lines_of, lines_left}
+use Rattle.script_reader.specs.declared.item.ItemRead.TheVariants as reads
+use Rattle.script_reader.specs.declared.item.ItemRead.{ItemRead}
+use Rattle.script_reader.specs.declared.lines_from.LinesFrom.{LinesFrom}
+use Rattle.thread_output.specs.declared.outcome_at.OutcomeAt.{OutcomeAt}
 use Rattle.trace_script.specs.declared.outcome.Outcome.TheVariants.{Fault}
 use Rattle.trace_session.specs.Heard.{Heard, Hears, heard_of, heard_lines, line_at, numbers_in}
 use Rattle.trace_session.specs.Parts.{Given}

@@ -2,9 +2,9 @@
 use Rattle.std.specs.Prelude.{◌≡◌, ℕ, Bool, List, [], ◌++◌, Option, IsSome}
 use Rattle.std.specs.List.{concat}
 use Rattle.trace_command.specs.declared.command.Config.{Config}
-use Rattle.trace_items.specs.Items.{Item, items_of}
-use Rattle.trace_items.specs.NextItems.{item_read}
-use Rattle.trace_items.specs.declared.item.ItemRead.{ItemRead}
+use Rattle.script_reader.specs.Items.{Item, items_of}
+use Rattle.script_reader.specs.NextItems.{item_read}
+use Rattle.script_reader.specs.declared.item.ItemRead.{ItemRead}
 use Rattle.trace_session.specs.Devices.{AppendsFront, Passes}
 use Rattle.trace_session.specs.Fronts.{IsStopped}
 use Rattle.trace_session.specs.Gated.{LetsGivenPass}

@@ -1,6 +1,6 @@
 use Rattle.std.proofs.Common.{◌≡◌, List, Option, subst, to_z, of_z, w32, rules, arith}
 use Rattle.std.proofs.lemmas.Int.{to_z-of_z}
-use Rattle.trace_console.specs.Consoles.{ComesTo}
+use Rattle.library_tracer.specs.Consoles.{ComesTo}
 use Rattle.trace_format.specs.declared.field_value.FieldValue.{FieldValue}
 use Rattle.tracectl_c.specs.Calls.{after_given}
 use Rattle.tracectl_c.proofs.ValueLemmas.{lone_read}

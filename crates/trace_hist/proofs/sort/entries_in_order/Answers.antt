@@ -1,7 +1,7 @@
 use Rattle.std.proofs.Common.{◌≡◌, map, take, ap, ◌∙◌, rules}
-use Rattle.trace_entries.specs.PrintOrder.{row_in, printed, IsPrintOrder}
-use Rattle.trace_entries.specs.KeptEntries.{entries_in}
-use Rattle.trace_entries.proofs.PrintLaws.{printed_is_in_print_order, one_print_order}
+use Rattle.hist_entries.specs.PrintOrder.{row_in, printed, IsPrintOrder}
+use Rattle.hist_entries.specs.KeptEntries.{entries_in}
+use Rattle.hist_entries.proofs.PrintLaws.{printed_is_in_print_order, one_print_order}
 use Rattle.trace_hist.proofs.sort.entries_in_order.Goals as goal
 
 pub returns : goal.returns

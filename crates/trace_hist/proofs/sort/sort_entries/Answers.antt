@@ -1,8 +1,8 @@
 use Rattle.std.proofs.Common.{rules}
 use Rattle.std.proofs.lemmas.Fn.{always_returns_same}
 use Rattle.std.proofs.lemmas.Result.{on_ok_weaker}
-use Rattle.trace_entries.specs.PrintOrder.{comes_before, row_in}
-use Rattle.trace_entries.proofs.Printing.{entry_order, print_order}
+use Rattle.hist_entries.specs.PrintOrder.{comes_before, row_in}
+use Rattle.hist_entries.proofs.Printing.{entry_order, print_order}
 use Rattle.trace_hist.proofs.sort.sort_entries.Goals as goal
 
 pub returns : goal.returns

@@ -1,6 +1,6 @@
 use Rattle.std.proofs.Common.{◌≡◌, ◌++◌, map}
-use Rattle.trace_items.specs.PartReads.{asked_of}
-use Rattle.trace_items.specs.declared.part.Numbered.{Numbered}
+use Rattle.script_reader.specs.PartReads.{asked_of}
+use Rattle.script_reader.specs.declared.part.Numbered.{Numbered}
 use Rattle.trace_session.specs.PartTexts.{asked_command}
 use Rattle.trace_session.proofs.part_split.split_thread.Given as goal
 

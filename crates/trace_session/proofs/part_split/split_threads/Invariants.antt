@@ -1,6 +1,6 @@
 use Rattle.std.proofs.Common.{◌≡◌, ◌++◌, map}
-use Rattle.trace_items.specs.PartReads.{commands_in}
-use Rattle.trace_items.specs.declared.part.Numbered.{Numbered}
+use Rattle.script_reader.specs.PartReads.{commands_in}
+use Rattle.script_reader.specs.declared.part.Numbered.{Numbered}
 use Rattle.trace_session.specs.PartTexts.{asked_command, items_in}
 use Rattle.trace_workers.specs.BlockRuns.{commands_of}
 use Rattle.trace_session.proofs.part_split.split_threads.Given as goal

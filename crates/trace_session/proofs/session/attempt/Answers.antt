@@ -3,9 +3,9 @@ use Rattle.std.proofs.lemmas.List.{append-nil}
 use Rattle.std.proofs.lemmas.Result.{err_from_is_err_and}
 use Rattle.ticket_lock.specs.Calls.{view_of}
 use Rattle.trace_command.specs.declared.command.Config.{Config}
-use Rattle.trace_items.specs.Sources.{Gives, GivesAtMost, GivesMore, GivesScript}
-use Rattle.trace_items.specs.declared.stop.Stop.{Stop}
-use Rattle.trace_items.specs.declared.stop.Stop.TheVariants.{Memory, Device, Stopped}
+use Rattle.script_reader.specs.Sources.{Gives, GivesAtMost, GivesMore, GivesScript}
+use Rattle.script_reader.specs.declared.stop.Stop.{Stop}
+use Rattle.script_reader.specs.declared.stop.Stop.TheVariants.{Memory, Device, Stopped}
 use Rattle.trace_session.specs.Heard.{Heard}
 use Rattle.trace_session.specs.Fronts.{AppendsSession, AppendsBegun, AppendsBegunFront, AppendsStopped}
 use Rattle.trace_session.specs.Passes.{IsSessionPass}

@@ -2,9 +2,9 @@ use Rattle.std.proofs.Common.{◌≡◌, ◌+◌, ◌∷◌, ◌∙◌, refl, ar
 use Rattle.std.proofs.lemmas.Result.{err_from_is_err_and}
 use Rattle.std.specs.Option.{option_copied}
 use Rattle.ticket_lock.specs.Calls.{view_of}
-use Rattle.trace_items.specs.Items.{Single}
-use Rattle.trace_items.specs.NextItems.{item_read}
-use Rattle.trace_items.specs.ScriptLines.{lines_of, lines_left}
+use Rattle.script_reader.specs.Items.{Single}
+use Rattle.script_reader.specs.NextItems.{item_read}
+use Rattle.script_reader.specs.ScriptLines.{lines_of, lines_left}
 use Rattle.trace_session.specs.Passes.{progress_of}
 use Rattle.trace_session.proofs.Standing.{begins, few, keeps, at_fault, at_device, at_part, at_stop, at_stop_here, at_end}
 use Rattle.trace_session.proofs.HearingAll.{emission_heard, item_heard, left_next, left_later}

@@ -2,7 +2,7 @@ use Rattle.std.proofs.Common.{◌≡◌, ◌+◌, ◌≤◌, length}
 use Rattle.std.specs.Option.{option_copied}
 use Rattle.ticket_lock.specs.Calls.{view_of, IsOf}
 use Rattle.trace_command.specs.declared.command.Config.{Config}
-use Rattle.trace_items.specs.ScriptLines.{bytes_left}
+use Rattle.script_reader.specs.ScriptLines.{bytes_left}
 use Rattle.trace_session.specs.Passes.{IsSessionPass, progress_of}
 use Rattle.trace_session.proofs.Standing.{Stands}
 use Rattle.trace_session.proofs.session.do_items.Given as goal

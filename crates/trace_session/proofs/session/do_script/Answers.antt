@@ -2,8 +2,8 @@ use Rattle.std.proofs.Common.{rules, ◌≢◌, List, ℕ, Bool, Option, Some, R
 use Rattle.std.proofs.lemmas.Result.{err_from_is_err_and}
 use Rattle.ticket_lock.specs.Calls.{view_of}
 use Rattle.trace_command.specs.declared.command.Config.{Config}
-use Rattle.trace_items.specs.declared.stop.Stop.{Stop}
-use Rattle.trace_items.specs.declared.stop.Stop.TheVariants.{Memory, Device, Stopped}
+use Rattle.script_reader.specs.declared.stop.Stop.{Stop}
+use Rattle.script_reader.specs.declared.stop.Stop.TheVariants.{Memory, Device, Stopped}
 use Rattle.trace_session.specs.Devices.{AppendsFront}
 use Rattle.std.specs.Io.KnownBytes.{Appends}
 use Rattle.trace_session.specs.Heard.{Heard}

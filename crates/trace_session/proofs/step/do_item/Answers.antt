@@ -1,9 +1,9 @@
 use Rattle.std.proofs.Common.{Result, Ok, Err, OnOk, ap, sym, subst}
 use Rattle.ticket_lock.specs.Calls.{view_of}
 use Rattle.trace_command.specs.declared.command.Config.{Config}
-use Rattle.trace_items.specs.Items.{Item}
-use Rattle.trace_items.specs.NextItems.{item_read}
-use Rattle.trace_items.specs.declared.stop.Stop.{Stop}
+use Rattle.script_reader.specs.Items.{Item}
+use Rattle.script_reader.specs.NextItems.{item_read}
+use Rattle.script_reader.specs.declared.stop.Stop.{Stop}
 use Rattle.trace_session.specs.declared.status.Status.{Status}
 use Rattle.trace_session.specs.private.StepFronts.{AppendsItem}
 use Rattle.trace_session.specs.Passes.{IsSessionPass, progress_of}

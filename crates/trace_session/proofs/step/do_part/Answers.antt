@@ -1,14 +1,14 @@
 use Rattle.std.proofs.Common.{◌≡◌, ℕ, Bool, false, List, ◌++◌, Option, None, Result, Ok, Err, IfOk, IsErrOf, IsSome, OnOk, [], refl, ap, sym, subst, ◌∙◌}
 use Rattle.ticket_lock.specs.Calls.{view_of}
 use Rattle.trace_command.specs.declared.command.Config.{Config}
-use Rattle.trace_items.specs.Items.{Threads}
-use Rattle.trace_items.specs.PartReads.{commands_in}
-use Rattle.trace_items.specs.ScriptLines.{lines_of}
-use Rattle.trace_items.specs.declared.part.Numbered.{Numbered}
-use Rattle.trace_items.specs.declared.stop.Stop.{Stop}
-use Rattle.trace_items.specs.declared.stop.Stop.TheVariants.{Device, Stopped}
-use Rattle.trace_parts.specs.ThreadTexts.{told_if}
-use Rattle.trace_parts.specs.declared.outcome_at.OutcomeAt.{OutcomeAt}
+use Rattle.script_reader.specs.Items.{Threads}
+use Rattle.script_reader.specs.PartReads.{commands_in}
+use Rattle.script_reader.specs.ScriptLines.{lines_of}
+use Rattle.script_reader.specs.declared.part.Numbered.{Numbered}
+use Rattle.script_reader.specs.declared.stop.Stop.{Stop}
+use Rattle.script_reader.specs.declared.stop.Stop.TheVariants.{Device, Stopped}
+use Rattle.thread_output.specs.ThreadTexts.{told_if}
+use Rattle.thread_output.specs.declared.outcome_at.OutcomeAt.{OutcomeAt}
 use Rattle.trace_session.specs.Devices.{AppendsFront, Passes}
 use Rattle.trace_session.specs.private.StepFronts.{AppendsItem}
 use Rattle.trace_session.specs.Heard.{Heard, Hears, IsWrittenFirst, heard_lines, numbers_in}

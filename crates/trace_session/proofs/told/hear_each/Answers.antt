@@ -1,9 +1,9 @@
 use Rattle.std.proofs.Common.{ℕ, List, ◌∷◌, Some, map, subst, ◌∙◌}
 use Rattle.std.specs.Option.{option_copied}
-use Rattle.trace_items.specs.ScriptLines.{lines_of, lines_left}
+use Rattle.script_reader.specs.ScriptLines.{lines_of, lines_left}
 use Rattle.trace_session.specs.Heard.{Heard, line_at}
 use Rattle.trace_session.specs.private.HeardItems.{heard_each}
-use Rattle.trace_parts.specs.declared.outcome_at.OutcomeAt.{OutcomeAt}
+use Rattle.thread_output.specs.declared.outcome_at.OutcomeAt.{OutcomeAt}
 use Rattle.trace_session.proofs.Hearing.{HearsOn, LeftInOrder, hears_next, next_is_left, same_line, left_after}
 use Rattle.trace_session.proofs.told.hear_each.Goals as goal
 

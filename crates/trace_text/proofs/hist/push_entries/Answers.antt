@@ -1,6 +1,6 @@
 use Rattle.std.proofs.Common.{ap, map}
 use Rattle.trace_format.proofs.LoopLemmas.{left}
-use Rattle.trace_entries.specs.PrintOrder.{row_in}
+use Rattle.hist_entries.specs.PrintOrder.{row_in}
 use Rattle.trace_text.specs.EntryText.{entry_line}
 use Rattle.trace_text.proofs.LoopLemmas.{one_more}
 use Rattle.trace_text.proofs.hist.push_entries.Goals as goal

@@ -1,6 +1,6 @@
 use Rattle.std.proofs.Common.{◌≡◌, ◌++◌, map, drop}
 use Rattle.std.specs.List.{flat_map}
-use Rattle.trace_entries.specs.PrintOrder.{row_in}
+use Rattle.hist_entries.specs.PrintOrder.{row_in}
 use Rattle.trace_text.specs.EntryText.{entry_line}
 use Rattle.trace_text.proofs.hist.push_entries.Given as goal
 

@@ -1,11 +1,11 @@
 use Rattle.std.proofs.Common.{◌≤◌, map, ap, ◌∙◌, subst, arith}
 use Rattle.std.specs.List.{IsDistinct}
-use Rattle.trace_entries.specs.Hits.{hit_of, number_at}
-use Rattle.trace_entries.specs.HistEntries.{same_key}
-use Rattle.trace_entries.specs.RowPlaces.{entry_keys, most_rows}
-use Rattle.trace_entries.specs.KeptEntries.{entries_in, counted_at}
+use Rattle.hist_entries.specs.Hits.{hit_of, number_at}
+use Rattle.hist_entries.specs.HistEntries.{same_key}
+use Rattle.hist_entries.specs.RowPlaces.{entry_keys, most_rows}
+use Rattle.hist_entries.specs.KeptEntries.{entries_in, counted_at}
 use Rattle.trace_hist.specs.Stored.{Kept}
-use Rattle.trace_entries.proofs.TableLemmas.{counted-le, keys-counted}
+use Rattle.hist_entries.proofs.TableLemmas.{counted-le, keys-counted}
 use Rattle.trace_hist.proofs.Counting.{reserved-at, seen-at, seen-dropped, not-unknown, left-shown, left-size, left-end}
 use Rattle.trace_hist.proofs.counts.Counts.count.Goals as goal
 

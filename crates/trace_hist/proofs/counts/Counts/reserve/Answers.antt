@@ -1,10 +1,10 @@
 use Rattle.std.proofs.Common.{◌≡◌, ◌≢◌, false, sym, ap, ◌∙◌, subst, rules}
-use Rattle.trace_entries.specs.HistEntries.{is_among}
-use Rattle.trace_entries.specs.RowPlaces.{In, entry_keys}
-use Rattle.trace_entries.specs.KeptEntries.{entries_in, key_of}
+use Rattle.hist_entries.specs.HistEntries.{is_among}
+use Rattle.hist_entries.specs.RowPlaces.{In, entry_keys}
+use Rattle.hist_entries.specs.KeptEntries.{entries_in, key_of}
 use Rattle.trace_hist.specs.Stored.{Kept}
 use Rattle.trace_hist.proofs.Counting.{unreserved-new}
-use Rattle.trace_entries.proofs.Reserving.{among-take}
+use Rattle.hist_entries.proofs.Reserving.{among-take}
 use Rattle.trace_hist.proofs.counts.Counts.reserve.Goals as goal
 
 pub returns-in-Err-clause-new : goal.returns-in-Err-clause-new

@@ -1,9 +1,9 @@
 use Rattle.std.proofs.Common.{◌≡◌, ◌≢◌, false, ℤ, to_z, of_z, sym, ap, ◌∙◌, subst, OnOk, OnErr, rules}
 use Rattle.std.specs.Int.{w32}
 use Rattle.trace_format.specs.Operands.{Emission}
-use Rattle.trace_entries.specs.HistEntries.{is_among}
-use Rattle.trace_entries.specs.RowPlaces.{In, IsPlaceOf, entry_keys}
-use Rattle.trace_entries.specs.Hits.{hit_of}
+use Rattle.hist_entries.specs.HistEntries.{is_among}
+use Rattle.hist_entries.specs.RowPlaces.{In, IsPlaceOf, entry_keys}
+use Rattle.hist_entries.specs.Hits.{hit_of}
 use Rattle.trace_hist.specs.Hists.{Seen}
 use Rattle.trace_hist.proofs.Histograms.{idle-reserved, told-reserved, told-unchanged, told-needed}
 use Rattle.trace_hist.proofs.hist.Hist.reserve_hit_as.Goals as goal

@@ -3,9 +3,9 @@ use Rattle.std.proofs.lemmas.Int.{to_z-of_z}
 use Rattle.trace_command.specs.Refusals.{IsRefusal}
 use Rattle.trace_command.specs.declared.command.Reply.TheVariants.{Done}
 use Rattle.trace_history.specs.Settings.{declared_events}
-use Rattle.trace_state.specs.States.{IsPreparedEmission}
-use Rattle.trace_state.specs.ValueEmissions.{values_emission}
-use Rattle.trace_state.proofs.NumberedEvents.{not-late}
+use Rattle.tracer_state.specs.States.{IsPreparedEmission}
+use Rattle.tracer_state.specs.ValueEmissions.{values_emission}
+use Rattle.tracer_state.proofs.NumberedEvents.{not-late}
 use Rattle.trace_live.specs.Lives.{limited_answer}
 use Rattle.trace_live.proofs.Calls.{call-done, call-refused}
 use Rattle.trace_live.proofs.live.Live.ask_values_within.Goals as goal

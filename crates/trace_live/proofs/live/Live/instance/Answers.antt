@@ -1,7 +1,7 @@
 use Rattle.std.proofs.Common.{◌≡◌, ℕ, Option, Some, None, is_some, sym, ap, ◌∙◌, rules}
 use Rattle.std.specs.Option.{option_map}
 use Rattle.trace_command.specs.FileNames.{bytes_now}
-use Rattle.trace_state.proofs.Making.{there-index, found-stands}
+use Rattle.tracer_state.proofs.Making.{there-index, found-stands}
 use Rattle.trace_live.proofs.live.Live.instance.Goals as goal
 
 pub returns-in_err-index-clause-there : goal.returns-in_err-index-clause-there

@@ -1,5 +1,5 @@
 use Rattle.std.proofs.Common.{◌∙◌}
-use Rattle.trace_state.proofs.MadeNames.{made-name}
+use Rattle.tracer_state.proofs.MadeNames.{made-name}
 use Rattle.trace_live.proofs.live.Live.instance_name.Goals as goal
 
 pub returns : goal.returns

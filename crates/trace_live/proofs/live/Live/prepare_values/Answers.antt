@@ -1,7 +1,7 @@
 use Rattle.std.proofs.Common.{◌≡◌, refl, arith, rules, to_z, of_z, w32}
 use Rattle.std.proofs.lemmas.Int.{to_z-of_z}
 use Rattle.trace_history.specs.Settings.{declared_events}
-use Rattle.trace_state.specs.ValueEmissions.{values_emission}
+use Rattle.tracer_state.specs.ValueEmissions.{values_emission}
 use Rattle.trace_live.specs.LiveFields.{seen}
 use Rattle.trace_live.proofs.Limits.{full-refusal, limited-refusal}
 use Rattle.trace_live.proofs.Living.{live-alike, live-usable}

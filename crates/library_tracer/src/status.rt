@@ -1,0 +1,64 @@
+//! Outcomes as numbers, and what of them is text.
+
+ghost use Rattle.std.specs.Prelude.{◌≡◌, Option, None, Some};
+ghost use Rattle.library_tracer.specs.Statuses.{fault_number, offset_in, reply_in, status_of};
+
+use trace_command::{Refusal, Reply};
+use trace_script::{Outcome, ScriptFault};
+
+/// The status of a line's first fault is above this number.
+const FAULTS: u32 = 100;
+
+/// The number of a script fault, from 1 to 8, in the order in which faults are looked for.
+fn fault_number(fault: ScriptFault) -> u32
+    ensures { result ≡ fault_number fault }
+{
+    match fault {
+        ScriptFault::LineTooLong => 1,
+        ScriptFault::BadByte => 2,
+        ScriptFault::UnclosedQuote => 3,
+        ScriptFault::UnknownCommand => 4,
+        ScriptFault::WrongWords => 5,
+        ScriptFault::BadNumber => 6,
+        ScriptFault::BlockOutOfPlace => 7,
+        ScriptFault::TooManyThreads => 8,
+    }
+}
+
+/// The status of an outcome: 0 if it was done, a refusal's number from 1 to 24, and for a fault 101 to 108.
+pub(crate) fn status_of(outcome: &Outcome) -> u32
+    ensures { result ≡ status_of outcome.now }
+{
+    match outcome {
+        Outcome::Replied(_) => 0,
+        Outcome::Refused(refusal) => u32::from(refusal.number()),
+        Outcome::Fault(fault) => FAULTS + fault_number(*fault),
+    }
+}
+
+/// The bytes that an outcome has: what was read, or the name of the field whose value is wrong. Other outcomes have none.
+pub(crate) fn reply_in(outcome: &Outcome) -> &[u8]
+    ensures { result.now ≡ reply_in outcome.now }
+{
+    match outcome {
+        Outcome::Replied(Reply::Text(text)) => text.as_bytes(),
+        Outcome::Refused(Refusal::BadRow { field }) => field.as_bytes(),
+        _ => &[],
+    }
+}
+
+/// Where the string that was written is wrong, as how many bytes stand before that, if the refusal tells it.
+pub(crate) fn offset_in(outcome: &Outcome) -> Option<usize>
+    ensures { result ≡ offset_in outcome.now }
+{
+    match outcome {
+        Outcome::Refused(
+            Refusal::BadDefinition { at }
+            | Refusal::FilterSyntax { at }
+            | Refusal::NoSuchField { at }
+            | Refusal::WrongOperator { at }
+            | Refusal::HistSyntax { at },
+        ) => Some(*at),
+        _ => None,
+    }
+}

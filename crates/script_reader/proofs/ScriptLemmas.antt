@@ -1,0 +1,65 @@
+-- The lines of a script.
+use Rattle.std.proofs.Common.{◌≡◌, ℕ, ◌+◌, ◌-◌, ◌==◌, ◌<◌, ◌≤◌, Bool, true, false, not, cond, ltb, List, [], ◌∷◌, length, take, drop, position, Option, Some, None, refl, ap, sym, ◌∙◌, arith}
+use Rattle.std.proofs.lemmas.List.{take_rest}
+use Rattle.std.proofs.lemmas.List.Splits.{slice_split_first}
+use borrow.Author.Tests.{ltb-true, ltb-false}
+use Rattle.std.proofs.lemmas.Option.{cond_some}
+use Rattle.std.proofs.lemmas.Bool.Decides.{nat_tests}
+use Rattle.std.proofs.lemmas.List.Sums.{position_or_len_is}
+use Rattle.memchr.specs.Find.{IsFirstByte, is_byte}
+use Rattle.std.specs.List.{onto_first, position_or_len}
+use Rattle.script_reader.specs.ScriptLines.{lines_of}
+
+no_newline_step : (t : Bool) (b : ℕ) (bs : List ℕ) (n : ℕ) (parts : List (List ℕ)) → length (b ∷ bs) ≤ cond (not t) (1 + n) 0 → (length bs ≤ n → parts ≡ bs ∷ [])
+    → cond t ([] ∷ parts) (onto_first b parts) ≡ (b ∷ bs) ∷ []
+no_newline_step true b bs n parts h rest = absurd (omega arith)
+no_newline_step false b bs n parts h rest = ap (onto_first b) (rest (omega arith))
+
+no_newline : (text : List ℕ) → length text ≤ position_or_len (λ b. b == 10) text → lines_of text ≡ text ∷ []
+no_newline [] h = refl
+no_newline (b ∷ bs) h = no_newline_step (b == 10) b bs (position_or_len (λ b. b == 10) bs) (lines_of bs) h (no_newline bs)
+
+-- a line ends at the first newline
+pub line_at : (text : List ℕ) (at : ℕ) → position (λ b. b == 10) text ≡ Some at → lines_of text ≡ take at text ∷ lines_of (take (length text - (at + 1)) (drop (at + 1) text))
+line_at text at e =
+    let p : ℕ → Bool = λ b. b == 10 in
+    let h = cond_some (ltb (position_or_len p text) (length text)) (position_or_len p text) at e in
+    slice_split_first p text 0 (ltb-true _ _ h.0)
+    ∙ (ap (λ (n : ℕ). take n text ∷ lines_of (drop (n + 1) text)) h.1
+    ∙ ap (λ (rest : List ℕ). take at text ∷ lines_of rest) (sym (take_rest text (at + 1))))
+
+none_where : (t : Bool) (n : ℕ) → cond t (Some n) None ≡ None → t ≡ false
+none_where true n e = absurd (cc)
+none_where false n e = refl
+
+-- without a newline the text is one line
+pub line_alone : (text : List ℕ) → position (λ b. b == 10) text ≡ None → lines_of text ≡ text ∷ []
+line_alone text e =
+    let p : ℕ → Bool = λ b. b == 10 in
+    let h = none_where (ltb (position_or_len p text) (length text)) (position_or_len p text) e in
+    no_newline text (omega (arith, ltb-false _ _ h))
+
+-- ---- where the first newline is
+
+not_true : (t : Bool) → (t ≡ true → ⊥) → t ≡ false
+not_true true h = absurd (h refl)
+not_true false h = refl
+
+position_some : (p : ℕ → Bool) (text : List ℕ) (at : ℕ) → position_or_len p text ≡ at → at < length text → Some at ≡ position p text
+position_some p text at e h =
+    let t : ltb at (length text) ≡ true = grind (arith, nat_tests) in
+    sym (ap (λ (n : ℕ). cond (ltb n (length text)) (Some n) None) e ∙ ap (λ (b : Bool). cond b (Some at) None) t)
+
+position_none : (p : ℕ → Bool) (text : List ℕ) → position_or_len p text ≡ length text → None ≡ position p text
+position_none p text e =
+    let t : ltb (length text) (length text) ≡ false = grind (arith, nat_tests) in
+    sym (ap (λ (n : ℕ). cond (ltb n (length text)) (Some n) None) e ∙ ap (λ (b : Bool). cond b (Some (length text)) None) t)
+
+-- the first byte that a search finds is at the first place
+pub found_at : (byte : ℕ) (text : List ℕ) (found : Option ℕ) → IsFirstByte (is_byte byte) text found → found ≡ position (is_byte byte) text
+found_at byte text None h =
+    position_none (is_byte byte) text
+    (position_or_len_is (is_byte byte) text (length text) 0 (omega arith) (λ k lt. not_true _ (h k (omega arith) lt)) (λ lt. absurd (omega arith)))
+found_at byte text (Some at) h =
+    position_some (is_byte byte) text at
+    (position_or_len_is (is_byte byte) text at 0 (omega (arith, h.0.high)) (λ k lt. not_true _ (h.0.before k (omega arith) lt)) (λ lt. h.1)) h.0.high

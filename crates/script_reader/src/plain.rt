@@ -1,0 +1,48 @@
+//! Emissions by themselves, read where they lie: most items of most scripts.
+
+ghost use Rattle.std.specs.Prelude.{◌≡◌, ℕ, List, [], ◌+◌, ◌≤◌, ◌∷◌, length, IfOk, IfSome, IfNone, IsSome, OnErr};
+ghost use Rattle.std.specs.Option.{option_copied};
+ghost use Rattle.trace_script.specs.Lines.{line_of};
+ghost use Rattle.trace_script.specs.PlainEmissions.{emission_said, IsPlainEmission};
+ghost use Rattle.script_reader.specs.Items.{Single, items_from};
+ghost use Rattle.script_reader.specs.ScriptLines.{lines_of, lines_left, bytes_left};
+
+use crate::script::first_line;
+use std::alloc::AllocError;
+use trace_format::BorrowedPair;
+use trace_script::{EmissionHead, plain_emission};
+
+/// An emission by itself, whose words lie in its line.
+#[derive(Drop)]
+pub struct PlainItem<'a> {
+    pub line: &'a [u8],
+    pub head: EmissionHead<'a>,
+    /// What follows the line, if anything does.
+    pub rest: Option<&'a [u8]>,
+}
+
+/// The item that a string begins with, if its first line is an emission that [`plain_emission`] reads. The pairs are left in a list, which keeps
+/// its room from item to item, and is empty if there is no such item or memory is refused. Every other item is left to [`crate::item::next_item`]. It
+/// fails only if memory is refused.
+#[inline(always)]
+#[tactic(auto, using(crate::proofs::ItemReading::emission_next, crate::proofs::ItemReading::first_is_plain))]
+pub fn plain_item<'a>(
+    text: &'a [u8],
+    pairs: &mut Vec<BorrowedPair<'a>>,
+) -> Result<Option<PlainItem<'a>>, AllocError>
+    ensures read { IfOk result (λ found. IfSome found (λ plain. (number : ℕ) → items_from number 0 (lines_of text.now)
+        ≡ Single number plain.line.now ∷ items_from (number + 1) 0 (lines_left (option_copied plain.rest)))) }
+    ensures lines { IfOk result (λ found. IfSome found (λ plain. lines_of text.now ≡ plain.line.now ∷ lines_left (option_copied plain.rest))) }
+    ensures said { IfOk result (λ found. IfSome found (λ plain. line_of plain.line.now ≡ emission_said plain.head pairs.new.items)) }
+    ensures shorter { IfOk result (λ found. IfSome found (λ plain. bytes_left (option_copied plain.rest) ≤ length text.now)) }
+    ensures found { IfOk result (λ found. (line : List ℕ) (lines : List (List ℕ)) → lines_of text.now ≡ line ∷ lines
+        → IsPlainEmission line → IsSome found) }
+    ensures none { IfOk result (λ found. IfNone found (pairs.new.items ≡ [])) }
+    ensures refused { OnErr result (pairs.new.items ≡ []) }
+{
+    let (line, rest) = first_line(text);
+    match plain_emission(line, pairs)? {
+        Some(head) => Ok(Some(PlainItem { line, head, rest })),
+        None => Ok(None),
+    }
+}

@@ -1,6 +1,0 @@
-use Rattle.std.proofs.Common.{◌∙◌}
-use Rattle.trace_entries.proofs.TableLemmas.{inserted}
-use Rattle.trace_entries.proofs.entries.put_last.Goals as goal
-
-pub returns : goal.returns
-returns c = c.in-Ok.ensures.entries ∙ inserted c.args.entries.now.entries c.args.key c.args.tally c.requires.new

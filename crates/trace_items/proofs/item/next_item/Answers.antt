@@ -1,6 +1,0 @@
-use Rattle.std.proofs.Common.{sym}
-use Rattle.trace_items.proofs.ItemReading.{is_parallel}
-use Rattle.trace_items.proofs.item.next_item.Goals as goal
-
-pub part_or_line-requires-clause-says : goal.part_or_line-requires-clause-says
-part_or_line-requires-clause-says c = is_parallel _ _ c.in-Ok.ensures.read (sym c.if-begins.ensures)

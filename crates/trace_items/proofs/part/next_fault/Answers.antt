@@ -1,7 +1,0 @@
-use Rattle.std.proofs.Common.{ℕ, ap, sym, ◌∙◌}
-use Rattle.trace_items.specs.Items.{fault_after}
-use Rattle.trace_items.proofs.PartReading.{length_commands}
-use Rattle.trace_items.proofs.part.next_fault.Goals as goal
-
-pub returns : goal.returns
-returns c = c.fault_after.ensures ∙ ap (λ (n : ℕ). fault_after n c.args.line.now) (sym (length_commands c.args.threads.now))

@@ -1,7 +1,0 @@
-use Rattle.trace_state.proofs.Resolving.{index-named}
-use Rattle.trace_state.proofs.resolve.event_index.Goals as goal
-
-pub returns-in-Some : goal.returns-in-Some
-returns-in-Some c =
-    let indexed = c.in-Some.ensures.index in
-    (indexed.inside, index-named c.args.catalog.now c.args.name.now c.in-Some.found.index c.in-Some.found.event.now indexed)

@@ -1,8 +1,0 @@
--- An event that was found by its name.
-use Rattle.std.specs.Prelude.{◌+◌}
-use Rattle.trace_history.specs.Settings.{NumberedEvent}
-use Rattle.trace_state.specs.declared.resolve.Found.{Found}
-
--- an event that was found, with its id
-abbrev pub numbered : Found → NumberedEvent
-numbered found = record { id = found.index + 1; event = found.event.now }

@@ -1,0 +1,201 @@
+-- Instances that are made and removed.
+use Rattle.std.proofs.Common.{◌≡◌, ℕ, ◌<◌, ◌≤◌, ltb, Bool, true, false, List, [], ◌∷◌, length, get_or, All, is_some, Option, Some, None, Result, Ok, Err, refl, sym, ◌∙◌, subst, arith}
+use Rattle.std.specs.Global.{Box}
+use Rattle.std.specs.List.{list_any}
+use Rattle.std.specs.Str.{bytes_eq}
+use Rattle.std.proofs.lemmas.Bool.{lt-ltb, false≢true}
+use Rattle.std.proofs.lemmas.Bool.Decides.{nat_tests}
+use Rattle.std.proofs.lemmas.List.Folds.{list_any_at}
+use Rattle.trace_lex.specs.Names.{is_name}
+use Rattle.trace_format.specs.Definitions.{Definition}
+use Rattle.trace_command.specs.Refusals.{IsRefusal, IsFoundEarly}
+use Rattle.trace_command.specs.Requests.{Request, MakeInstance, RemoveInstance}
+use Rattle.trace_command.specs.declared.command.Config.{Config}
+use Rattle.trace_command.specs.declared.command.Reply.{Reply}
+use Rattle.trace_command.specs.declared.command.Reply.TheVariants.{Done}
+use Rattle.trace_command.specs.declared.refusal.Refusal.{Refusal}
+use Rattle.trace_command.specs.declared.refusal.Refusal.TheVariants.{BadValue, InstanceExists, Memory, NoSuchFile, NoSuchInstance, TooMany}
+use Rattle.trace_history.specs.History.{named_answer}
+use Rattle.trace_history.specs.Settings.{declared_events, instance_names, is_enabled, is_there, kept_filter, makes}
+use Rattle.trace_history.proofs.EventLists.{map-agrees}
+use Rattle.trace_instance.specs.Changes.{IsEffect}
+use Rattle.trace_instance.specs.Instances.{InstanceStandsFor}
+use Rattle.tracer_state.specs.States.{IsPrepared, StandsFor}
+use Rattle.tracer_state.specs.declared.change.Change.TheVariants.{Make, Remove}
+use Rattle.trace_instance.specs.declared.change.InstanceChange.TheVariants.{Keep}
+use Rattle.tracer_state.specs.declared.state.Named.{Named}
+use Rattle.tracer_state.specs.declared.state.State.{State}
+use Rattle.trace_instance.proofs.Calm.{calm-effect, calm-make, calm-remove, quiet-keep}
+use Rattle.tracer_state.proofs.EachInstance.{differs-flip, length-names_of, name_at}
+use Rattle.tracer_state.proofs.Resolving.{found-there, lost-there, place_in}
+
+-- ---- which instances are there
+
+-- an instance is there exactly if it has an index
+pub there-index : (g : Config) (state : State) (past : List Request) (name : Option (List ℕ)) (found : Option ℕ) → StandsFor g state past
+    → place_in state name ≡ found → is_there name past ≡ is_some found
+there-index g state past name None stands is = lost-there g state past name (record { instance = name; file = None }) stands refl is
+there-index g state past name (Some index) stands is = (found-there g state past name (record { instance = name; file = None }) index stands refl is).0
+
+-- the instance at the index of its name is what the requests say of it
+pub found-stands : (g : Config) (state : State) (past : List Request) (name : Option (List ℕ)) (index : ℕ) (named : Named) → StandsFor g state past
+    → place_in state name ≡ Some index → named ≡ get_or state.instances.items index named → InstanceStandsFor g name past named.instance
+found-stands g state past name index named stands is at =
+    let there = found-there g state past name (record { instance = name; file = None }) index stands refl is in
+    let items = state.instances.items in
+    let stood : InstanceStandsFor g (get_or items index named).name past (get_or items index named).instance = stands.each index named there.1.0 in
+    subst (λ (n : Named). InstanceStandsFor g name past n.instance) (sym at)
+    (subst (λ (own : Option (List ℕ)). InstanceStandsFor g own past (get_or items index named).instance) (there.1.1 named) stood)
+
+-- a name that is none of these differs from each
+all-differ : (name : List ℕ) (names : List (List ℕ)) → list_any (bytes_eq name) names ≡ false → All (λ (other : List ℕ). bytes_eq other name ≡ false) names
+all-differ name names none = λ k d inside. by k d inside (bytes_eq name (get_or names k d)) refl
+  where
+    by : (k : ℕ) (d : List ℕ) → k < length names → (same : Bool) → bytes_eq name (get_or names k d) ≡ same → bytes_eq (get_or names k d) name ≡ false
+    by k d inside false is = differs-flip name (get_or names k d) is
+    by k d inside true is = absurd (false≢true (sym none ∙ list_any_at (bytes_eq name) names k d inside is))
+
+-- as many instances as names, and the top one
+few-names : (g : Config) (state : State) (past : List Request) → StandsFor g state past → length state.instances.items < 8 → length (instance_names past) < 7
+few-names g state past stands few = omega (arith, length-names_of state.instances.items (instance_names past) stands.names, few)
+
+-- ---- a new instance
+
+no_event : Definition
+no_event = record { name = []; fields = [] }
+
+-- the others stay as they are
+made-effect : (g : Config) (past : List Request) (name : List ℕ) (other : Option (List ℕ)) → makes other (MakeInstance (Some name)) ≡ false
+    → IsEffect g other past (MakeInstance (Some name)) Keep
+made-effect g past name None differ =
+    calm-effect g None past (MakeInstance (Some name)) Keep (calm-make name None past differ) quiet-keep
+    (record { enabled = refl; filters = refl; overwrite = refl; tracing = refl; rings = refl })
+made-effect g past name (Some other) differ =
+    let events = declared_events past in
+    let now = MakeInstance (Some name) ∷ past in
+    calm-effect g (Some other) past (MakeInstance (Some name)) Keep (calm-make name (Some other) past differ) quiet-keep
+    (record {
+      enabled = map-agrees (λ (e : Definition). is_enabled (Some other) e.name now) (λ (e : Definition). is_enabled (Some other) e.name past) events no_event
+          (λ j inside. rw differ refl);
+      filters = map-agrees (kept_filter (Some other) now) (kept_filter (Some other) past) events no_event (λ j inside. rw differ refl);
+      overwrite = rw differ refl;
+      tracing = rw differ refl;
+      rings = rw differ refl;
+    })
+
+-- nor does a removal change what is said of an instance
+removed-effect : (g : Config) (past : List Request) (name : List ℕ) (other : Option (List ℕ)) → IsEffect g other past (RemoveInstance (Some name)) Keep
+removed-effect g past name other =
+    calm-effect g other past (RemoveInstance (Some name)) Keep (calm-remove (Some name) other past) quiet-keep
+    (record { enabled = refl; filters = refl; overwrite = refl; tracing = refl; rings = refl })
+
+-- ---- answers
+
+refused : {A : Type 0} (refusal : Refusal) (answered : Result A Refusal) → answered ≡ Err refusal → IsRefusal refusal answered
+refused refusal answered is = (λ other. is, λ early. is)
+
+out_of_memory : (answered : Result Reply Refusal) (reply : Reply) → answered ≡ Ok reply → IsRefusal Memory answered
+out_of_memory answered reply is = (λ other. absurd (other refl), λ early. absurd (subst IsFoundEarly is early))
+
+can_be_made : (past : List Request) (name : List ℕ) → is_name name ≡ true → is_there (Some name) past ≡ false → length (instance_names past) < 7
+    → named_answer past name ≡ Ok Done
+unfolding named_answer
+can_be_made past name good new few = rw (good, new, lt-ltb (length (instance_names past)) 7 few) refl
+
+pub make-no_path : (g : Config) (state : State) (past : List Request) (path : Option (List ℕ)) → path ≡ None
+    → IsPrepared g past (MakeInstance path) state (Err NoSuchFile)
+make-no_path g state past path is = rw is (refused NoSuchFile _ refl)
+
+pub make-bad_name : (g : Config) (state : State) (past : List Request) (path : Option (List ℕ)) (name : List ℕ) → path ≡ Some name → is_name name ≡ false
+    → IsPrepared g past (MakeInstance path) state (Err BadValue)
+unfolding named_answer
+make-bad_name g state past path name is bad = rw is (refused BadValue (named_answer past name) (rw bad refl))
+
+pub make-exists : (g : Config) (state : State) (past : List Request) (path : Option (List ℕ)) (name : List ℕ) (found : Option ℕ) → StandsFor g state past
+    → path ≡ Some name → is_name name ≡ true → place_in state (Some name) ≡ found → is_some found ≡ true
+    → IsPrepared g past (MakeInstance path) state (Err InstanceExists)
+unfolding named_answer
+make-exists g state past path name found stands is good at some =
+    let there : is_there (Some name) past ≡ true = there-index g state past (Some name) found stands at ∙ some in
+    rw is (refused InstanceExists (named_answer past name) (rw (good, there) refl))
+
+pub make-too_many : (g : Config) (state : State) (past : List Request) (path : Option (List ℕ)) (name : List ℕ) (found : Option ℕ) → StandsFor g state past
+    → path ≡ Some name → is_name name ≡ true → place_in state (Some name) ≡ found → is_some found ≡ false → 8 ≤ length state.instances.items
+    → IsPrepared g past (MakeInstance path) state (Err TooMany)
+unfolding named_answer
+make-too_many g state past path name found stands is good at none many =
+    let new : is_there (Some name) past ≡ false = there-index g state past (Some name) found stands at ∙ none in
+    let full : 7 ≤ length (instance_names past) = omega (arith, length-names_of state.instances.items (instance_names past) stands.names, many) in
+    let no : ltb (length (instance_names past)) 7 ≡ false = grind (arith, nat_tests) in
+    rw is (refused TooMany (named_answer past name) (rw (good, new, no) refl))
+
+pub make-memory : (g : Config) (state : State) (past : List Request) (path : Option (List ℕ)) (name : List ℕ) (found : Option ℕ) → StandsFor g state past
+    → path ≡ Some name → is_name name ≡ true → place_in state (Some name) ≡ found → is_some found ≡ false → length state.instances.items < 8
+    → IsPrepared g past (MakeInstance path) state (Err Memory)
+make-memory g state past path name found stands is good at none few =
+    let new : is_there (Some name) past ≡ false = there-index g state past (Some name) found stands at ∙ none in
+    rw is (out_of_memory (named_answer past name) Done (can_be_made past name good new (few-names g state past stands few)))
+
+pub make-done : (g : Config) (state : State) (past : List Request) (path : Option (List ℕ)) (name : List ℕ) (found : Option ℕ) (made : Box Named)
+    → StandsFor g state past → path ≡ Some name → is_name name ≡ true → place_in state (Some name) ≡ found → is_some found ≡ false
+    → length state.instances.items < 8 → made.value.name ≡ Some name
+    → InstanceStandsFor g (Some name) (MakeInstance (Some name) ∷ past) made.value.instance
+    → IsPrepared g past (MakeInstance path) state (Ok (record { change = Make made; reply = Done }))
+make-done g state past path name found made stands is good at none few called own =
+    let new : is_there (Some name) past ≡ false = there-index g state past (Some name) found stands at ∙ none in
+    let fewer = few-names g state past stands few in
+    rw is (
+      can_be_made past name good new fewer,
+      record {
+        declares = refl;
+        name = name;
+        called = called;
+        made = refl;
+        removed = refl;
+        ticks = refl;
+        few = fewer;
+        new = all-differ name (instance_names past) new;
+        stands = own;
+        effect = made-effect g past name;
+      },
+      tt,
+    )
+
+pub remove-no_path : (g : Config) (state : State) (past : List Request) (path : Option (List ℕ)) → path ≡ None
+    → IsPrepared g past (RemoveInstance path) state (Err NoSuchFile)
+remove-no_path g state past path is = rw is (refused NoSuchFile _ refl)
+
+pub remove-lost : (g : Config) (state : State) (past : List Request) (path : Option (List ℕ)) (name : List ℕ) → StandsFor g state past
+    → path ≡ Some name → place_in state (Some name) ≡ None → IsPrepared g past (RemoveInstance path) state (Err NoSuchInstance)
+remove-lost g state past path name stands is at =
+    let gone : is_there (Some name) past ≡ false = there-index g state past (Some name) None stands at in
+    rw is (refused NoSuchInstance _ (rw gone refl))
+
+pub remove-done : (g : Config) (state : State) (past : List Request) (path : Option (List ℕ)) (name : List ℕ) (index : ℕ) → StandsFor g state past
+    → path ≡ Some name → place_in state (Some name) ≡ Some index
+    → IsPrepared g past (RemoveInstance path) state (Ok (record { change = Remove index; reply = Done }))
+remove-done g state past path name index stands is at =
+    let there = found-there g state past (Some name) (record { instance = Some name; file = None }) index stands refl at in
+    let names = instance_names past in
+    let items = state.instances.items in
+    let inside = there.1.0 in
+    let many = length-names_of items names stands.names in
+    rw is (
+      rw there.0 refl,
+      record {
+        declares = refl;
+        name = name;
+        made = refl;
+        removed = refl;
+        ticks = refl;
+        inside = omega (arith, inside, many);
+        there = sym (name_at items _ index (one items inside) stands.names inside) ∙ there.1.1 (one items inside);
+        effect = λ other. removed-effect g past name other;
+      },
+      inside,
+    )
+  where
+    -- some instance
+    one : (instances : List Named) → index < length instances → Named
+    one [] within = absurd (omega arith)
+    one (n ∷ instances) within = n

@@ -1,0 +1,13 @@
+use Rattle.std.proofs.Common.{◌≡◌, ℕ, ◌<◌, false, length, slice_index_or}
+use Rattle.trace_instance.specs.Rows.{reach_of}
+use Rattle.tracer_state.specs.States.{no_reach}
+use Rattle.tracer_state.specs.declared.state.Named.{Named}
+use Rattle.tracer_state.proofs.emission.reach_each.Given as goal
+
+abbrev pub invariant-loop-i : goal.invariant-loop-i
+invariant-loop-i l = record {
+  many : length l.reaches ≡ 8;
+  each : (k : ℕ) → k < l.i → (n : Named)
+      → slice_index_or l.reaches k no_reach ≡ reach_of (slice_index_or l.fn.instances k n).instance l.fn.event l.fn.row l.fn.cpu l.fn.pid;
+  none : l.recorded ≡ false → (k : ℕ) → k < l.i → (slice_index_or l.reaches k no_reach).records ≡ false;
+}

@@ -1,0 +1,42 @@
+-- What an emission that is prepared does in each instance, and its record.
+use Rattle.std.specs.Prelude.{◌≡◌, ℕ, ℤ, ◌+◌, ◌<◌, Bool, true, false, List, [], length, slice_index_or, All}
+use Rattle.trace_format.specs.Cells.{Cells, record_size_of}
+use Rattle.trace_format.specs.Definitions.{Definition}
+use Rattle.trace_record.specs.Record.{IsRecord}
+use Rattle.trace_history.specs.Emissions.{record_bytes}
+use Rattle.trace_instance.specs.Deliveries.{CanCountRow, row_of}
+use Rattle.trace_instance.specs.Instances.{InstanceSeen}
+use Rattle.trace_instance.specs.KeptHists.{KeysAgree}
+use Rattle.trace_instance.specs.Rows.{reach_of}
+use Rattle.tracer_state.specs.States.{AllReached, ArePassed}
+use Rattle.trace_instance.specs.declared.change.Delivery.{Delivery}
+use Rattle.trace_instance.specs.declared.change.Reach.{Reach}
+use Rattle.tracer_state.specs.declared.state.Named.{Named}
+
+-- an instance has the event at this index
+pub record HasEventAt (event : ℕ) (i : InstanceSeen) : Type 0 where
+  pub enabled : event < length i.enabled
+  pub filters : event < length i.filters
+  pub triggers : event < length i.triggers
+  pub hists : event < length i.hists
+  pub agree : KeysAgree (slice_index_or i.hists event [])
+
+-- what an emission of the event at this index does in each instance is this, and if none is said to record it, none does
+pub record AreReached (event : ℕ) (row : Cells) (cpu : ℕ) (pid : ℤ) (reaches : List Reach) (recorded : Bool) (instances : List Named) : Type 0 where
+  pub each : AllReached (λ reach i. reach ≡ reach_of i event row cpu pid) reaches instances
+  pub none : recorded ≡ false → AllReached (λ reach i. reach.records ≡ false) reaches instances
+
+-- what was written ahead is the emission's record, if some instance records it
+pub record IsAhead (clock event : ℕ) (row : Cells) (pid : ℤ) (recorded : Bool) (bytes : List ℕ) : Type 0 where
+  pub is : recorded ≡ true → bytes ≡ record_bytes (clock + 1) pid (event + 1) row
+  pub is_record : recorded ≡ true → IsRecord bytes
+
+-- all that a delivery has of an emission of this event is made of its row: what it does in each instance, which hist triggers count it, for which
+-- memory was reserved, and its record, if some instance records it
+pub record IsReserved (clock : ℕ) (event : Definition) (old new : List Named) (d : Delivery) : Type 0 where
+  pub recorded : Bool
+  pub reached : AreReached d.event d.row d.cpu d.pid d.reaches recorded old
+  pub ahead : IsAhead clock d.event d.row d.pid recorded d.record.items
+  pub sized : recorded ≡ true → length d.record.items ≡ record_size_of event
+  pub passed : ArePassed (row_of d) d.event d.passed old
+  pub counted : All (λ (n : Named). CanCountRow (row_of d) d.event n.instance) new

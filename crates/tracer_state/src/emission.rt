@@ -1,0 +1,229 @@
+//! Emissions: a row is built once, each filter is evaluated once, and each table that counts the row has its memory reserved, before any instance is
+//! written to. All of it is kept in one `Delivery`, in the memory of the emissions before, so that most take no allocation.
+
+ghost use Rattle.std.specs.Prelude.{◌≡◌, ◌<◌, ◌≤◌, ◌^◌, true, List, [], length, All, slice_index_or, IfErr, OnOk, OnErr};
+ghost use Rattle.trace_command.specs.Configs.{IsInRange};
+ghost use Rattle.trace_command.specs.Refusals.{IsRefusal};
+ghost use Rattle.trace_command.specs.Requests as requests;
+ghost use Rattle.trace_command.specs.Requests.{Request, Emission};
+ghost use Rattle.trace_format.specs.Cells.{IsRowOf, payload_size_of, size_of_all};
+ghost use Rattle.trace_format.specs.declared.pair.Pair.{Pair as PairSeen};
+ghost use Rattle.trace_history.specs.History.{answer_with_room, emission_answer};
+ghost use Rattle.trace_history.specs.Settings.{declared_events};
+ghost use Rattle.trace_record.specs.Record.{record_size};
+ghost use Rattle.tracer_state.specs.private.Emissions as emissions;
+ghost use Rattle.tracer_state.specs.ValueEmissions.{values_emission};
+ghost use Rattle.trace_instance.specs.Instances.{IsAlike};
+ghost use Rattle.trace_instance.specs.KeptHists.{KeysAgree};
+ghost use Rattle.tracer_state.specs.States.{StandsFor, IsPreparedEmission, IsStateAlike, IsUsable, EachCame, ArePassed, NeedsHitMemory};
+ghost use Rattle.trace_instance.specs.Deliveries.{CanCountRow, most_requests};
+
+use crate::resolve::{Found, find_likely, find_numbered};
+use crate::row::record;
+use crate::state::{Named, State};
+use std::alloc::{AllocError, Global};
+use trace_command::{Config, Refusal};
+use trace_format::{BorrowedPair, EventDef, FieldValue, Row, payload_size};
+use trace_instance::{Delivery, INSTANCES, MOST_TRIGGERS, Passed, Reach};
+
+impl State {
+    /// Prepares an emission, in this order: its CPU, its event, its row, what it does in each instance, the memory of its hist triggers, and its
+    /// record, if an instance records it. A refused one leaves a delivery that means nothing.
+    #[tactic(auto, unfolding(trace_history::specs::History::emission_answer))]
+    pub fn prepare_emission(
+        &mut self,
+        alloc: Global,
+        delivery: &mut Delivery,
+        config: &Config,
+        name: &[u8],
+        cpu: u32,
+        pid: i32,
+        pairs: &[BorrowedPair<'_>],
+    ) -> Result<(), Refusal>
+        requires usable { IsUsable config.now self.old }
+        requires in_range { IsInRange config.now }
+        ensures alike { IsStateAlike self.old self.new }
+        ensures prepared { (past : List Request) → StandsFor config.now self.old past
+            → OnOk result (IsPreparedEmission config.now past (Emission name.now cpu pid pairs.now) self.new delivery.new) }
+        ensures refused { (past : List Request) → StandsFor config.now self.old past
+            → IfErr result (λ r. IsRefusal r (answer_with_room config.now past (Emission name.now cpu pid pairs.now))) }
+        ensures fits { OnOk result (requests.FitsItsTypes (Emission name.now cpu pid pairs.now)) }
+    {
+        if cpu >= config.cpus {
+            return Err(Refusal::NoSuchCpu);
+        }
+        let Some(found) = find_likely(&self.catalog, delivery.event, name) else {
+            return Err(Refusal::NoSuchEvent);
+        };
+        delivery.row.rebuild(alloc, found.event, pairs)?;
+        prepare_row(&mut self.instances, self.clock, found, cpu, pid, delivery)?;
+        Ok(())
+    }
+
+    /// Likewise, for the event with this number, from 1, and values of its fields in order of declaration.
+    pub fn prepare_values(
+        &mut self,
+        alloc: Global,
+        delivery: &mut Delivery,
+        config: &Config,
+        number: u32,
+        cpu: u32,
+        pid: i32,
+        values: &[FieldValue<'_>],
+    ) -> Result<(), Refusal>
+        requires usable { IsUsable config.now self.old }
+        requires in_range { IsInRange config.now }
+        ensures alike { IsStateAlike self.old self.new }
+        ensures prepared { (past : List Request) → StandsFor config.now self.old past
+            → OnOk result (IsPreparedEmission config.now past (values_emission (declared_events past) number cpu pid values.now)
+            self.new delivery.new) }
+        ensures refused { (past : List Request) → StandsFor config.now self.old past
+            → IfErr result (λ r. IsRefusal r
+            (answer_with_room config.now past (values_emission (declared_events past) number cpu pid values.now))) }
+    {
+        if cpu >= config.cpus {
+            return Err(Refusal::NoSuchCpu);
+        }
+        let Some(found) = find_numbered(&self.catalog, number) else {
+            return Err(Refusal::NoSuchEvent);
+        };
+        delivery.row.rebuild_of_values(alloc, found.event, values)?;
+        prepare_row(&mut self.instances, self.clock, found, cpu, pid, delivery)?;
+        Ok(())
+    }
+
+    /// The refusal of an emission that ran out of memory: a missing CPU or event is reported even so.
+    #[cold]
+    #[inline(never)]
+    #[tactic(auto, unfolding(trace_history::specs::History::emission_answer))]
+    pub fn refusal_without_memory(&self, config: &Config, cpu: u32, name: &[u8]) -> Refusal
+        ensures { (past : List Request) (pairs : List PairSeen) → StandsFor config.now self.now past
+            → IsRefusal result (emission_answer config.now past name.now cpu pairs) }
+    {
+        if cpu >= config.cpus {
+            return Refusal::NoSuchCpu;
+        }
+        if self.catalog.find(name).is_none() {
+            return Refusal::NoSuchEvent;
+        }
+        Refusal::Memory
+    }
+}
+
+// Prepares the emission of an event that was found, whose row the delivery has, in this order: what it does in each instance, the memory of its hist
+// triggers, and its record.
+#[inline(always)]
+fn prepare_row(
+    instances: &mut [Named],
+    clock: u64,
+    found: Found<'_>,
+    cpu: u32,
+    pid: i32,
+    delivery: &mut Delivery,
+) -> Result<(), AllocError>
+    requires few { length instances.old ≤ 8 }
+    requires each { All (λ n. emissions.HasEventAt found.index n.instance) instances.old }
+    requires early { clock ≤ most_requests }
+    requires index { found.index < 64 }
+    requires fields { length found.event.now.fields ≤ 16 }
+    requires row { IsRowOf found.event.now delivery.old.row }
+    ensures alike { EachCame IsAlike instances.old instances.new }
+    ensures given { OnOk result (delivery.new
+        ≡ record delivery.new { event = found.entry.index; row = delivery.old.row; cpu = cpu; pid = pid }) }
+    ensures reserved { OnOk result (emissions.IsReserved clock found.entry.event.now instances.old instances.new delivery.new) }
+{
+    let index = found.index;
+    delivery.event = index;
+    delivery.cpu = cpu;
+    delivery.pid = pid;
+    let row = &delivery.row;
+    let recorded = reach_each(instances, index, row, cpu, pid, &mut delivery.reaches);
+    let size = size_if(recorded, found.event);
+    reserve_each(instances, index, row, cpu, pid, &mut delivery.passed)?;
+    write_ahead(clock, recorded, index, pid, size, row, &mut delivery.record)?;
+    Ok(())
+}
+
+// How many bytes the payload of an event takes, where its record is to be made.
+fn size_if(recorded: bool, event: &EventDef) -> usize
+    requires { length event.now.fields ≤ 16 }
+    ensures size { recorded ≡ true → result ≡ payload_size_of event.now }
+    ensures small { result < 2 ^ 12 }
+{
+    if recorded { payload_size(event) } else { 0 }
+}
+
+// Makes the record of an emission of the event at this index, if some instance records it.
+fn write_ahead(
+    clock: u64,
+    recorded: bool,
+    index: usize,
+    pid: i32,
+    size: usize,
+    row: &Row,
+    bytes: &mut Vec<u8>,
+) -> Result<(), AllocError>
+    requires early { clock ≤ most_requests }
+    requires index { index < 64 }
+    requires size { recorded ≡ true → size ≡ size_of_all row.now.kinds }
+    requires small { size < 2 ^ 12 }
+    ensures ahead { OnOk result (emissions.IsAhead clock index row.now pid recorded bytes.new.items) }
+    ensures length { OnOk result (recorded ≡ true → length bytes.new.items ≡ record_size size) }
+{
+    if !recorded {
+        return Ok(());
+    }
+    record(clock + 1, pid, index as u16 + 1, size, row, bytes)
+}
+
+// What an emission of the event at this index does in each instance, apart from hist triggers. Whether any instance records it.
+fn reach_each(
+    instances: &[Named],
+    event: usize,
+    row: &Row,
+    cpu: u32,
+    pid: i32,
+    reaches: &mut [Reach; INSTANCES],
+) -> bool
+    requires few { length instances.now ≤ 8 }
+    requires enabled { All (λ n. event < length n.instance.enabled) instances.now }
+    requires filters { All (λ n. event < length n.instance.filters) instances.now }
+    requires triggers { All (λ n. event < length n.instance.triggers) instances.now }
+    ensures { emissions.AreReached event row.now cpu pid reaches.new result instances.now }
+{
+    let mut recorded = false;
+    for i in 0..instances.len() {
+        let reach = instances[i].instance.reach(event, row, cpu, pid);
+        reaches[i] = reach;
+        recorded |= reach.records;
+    }
+    recorded
+}
+
+// Evaluates the filters of the hist triggers of the event at this index for a row, in each instance, and reserves memory to count it for those that
+// it passes.
+fn reserve_each(
+    instances: &mut [Named],
+    event: usize,
+    row: &Row,
+    cpu: u32,
+    pid: i32,
+    passed: &mut [Passed; INSTANCES],
+) -> Result<(), AllocError>
+    requires few { length instances.old ≤ 8 }
+    requires event { All (λ n. event < length n.instance.hists) instances.old }
+    requires agree { All (λ n. KeysAgree (slice_index_or n.instance.hists event [])) instances.old }
+    ensures alike { EachCame IsAlike instances.old instances.new }
+    ensures passed { OnOk result (ArePassed (record { values = row.now.values; cpu = cpu; pid = pid }) event passed.new instances.old) }
+    ensures counted { OnOk result (All (λ n. CanCountRow (record { values = row.now.values; cpu = cpu; pid = pid }) event n.instance) instances.new) }
+    ensures memory { OnErr result (NeedsHitMemory (record { values = row.now.values; cpu = cpu; pid = pid }) event instances.old) }
+{
+    for i in 0..instances.len() {
+        if instances[i].instance.has_hists(event) {
+            passed[i] = instances[i].instance.reserve(event, row, cpu, pid)?;
+        } else {
+            passed[i] = [false; MOST_TRIGGERS];
+        }
+    }
+    Ok(())
+}
