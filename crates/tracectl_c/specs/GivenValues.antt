@@ -1,5 +1,5 @@
 -- The values of an emission as C gives them.
-use Rattle.std.specs.Prelude.{ℕ, ◌==◌, if◌then◌else◌, List, [], ◌∷◌, Option, Some, None}
+use Rattle.std.specs.Prelude.{◌==◌, if◌then◌else◌, List, [], ◌∷◌, Option, Some, None}
 use Rattle.std.specs.Int.{w64, cast_signed}
 use Rattle.std.specs.Option.{option_and_then, option_map}
 use Rattle.trace_format.specs.declared.field_value.FieldValue.{FieldValue}
