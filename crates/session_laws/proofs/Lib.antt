@@ -4,3 +4,4 @@ pub mod Renumbering
 pub mod LoneThreads
 pub mod RunParts
 pub mod GoingOn
+pub mod Hearing

@@ -1,1 +1,2 @@
+pub mod HeardSessions
 pub mod WholeSessions
