@@ -1,4 +1,4 @@
--- Values given without texts: what an emission writes for them (events.rst, "Event Tracing").
+-- Values given without texts: what an emission writes for them (events.rst, "In-kernel trace event API").
 use Rattle.std.specs.Prelude.{ℕ, List, [], ◌∷◌}
 use Rattle.std.specs.Fmt.{decimal, signed_decimal}
 use Rattle.trace_format.specs.declared.event.Field.{Field}

@@ -1,4 +1,4 @@
--- Emissions by values: the number of an event and values for its fields, in place of a name and pairs (events.rst, "Event Tracing").
+-- Emissions by values: the number of an event and values for its fields, in place of a name and pairs (events.rst, "In-kernel trace event API").
 use Rattle.std.specs.Prelude.{ℕ, ℤ, List, [], Option, Some, None}
 use Rattle.trace_command.specs.Requests.{Request, Emission}
 use Rattle.trace_format.specs.Catalogs.{event_of}
@@ -6,7 +6,7 @@ use Rattle.trace_format.specs.Definitions.{Definition}
 use Rattle.trace_format.specs.Values.{pairs_given}
 use Rattle.trace_format.specs.declared.field_value.FieldValue.{FieldValue}
 
--- the emission of an event. No event has the empty name, so that of none is refused as one of a name that no event has.
+-- the emission of an event. Where there is no such event it is an emission of the empty name, which no event has.
 abbrev pub emission_of : Option Definition → ℕ → ℤ → List FieldValue → Request
 emission_of None cpu pid values = Emission [] cpu pid []
 emission_of (Some event) cpu pid values = Emission event.name cpu pid (pairs_given event.fields values)
