@@ -15,8 +15,7 @@ use std::sync::Wait;
 use std::thread::Threads;
 use trace_command::Config;
 use trace_script::Outcome;
-use trace_session::{Sink, Status, run_session};
-use trace_workers::OpenGate;
+use trace_session::{OpenGate, Sink, Status, run_session};
 
 /// Takes all bytes, keeps none of them, and states which they were and what it heard.
 #[derive(Drop)]
