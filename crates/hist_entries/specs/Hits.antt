@@ -3,8 +3,7 @@ use Rattle.std.specs.Prelude.{ℕ, ℤ, pos, List, map, unwrap_or, slice_get}
 use Rattle.trace_format.specs.declared.operand.Operand.{Operand}
 use Rattle.trace_format.specs.Cells.{Datum, Whole, Bytes}
 use Rattle.trace_format.specs.Operands.{Emission, operand_value}
-use Rattle.trace_trigger.specs.declared.key.Key.{Key}
-use Rattle.trace_trigger.specs.HistSpecs.{SpecSeen}
+use Rattle.hist_keys.specs.declared.key.Key.{Key}
 use Rattle.hist_entries.specs.Buckets.{bucket_cell}
 
 pub record Hit : Type 0 where
@@ -30,9 +29,3 @@ number_at emission operand = number_of (cell_of emission operand)
 -- the cell that a key tells entries apart by: the bucket of the value
 abbrev pub key_cell : Emission → Key → Datum
 key_cell emission key = bucket_cell key.modifier (cell_of emission key.operand)
-
-abbrev pub hit_of : SpecSeen → Emission → Hit
-hit_of spec emission = record {
-  key = map (key_cell emission) spec.keys;
-  numbers = map (number_at emission) spec.value_sources;
-}

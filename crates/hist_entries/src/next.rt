@@ -9,9 +9,9 @@ ghost use Rattle.hist_entries.specs.private.Indexes.{IsIndexOf};
 use crate::cell::key_cell;
 use crate::entries::{Entries, has_cell_at, has_key_at, index_of, keep_first, reserve_entry};
 use crate::hints::{Hints, fingerprint_of, fingerprint_of_cell};
+use hist_keys::Key;
 use std::alloc::{AllocError, Global};
 use trace_format::Emission;
-use trace_trigger::Key;
 
 /// Where the next row is counted.
 #[derive(Clone, Copy)]

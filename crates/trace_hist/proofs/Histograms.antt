@@ -6,7 +6,8 @@ use Rattle.std.proofs.lemmas.Result.{on_ok_weaker, on_err_weaker}
 use Rattle.std.proofs.lemmas.List.Filters.{length-filter_both}
 use Rattle.trace_format.specs.Operands.{Emission}
 use Rattle.trace_trigger.specs.HistSpecs.{SpecSeen}
-use Rattle.hist_entries.specs.Hits.{Hit, hit_of}
+use Rattle.hist_entries.specs.Hits.{Hit}
+use Rattle.trace_hist.specs.TriggerHits.{hit_of}
 use Rattle.trace_hist.specs.Groups.{Table, admitted, grouped}
 use Rattle.hist_entries.specs.HistEntries.{is_among}
 use Rattle.hist_entries.specs.RowPlaces.{In, IsPlaceOf, entry_keys}

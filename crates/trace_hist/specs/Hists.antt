@@ -3,7 +3,8 @@ use Rattle.std.specs.Prelude.{◌≡◌, ◌≢◌, ℕ, ◌+◌, ◌<◌, Bool,
 use Rattle.trace_format.specs.Cells.{Datum}
 use Rattle.trace_format.specs.Operands.{Emission}
 use Rattle.trace_trigger.specs.HistSpecs.{SpecSeen}
-use Rattle.hist_entries.specs.Hits.{Hit, hit_of}
+use Rattle.hist_entries.specs.Hits.{Hit}
+use Rattle.trace_hist.specs.TriggerHits.{hit_of}
 use Rattle.hist_entries.specs.HistEntries.{is_among}
 use Rattle.hist_entries.specs.RowPlaces.{entry_keys, Place, In, IsPlaceOf, most_rows}
 use Rattle.trace_hist.specs.Groups.{Table, grouped}

@@ -1,3 +1,4 @@
+pub mod TriggerHits
 pub mod GroupExamples
 pub mod Groups
 pub mod Hists

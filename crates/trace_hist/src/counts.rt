@@ -3,7 +3,7 @@
 ghost use Rattle.std.specs.Prelude.{◌≡◌, ◌≢◌, ◌+◌, ◌<◌, false, length, map, IfOk, OnOk, OnErr};
 ghost use Rattle.hist_entries.specs.HistEntries.{is_among};
 ghost use Rattle.hist_entries.specs.RowPlaces.{In, IsPlaceOf, entry_keys, most_rows};
-ghost use Rattle.hist_entries.specs.Hits.{hit_of};
+ghost use Rattle.trace_hist.specs.TriggerHits.{hit_of};
 ghost use Rattle.hist_entries.specs.PrintOrder.{row_in, printed};
 ghost use Rattle.trace_hist.specs.private.Steps.{after_hit, none_kept};
 

@@ -20,7 +20,7 @@ use Rattle.trace_text.specs.RecordText.{line_start, cell_text, row_line, record_
 use Rattle.trace_text.specs.SnapshotText.{freed_line, snapshot_text}
 use Rattle.trace_text.specs.StatsText.{stats_line, stats_text}
 use Rattle.trace_text.specs.TraceText.{lost_line, trace_title, trace_head}
-use Rattle.trace_text.specs.TriggerText.{trigger_line, available_triggers, trigger_text}
+use Rattle.trigger_text.specs.TriggerText.{trigger_line, available_triggers, trigger_text}
 use Rattle.trace_trigger.specs.Frames.{filter_of}
 use Rattle.trace_trigger.specs.TriggerTexts.{count_of, condition_of, snapshot_said, said_of}
 use Rattle.trace_trigger.specs.TriggerTexts.{trigger_of as said_trigger}

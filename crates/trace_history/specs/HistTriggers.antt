@@ -8,7 +8,8 @@ use Rattle.trace_format.specs.Operands.{Emission}
 use Rattle.trace_format.specs.Definitions.{Definition}
 use Rattle.trace_hist.specs.Groups.{Table, grouped}
 use Rattle.trace_trigger.specs.HistSpecs.{SpecSeen}
-use Rattle.hist_entries.specs.Hits.{Hit, hit_of}
+use Rattle.hist_entries.specs.Hits.{Hit}
+use Rattle.trace_hist.specs.TriggerHits.{hit_of}
 use Rattle.trace_trigger.specs.SameSpecs.{is_same as is_same_spec}
 use Rattle.trace_trigger.specs.FittingSpecs.{is_fitting}
 use Rattle.trace_trigger.specs.declared.spec.Action.{Action}

@@ -7,8 +7,9 @@ use Rattle.trace_format.specs.Cells.{Datum}
 use Rattle.trace_format.specs.Operands.{Emission}
 use Rattle.trace_hist.specs.Groups.{grouped}
 use Rattle.trace_trigger.specs.HistSpecs.{SpecSeen}
-use Rattle.trace_trigger.specs.declared.key.Key.{Key}
-use Rattle.hist_entries.specs.Hits.{Hit, hit_of, key_cell}
+use Rattle.hist_keys.specs.declared.key.Key.{Key}
+use Rattle.hist_entries.specs.Hits.{Hit, key_cell}
+use Rattle.trace_hist.specs.TriggerHits.{hit_of}
 use Rattle.hist_entries.specs.HistEntries.{Entry}
 use Rattle.hist_entries.specs.RowPlaces.{Place, Unknown, In, Nowhere, IsPlaceOf, most_rows}
 use Rattle.trace_hist.specs.Hists.{IsCountedFor, IsReservedAs, Seen, StandsFor, counted}

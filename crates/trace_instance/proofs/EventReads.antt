@@ -8,9 +8,9 @@ use Rattle.trace_format.specs.Definitions.{Definition}
 use Rattle.trace_history.proofs.EventLists.{named_at}
 use Rattle.trace_buffer.specs.Buffers.{Seen}
 use Rattle.trace_text.specs.SnapshotText.{SpareHasShape}
-use Rattle.trace_text.specs.HistText.{hist_text}
-use Rattle.trace_text.specs.TriggerText as texts
-use Rattle.trace_text.specs.TriggerText.{trigger_text}
+use Rattle.trigger_text.specs.HistText.{hist_text}
+use Rattle.trigger_text.specs.TriggerText as texts
+use Rattle.trigger_text.specs.TriggerText.{trigger_text}
 use Rattle.trace_hist.specs.Groups.{group, grouped}
 use Rattle.hist_entries.specs.Hits.{Hit}
 use Rattle.trace_trigger.specs.FittingLaws.{CountsAlike}

@@ -6,7 +6,8 @@ use Rattle.trace_format.specs.Definitions.{Definition}
 use Rattle.trace_hist.specs.Groups.{Table as Entries, grouped}
 use Rattle.trace_trigger.specs.FittingLaws.{CountsAlike}
 use Rattle.trace_trigger.specs.HistSpecs.{SpecSeen}
-use Rattle.hist_entries.specs.Hits.{Hit, hit_of}
+use Rattle.hist_entries.specs.Hits.{Hit}
+use Rattle.trace_hist.specs.TriggerHits.{hit_of}
 use Rattle.trace_hist.specs.Hists.{IsReservedAs, NeedsEntryAs, Seen, counted}
 use Rattle.hist_entries.specs.RowPlaces.{most_rows}
 use Rattle.trace_trigger.specs.SameSpecs.{is_same, is_passed}

@@ -3,9 +3,7 @@ pub mod RecordLemmas
 pub mod ProcessLemmas
 pub mod BufferLemmas
 pub mod SnapshotLemmas
-pub mod ZipLemmas
 pub mod LoopLemmas
 pub mod CellLemmas
 pub mod EventLemmas
 pub mod StatsLemmas
-pub mod HistTextExamples

@@ -7,8 +7,3 @@ pub mod TraceText
 pub mod Laws
 pub mod BufferText
 pub mod SnapshotText
-pub mod TriggerText
-pub mod EntryText
-pub mod HistText
-pub mod ShownTriggers
-pub mod HistTextExamples

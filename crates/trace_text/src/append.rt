@@ -8,7 +8,7 @@ use std::alloc::AllocError;
 
 /// Appends bytes.
 #[inline]
-pub(crate) fn push(out: &mut Vec<u8>, text: &[u8]) -> Result<(), AllocError>
+pub fn push(out: &mut Vec<u8>, text: &[u8]) -> Result<(), AllocError>
     ensures text { OnOk result (out.new.items ≡ out.old.items ++ text.now) }
     ensures refused { OnErr result (out.new.items ≡ out.old.items) }
 {
@@ -16,7 +16,7 @@ pub(crate) fn push(out: &mut Vec<u8>, text: &[u8]) -> Result<(), AllocError>
 }
 
 /// Appends three strings of bytes, one after the other.
-pub(crate) fn push_three(
+pub fn push_three(
     out: &mut Vec<u8>,
     first: &[u8],
     second: &[u8],
@@ -30,18 +30,14 @@ pub(crate) fn push_three(
 }
 
 /// Appends a number in decimal, one below 0 with its sign.
-pub(crate) fn push_number<N: Integer>(out: &mut Vec<u8>, n: N) -> Result<(), AllocError>
+pub fn push_number<N: Integer>(out: &mut Vec<u8>, n: N) -> Result<(), AllocError>
     ensures { OnOk result (out.new.items ≡ out.old.items ++ N.text n) }
 {
     out.extend_from_slice(Buffer::new().format(n).as_bytes())
 }
 
 /// Appends bytes, and a number in decimal after them.
-pub(crate) fn push_with_number<N: Integer>(
-    out: &mut Vec<u8>,
-    text: &[u8],
-    n: N,
-) -> Result<(), AllocError>
+pub fn push_with_number<N: Integer>(out: &mut Vec<u8>, text: &[u8], n: N) -> Result<(), AllocError>
     ensures { OnOk result (out.new.items ≡ out.old.items ++ text.now ++ N.text n) }
 {
     out.extend_from_slice(text)?;
@@ -49,7 +45,7 @@ pub(crate) fn push_with_number<N: Integer>(
 }
 
 /// Appends a whole text. A vector with nothing in it takes the text over, with no copy.
-pub(crate) fn append_text(out: &mut Vec<u8>, text: Vec<u8>) -> Result<(), AllocError>
+pub fn append_text(out: &mut Vec<u8>, text: Vec<u8>) -> Result<(), AllocError>
     ensures text { OnOk result (out.new.items ≡ out.old.items ++ text.items) }
     ensures refused { OnErr result (out.new.items ≡ out.old.items) }
 {

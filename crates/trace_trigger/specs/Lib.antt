@@ -19,7 +19,6 @@ pub mod HistRefusals
 pub mod HistSizes
 pub mod HistSpecs
 pub mod HistTexts
-pub mod Modifiers
 pub mod SameSpecs
 pub mod SameLaws
 pub mod TriggerFaultTexts

@@ -2,21 +2,19 @@
 
 ghost use Rattle.std.specs.Prelude.{◌≡◌, Ok, MatchResult, IfOk, bytes_eq, [], map};
 ghost use Rattle.std.specs.List.{position};
-ghost use Rattle.trace_trigger.specs.declared.key.Key.{Key as KeySeen};
+ghost use Rattle.hist_keys.specs.declared.key.Key.{Key as KeySeen};
 ghost use Rattle.trace_trigger.specs.HistMeanings as meanings;
 ghost use Rattle.trace_trigger.specs.HistLists as lists;
 ghost use Rattle.trace_trigger.specs.HistSpecs.{key_names};
 ghost use Rattle.trace_trigger.specs.TriggerAnswers.{IsAnswered, IsTold};
 
 use crate::fault::TriggerFault;
-use crate::key::Key;
-use crate::modifier::Modifier;
 use crate::parts::is_word;
 use crate::piece::ListItem;
 use crate::size::rounded_size;
-use crate::sort_rule::{SortRule, SortSource};
 use crate::spec::SortKey;
 use crate::written_lists::{WrittenLists, is_descending, is_hitcount, item_name, item_suffix};
+use hist_keys::{Key, Modifier, SortRule, SortSource};
 use std::alloc::{AllocError, Global};
 use trace_format::{Field, Operand, Text};
 use trace_lex::decimal_number;

@@ -9,11 +9,11 @@ ghost use Rattle.trace_trigger.specs.HistOffsets as offsets;
 
 use crate::attribute::{Attribute, Topic};
 use crate::hist_parts::condition_of;
-use crate::modifier::Modifier;
 use crate::piece::ListItem;
 use crate::written_lists::{
     WrittenLists, is_direction, is_listed, is_named, is_same_topic, item_name, item_suffix,
 };
+use hist_keys::Modifier;
 use trace_lex::{all_digits, is_name};
 
 /// The earlier of two offsets, if there are any.

@@ -11,10 +11,9 @@ ghost use Rattle.std.specs.Cmp.Lexicographic.{pointwise};
 
 use crate::fault::TriggerFault;
 use crate::hist_parts::{condition_of, cut};
-use crate::key::Key;
 use crate::meaning::is_too_many;
 use crate::read::{read_written, spec_from};
-use crate::sort_rule::SortRule;
+use hist_keys::{Key, SortRule};
 use std::alloc::Global;
 use std::marker::Model;
 use trace_filter::Filter;

@@ -1,6 +1,7 @@
 use Rattle.std.proofs.Common.{◌≤◌, map, ap, ◌∙◌, subst, arith}
 use Rattle.std.specs.List.{IsDistinct}
-use Rattle.hist_entries.specs.Hits.{hit_of, number_at}
+use Rattle.hist_entries.specs.Hits.{number_at}
+use Rattle.trace_hist.specs.TriggerHits.{hit_of}
 use Rattle.hist_entries.specs.HistEntries.{same_key}
 use Rattle.hist_entries.specs.RowPlaces.{entry_keys, most_rows}
 use Rattle.hist_entries.specs.KeptEntries.{entries_in, counted_at}

@@ -1,6 +1,6 @@
 use Rattle.std.proofs.Common.{◌≡◌, true, sym, subst, rules}
 use Rattle.trace_format.specs.Operands.{Emission}
-use Rattle.hist_entries.specs.Hits.{hit_of}
+use Rattle.trace_hist.specs.TriggerHits.{hit_of}
 use Rattle.trace_hist.specs.Hists.{Seen, IsCountedFor, IsReservedAs}
 use Rattle.trace_hist.specs.Stored.{seen_of}
 use Rattle.trace_hist.specs.private.Steps.{after_hit}

@@ -1,6 +1,6 @@
 use Rattle.std.proofs.Common.{◌≡◌, true, rules}
 use Rattle.trace_format.specs.Operands.{Emission}
-use Rattle.hist_entries.specs.Hits.{hit_of}
+use Rattle.trace_hist.specs.TriggerHits.{hit_of}
 use Rattle.trace_hist.specs.Hists.{IsReservedAs}
 use Rattle.trace_hist.specs.private.Steps.{after_hit}
 use Rattle.trace_hist.proofs.Histograms.{idle-counted, place-reserved, told-counted}

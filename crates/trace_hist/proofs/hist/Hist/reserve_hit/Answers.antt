@@ -3,7 +3,7 @@ use Rattle.std.specs.Int.{w32}
 use Rattle.trace_format.specs.Operands.{Emission}
 use Rattle.hist_entries.specs.HistEntries.{is_among}
 use Rattle.hist_entries.specs.RowPlaces.{In, IsPlaceOf, entry_keys}
-use Rattle.hist_entries.specs.Hits.{hit_of}
+use Rattle.trace_hist.specs.TriggerHits.{hit_of}
 use Rattle.trace_hist.specs.Hists.{Seen, IsReservedFor, NeedsEntryAs}
 use Rattle.trace_hist.specs.Stored.{seen_of}
 use Rattle.trace_hist.proofs.Histograms.{idle-reserved, told-reserved, told-unchanged, told-needed}

@@ -1,0 +1,3 @@
+pub mod LoopLemmas
+pub mod ZipLemmas
+pub mod HistTextExamples

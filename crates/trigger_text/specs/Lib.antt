@@ -1,0 +1,5 @@
+pub mod TriggerText
+pub mod EntryText
+pub mod HistText
+pub mod ShownTriggers
+pub mod HistTextExamples
