@@ -8,7 +8,12 @@ from cases.running import TOP, Case, Outcome, differences, run
 from cases.words import named
 
 CHECKED = "echo \"%s $* RT_JOBS=$RT_JOBS $TRACECTL_PROGRAM\"\necho '%d passed, %d failed'\nexit %d"
-CRATES = "tracectl tracectl_mount trace_lex trace_hist trace_text trace_book trace_snapshot ticket_lock fuse_wire fuse_serve mount_tree trace_explain file_list script_reader thread_output command_line trace_log".split()
+# What is proved ahead, run by run.
+AHEAD = (
+    "trace_lex", "fuse_wire fuse_serve", "trace_snapshot", "hist_entries", "trace_text", "trace_filter", "trace_trigger", "trace_hist", "trigger_text", "trace_live",
+    "trace_command", "trace_log script_reader thread_output command_line ticket_lock", "trace_hist trace_snapshot", "trace_session", "tracectl_mount", "tracectl",
+)
+CRATES = [*dict.fromkeys(" ".join(AHEAD).split()), "session_laws"]
 CHECK_USAGE = b"usage: ./check [--quick | --planted [CRATE..] | --help]\n"
 
 
@@ -59,7 +64,7 @@ def check_cases():
     unproved = "(nothing of the programs is proved)\n"
     telling = "echo \"rt: $(cut -d: -f1 crates.txt | tr '\\n' ' ')proved\"\necho '%s100 passed, 0 failed'"
     keeping, forgetting = telling % "done in this run: 1 of the 1 proofs\n", telling % ""
-    ahead = [" min: %s proved\n" % crates for crates in ("trace_lex", "trace_snapshot ticket_lock fuse_wire fuse_serve", "trace_text", "tracectl", " ".join(CRATES))]
+    ahead = [" min: %s proved\n" % crates for crates in (*AHEAD, " ".join(CRATES))]
     return [
         case("all of it", [], whole, each, 0, jobs, last=b"\n199 passed, 0 failed\n"),
         case("all of it, and rt shares the processors", [], whole, ["rt ci RT_JOBS= "], 0, last=b"\n199 passed, 0 failed\n"),
