@@ -15,23 +15,12 @@ use std::mem;
 ///
 /// `reader` is the reader page, outside the circle; `circle` the pages of the circle before the tail page, head page first; `tail` the tail page,
 /// where records are written; `spare` the free ones. A reader page that is still the tail page is kept at `tail`, and `reader` is a free buffer.
+#[derive(Drop)]
 pub struct Pages {
     pub reader: Page,
     pub circle: VecDeque<Page>,
     pub tail: Page,
     pub spare: VecDeque<Page>,
-}
-
-impl Drop for Pages {
-    // Not derived, so that no crate above proves the drops of its parts.
-    fn drop(self) {
-        let Pages {
-            reader: _,
-            circle: _,
-            tail: _,
-            spare: _,
-        } = self;
-    }
 }
 
 /// A record that was read: its page, its number among the accepted ones, and its length in bytes.

@@ -24,23 +24,12 @@ use std::alloc::{AllocError, Global};
 use std::marker::Model;
 
 /// The rings of 1 to 8 CPUs, all of one shape.
+#[derive(Drop)]
 pub struct Buffer {
     alloc: Global,
     pages: u32,
     page_bytes: u32,
     rings: Vec<Ring>,
-}
-
-impl Drop for Buffer {
-    // Not derived, so that no crate above proves the drops of its parts.
-    fn drop(self) {
-        let Buffer {
-            alloc: _,
-            pages: _,
-            page_bytes: _,
-            rings: _,
-        } = self;
-    }
 }
 
 impl Model for Buffer {
