@@ -43,22 +43,6 @@ module _ {X : Type 0} (p : X → Bool) (xs : List X) (i : ℕ) where
   pub place_none : length xs ≤ i → position p xs ≡ position_from p i (drop i xs) → None ≡ position p xs
   place_none past so_far = sym (so_far ∙ ap (position_from p i) (drop_all i xs past))
 
-  -- how many pass from the front on
-  pub run_more : (d : X) → i < length xs → p (get_or xs i d) ≡ true → prefix_len p xs ≡ i + prefix_len p (drop i xs)
-      → prefix_len p xs ≡ (i + 1) + prefix_len p (drop (i + 1) xs)
-  run_more d within passes so_far =
-      let here : prefix_len p (drop i xs) ≡ 1 + prefix_len p (drop (i + 1) xs) =
-      ap (prefix_len p) (drop_more xs i d within) ∙ ap (λ b. cond b (1 + prefix_len p (drop (i + 1) xs)) 0) passes in
-      omega (arith, so_far, here)
-
-  pub run_end : (d : X) → i < length xs → p (get_or xs i d) ≡ false → prefix_len p xs ≡ i + prefix_len p (drop i xs) → i ≡ prefix_len p xs
-  run_end d within fails so_far =
-      let here : prefix_len p (drop i xs) ≡ 0 = ap (prefix_len p) (drop_more xs i d within) ∙ ap (λ b. cond b (1 + prefix_len p (drop (i + 1) xs)) 0) fails in
-      omega (arith, so_far, here)
-
-  pub run_all : length xs ≤ i → prefix_len p xs ≡ i + prefix_len p (drop i xs) → i ≡ prefix_len p xs
-  run_all past so_far = let none : prefix_len p (drop i xs) ≡ 0 = ap (prefix_len p) (drop_all i xs past) in omega (arith, so_far, none)
-
 pub place_start : {X : Type 0} (p : X → Bool) (xs : List X) → position p xs ≡ position_from p 0 xs
 place_start p xs = position_from-zero p xs
 

@@ -103,10 +103,7 @@ fn attributes_of(alloc: Global, pieces: &[ListItem]) -> Result<Vec<Attribute>, A
 {
     let mut found = Vec::with_capacity(alloc, pieces.len())?;
     for piece in pieces {
-        match attribute_of(alloc, piece) {
-            Ok(attribute) => found.push_reserved(attribute),
-            Err(error) => return Err(error),
-        }
+        found.push_reserved(attribute_of(alloc, piece)?);
     }
     Ok(found)
 }

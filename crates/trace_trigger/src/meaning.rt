@@ -104,10 +104,7 @@ pub(crate) fn keys_of(
 {
     let mut read = Vec::with_capacity(alloc, keys.len())?;
     for key in keys {
-        match key_in(alloc, fields, key) {
-            Ok(meant) => read.push_reserved(meant),
-            Err(fault) => return Err(fault),
-        }
+        read.push_reserved(key_in(alloc, fields, key)?);
     }
     Ok(read)
 }
@@ -135,10 +132,7 @@ pub(crate) fn value_sources(
 {
     let mut sources = Vec::with_capacity(alloc, values.len())?;
     for value in values {
-        match value_source(fields, value) {
-            Ok(source) => sources.push_reserved(source),
-            Err(fault) => return Err(fault),
-        }
+        sources.push_reserved(value_source(fields, value)?);
     }
     Ok(sources)
 }
@@ -167,10 +161,7 @@ pub(crate) fn names_of(alloc: Global, items: &[ListItem]) -> Result<Vec<Text>, A
 {
     let mut names = Vec::with_capacity(alloc, items.len())?;
     for item in items {
-        match item.bytes.clone() {
-            Ok(name) => names.push_reserved(name),
-            Err(error) => return Err(error),
-        }
+        names.push_reserved(item.bytes.clone()?);
     }
     Ok(names)
 }
@@ -190,16 +181,11 @@ fn hitcount_alone(alloc: Global) -> Result<Vec<SortKey>, AllocError>
     ensures { IfOk result (λ keys. keys.items ≡ lists.sort_keys []) }
 {
     let mut keys = Vec::with_capacity(alloc, 1)?;
-    match Text::from_slice(alloc, b"hitcount") {
-        Ok(name) => {
-            keys.push_reserved(SortKey {
-                name,
-                descending: false,
-            });
-            Ok(keys)
-        }
-        Err(error) => Err(error),
-    }
+    keys.push_reserved(SortKey {
+        name: Text::from_slice(alloc, b"hitcount")?,
+        descending: false,
+    });
+    Ok(keys)
 }
 
 /// The sort keys that are written.
@@ -208,10 +194,7 @@ fn written_sort_keys(alloc: Global, items: &[ListItem]) -> Result<Vec<SortKey>, 
 {
     let mut keys = Vec::with_capacity(alloc, items.len())?;
     for item in items {
-        match sort_key_of(alloc, item) {
-            Ok(key) => keys.push_reserved(key),
-            Err(error) => return Err(error),
-        }
+        keys.push_reserved(sort_key_of(alloc, item)?);
     }
     Ok(keys)
 }

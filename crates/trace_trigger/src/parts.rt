@@ -37,12 +37,7 @@ fn word_len(text: &[u8]) -> usize
     ensures value { result ≡ prefix_len frames.is_unblank text.now }
     ensures bound { result ≤ length text.now }
 {
-    for (index, byte) in text.iter().enumerate() {
-        if is_blank(*byte) {
-            return index;
-        }
-    }
-    text.len()
+    text.iter().take_while(|byte| !is_blank(**byte)).count()
 }
 
 /// The first word, and what follows it.
