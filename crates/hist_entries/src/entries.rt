@@ -100,15 +100,10 @@ pub(crate) fn index_of(entries: &Entries, keys: &[Key], emission: &Emission) -> 
 fn is_cell<'a>(kept: &KeyCell<'static>, cell: RowCell<'a>) -> bool
     ensures { result ≡ same_cell (datum_in kept.now) (datum_read cell.entry) }
 {
-    match kept {
-        KeyCell::Num(left) => match cell {
-            RowCell::Num(right) => *left == right,
-            RowCell::Text(_) => false,
-        },
-        KeyCell::Text(left) => match cell {
-            RowCell::Text(right) => left.as_slice() == right,
-            RowCell::Num(_) => false,
-        },
+    match (kept, cell) {
+        (KeyCell::Num(left), RowCell::Num(right)) => *left == right,
+        (KeyCell::Text(left), RowCell::Text(right)) => left.as_slice() == right,
+        _ => false,
     }
 }
 
@@ -165,10 +160,7 @@ fn kept_key(
 {
     let mut cells = Vec::with_capacity(alloc, keys.len())?;
     for key in keys {
-        match keep(alloc, key_cell(key, emission)) {
-            Ok(cell) => cells.push_reserved(cell),
-            Err(error) => return Err(error),
-        }
+        cells.push_reserved(keep(alloc, key_cell(key, emission))?);
     }
     Ok(cells)
 }
@@ -211,14 +203,10 @@ pub(crate) fn reserve_entry(
 {
     entries.reserve(1)?;
     let key = kept_key(alloc, keys, emission)?;
-    match Tally::new(alloc, width) {
-        Ok(tally) => {
-            entries.truncate(kept);
-            put_last(entries, key, tally);
-            Ok(())
-        }
-        Err(error) => Err(error),
-    }
+    let tally = Tally::new(alloc, width)?;
+    entries.truncate(kept);
+    put_last(entries, key, tally);
+    Ok(())
 }
 
 /// How many entries are shown, where the entry at an index is one of them: all, if it isn't yet, since at most the last is not shown.
@@ -250,10 +238,7 @@ fn values_of(alloc: Global, cells: &[KeyCell<'static>]) -> Result<Vec<Value>, Al
 {
     let mut values = Vec::with_capacity(alloc, cells.len())?;
     for cell in cells {
-        match value_of(alloc, cell) {
-            Ok(value) => values.push_reserved(value),
-            Err(error) => return Err(error),
-        }
+        values.push_reserved(value_of(alloc, cell)?);
     }
     Ok(values)
 }
@@ -279,10 +264,7 @@ pub fn rows_of(alloc: Global, entries: &Entries, count: usize) -> Result<Vec<His
         let Some((key, tally)) = entries.get_index(index) else {
             unreachable!()
         };
-        match row_of(alloc, key, tally) {
-            Ok(row) => rows.push_reserved(row),
-            Err(error) => return Err(error),
-        }
+        rows.push_reserved(row_of(alloc, key, tally)?);
     }
     Ok(rows)
 }

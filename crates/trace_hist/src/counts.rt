@@ -78,7 +78,7 @@ impl Counts {
         ensures unreserved { OnErr result (self.old.next ≢ In (hit_of by.now emission.now).key) }
     {
         let keys = by.keys();
-        match reserve(
+        self.next = reserve(
             &mut self.entries,
             &mut self.hints,
             alloc,
@@ -87,13 +87,8 @@ impl Counts {
             self.width,
             keys,
             emission,
-        ) {
-            Ok(next) => {
-                self.next = next;
-                Ok(())
-            }
-            Err(error) => Err(error),
-        }
+        )?;
+        Ok(())
     }
 
     /// Counts a row of an emission, which a trigger reads, where that was reserved. What was reserved stays so.

@@ -8,7 +8,7 @@ pub loop-key-preserved : goal.loop-key-preserved
 loop-key-preserved c = record {
   room = omega (arith, c.loop-key.invariant.room, c.loop-key-test.true, c.push_reserved.ensures.len, c.push_reserved.ensures.capacity);
   filled = filled_more (key_cell c.args.emission.now) datum_in c.args.keys.now c.loop-key.key-index c.key-item.result _ _ _ c.loop-key-test.true c.key-item.is
-      (c.in-Ok.ensures ∙ c.key_cell.ensures)
+      (c.in_ok-keep.ensures ∙ c.key_cell.ensures)
       c.push_reserved.ensures.items c.loop-key.invariant.filled;
 }
 

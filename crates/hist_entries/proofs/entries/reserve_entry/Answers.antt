@@ -17,16 +17,16 @@ put_last-requires-clause-new c =
     ∙ ap (is_among (entry_keys (take c.args.kept (entries_in pairs)))) key
     ∙ among-take c.args.kept (entries_in pairs) (key_of c.args.keys.now c.args.emission.now) c.requires.new
 
-pub returns-in-Ok-clause-ok : goal.returns-in-Ok-clause-ok
-returns-in-Ok-clause-ok c =
+pub returns-clause-ok : goal.returns-clause-ok
+returns-clause-ok c =
     let pairs = c.args.entries.now.entries in
     let key : cells_in c.in_ok-key.key ≡ key_of c.args.keys.now c.args.emission.now = c.in_ok-key.ensures in
-    let count : c.in-Ok.tally.hitcount ≡ 0 = c.in-Ok.ensures.hitcount in
-    let sums : c.in-Ok.tally.sums.items ≡ replicate c.args.width (pos 0) = c.in-Ok.ensures.sums in
+    let count : c.in_ok-tally.tally.hitcount ≡ 0 = c.in_ok-tally.ensures.hitcount in
+    let sums : c.in_ok-tally.tally.sums.items ≡ replicate c.args.width (pos 0) = c.in_ok-tally.ensures.sums in
     let kept : c.truncate.new.self.entries ≡ take c.args.kept pairs = c.truncate.ensures.entries ∙ ap (take c.args.kept) c.reserve.ensures.entries in
     let last = c.put_last.ensures in
-    ap entries_in last ∙ map-append entry_in c.truncate.new.self.entries ((c.in_ok-key.key, c.in-Ok.tally) ∷ [])
-    ∙ ap (λ l. entries_in l ++ entry_in (c.in_ok-key.key, c.in-Ok.tally) ∷ []) kept
-    ∙ ap (λ (l : List Entry). l ++ entry_in (c.in_ok-key.key, c.in-Ok.tally) ∷ []) (sym (take-map entry_in c.args.kept pairs))
+    ap entries_in last ∙ map-append entry_in c.truncate.new.self.entries ((c.in_ok-key.key, c.in_ok-tally.tally) ∷ [])
+    ∙ ap (λ l. entries_in l ++ entry_in (c.in_ok-key.key, c.in_ok-tally.tally) ∷ []) kept
+    ∙ ap (λ (l : List Entry). l ++ entry_in (c.in_ok-key.key, c.in_ok-tally.tally) ∷ []) (sym (take-map entry_in c.args.kept pairs))
     ∙ ap (λ (e : Entry). take c.args.kept (entries_in pairs) ++ e ∷ [])
-    (empty-is c.args.width _ c.in_ok-key.key c.in-Ok.tally key count sums)
+    (empty-is c.args.width _ c.in_ok-key.key c.in_ok-tally.tally key count sums)

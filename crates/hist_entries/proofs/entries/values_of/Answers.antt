@@ -8,7 +8,7 @@ pub loop-cell-preserved : goal.loop-cell-preserved
 loop-cell-preserved c = record {
   room = omega (arith, c.loop-cell.invariant.room, c.loop-cell-test.true, c.push_reserved.ensures.len, c.push_reserved.ensures.capacity);
   filled = filled_more datum_in datum_of c.args.cells.now c.loop-cell.cell-index c.cell-item.result _ _ _ c.loop-cell-test.true c.cell-item.is
-      c.in-Ok.ensures
+      c.in_ok-value_of.ensures
       c.push_reserved.ensures.items c.loop-cell.invariant.filled;
 }
 

@@ -7,8 +7,8 @@ use Rattle.trace_hist.proofs.Counting.{unreserved-new}
 use Rattle.hist_entries.proofs.Reserving.{among-take}
 use Rattle.trace_hist.proofs.counts.Counts.reserve.Goals as goal
 
-pub returns-in-Err-clause-new : goal.returns-in-Err-clause-new
-returns-in-Err-clause-new c =
+pub returns-in_err-self-inside-clause-new : goal.returns-in_err-self-inside-clause-new
+returns-in_err-self-inside-clause-new c =
     let entries = entries_in c.self.inside.entries.entries in
     let key = key_of c.args.by.now.keys c.args.emission.now in
     let new : is_among (entry_keys entries) key ≡ false = search rules in
@@ -16,8 +16,8 @@ returns-in-Err-clause-new c =
     ap (λ (k : Kept). is_among (entry_keys k.table.entries) key) (sym c.self.view_is) ∙ among-take c.self.inside.shown entries key new in
     search rules
 
-pub returns-in-Err-clause-unreserved : goal.returns-in-Err-clause-unreserved
-returns-in-Err-clause-unreserved c =
+pub returns-in_err-self-inside-clause-unreserved : goal.returns-in_err-self-inside-clause-unreserved
+returns-in_err-self-inside-clause-unreserved c =
     let entries = entries_in c.self.inside.entries.entries in
     let key = key_of c.args.by.now.keys c.args.emission.now in
     let new : is_among (entry_keys entries) key ≡ false = search rules in
@@ -26,6 +26,14 @@ returns-in-Err-clause-unreserved c =
 
 pub invariant_of-self : goal.invariant_of-self
 invariant_of-self c = record {
+  shown = c.reserve.ensures.stays.shown;
+  size = c.reserve.ensures.stays.size;
+  end = c.reserve.ensures.stays.end;
+  rows = c.reserve.ensures.stays.counted c.self.inside.hits c.self.invariant.rows;
+}
+
+pub invariant_of-self-2 : goal.invariant_of-self-2
+invariant_of-self-2 c = record {
   shown = c.reserve.ensures.stays.shown;
   size = c.reserve.ensures.stays.size;
   end = c.reserve.ensures.stays.end;
