@@ -85,6 +85,7 @@ impl Filter {
     }
 
     /// Whether the filter holds of a row of its event, emitted on a CPU by a process. It takes no memory.
+    #[inline(never)]
     pub fn passes(&self, row: &Row, cpu: u32, pid: i32) -> bool
         // As one function of the filter and the emission.
         ensures exact { result ≡ holds_of self.now (record { values = row.now.values; cpu = cpu; pid = pid }) }

@@ -27,7 +27,7 @@ ghost use Rattle.trace_format.specs.declared.operand.Operand.TheVariants as oper
 ghost use Rattle.trace_filter.specs.declared.token.Comparison.TheVariants as comparisons;
 ghost use Rattle.trace_filter.specs.Tokens.{spots_from, tokens_of};
 ghost use Rattle.trace_filter.specs.Subjects.{first_fault, IsToldAs};
-ghost use Rattle.trace_filter.specs.Steps.{move_of, moves_from, evaluated, at_start};
+ghost use Rattle.trace_filter.specs.Steps.{move_of, moves_from, evaluated, at_start, fresh, with_operand};
 
 use crate::fault::FilterFault;
 use crate::frames::Frames;
@@ -59,6 +59,7 @@ impl Test {
     ghost use Rattle.trace_filter.specs.Steps.{test_of};
 
     /// Whether the test holds of an emission.
+    #[inline(always)]
     fn holds(&self, emission: &Emission) -> bool
         ensures { result ≡ test_of self.now.comparison (operand_value emission.now self.now.subject) (datum_of self.now.value) }
     {
@@ -201,11 +202,28 @@ pub(crate) fn compile(
     Ok(steps)
 }
 
-/// Whether a filter holds of an emission.
+/// Whether a filter holds of an emission. Tests that only `&&` joins need no frames: one truth value says what they leave.
 pub(crate) fn evaluate(steps: &[Step], emission: &Emission) -> bool
     ensures { result ≡ evaluated emission.now at_start (map move_of steps.now) }
 {
+    let mut all = true;
+    for (i, step) in steps.iter().enumerate() {
+        match step {
+            Step::Test(test) => all = all && test.holds(emission),
+            Step::And => continue,
+            _ => return evaluate_after(all, &steps[i..], emission),
+        }
+    }
+    all
+}
+
+/// Whether the rest of a filter holds of an emission, after factors that all hold or not.
+#[inline(never)]
+fn evaluate_after(all: bool, steps: &[Step], emission: &Emission) -> bool
+    ensures { result ≡ evaluated emission.now (record { frame = with_operand fresh all; outer = [] }) (map move_of steps.now) }
+{
     let mut frames = Frames::new();
+    frames.test(all);
     for step in steps {
         frames.take(step, emission);
     }

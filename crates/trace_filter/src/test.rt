@@ -54,6 +54,7 @@ fn pattern(number: i128) -> u64
     number.rem_euclid(1 << 64) as u64
 }
 
+#[inline(always)]
 fn compare_numbers(comparison: Comparison, left: i128, right: i128) -> bool
     ensures { result ≡ number_test comparison left right }
 {
@@ -69,6 +70,8 @@ fn compare_numbers(comparison: Comparison, left: i128, right: i128) -> bool
     }
 }
 
+// Out of line, so that tests of numbers don't pay for it.
+#[inline(never)]
 fn compare_texts(comparison: Comparison, left: &[u8], right: &[u8]) -> bool
     ensures { result ≡ text_test comparison left.now right.now }
 {
@@ -81,6 +84,7 @@ fn compare_texts(comparison: Comparison, left: &[u8], right: &[u8]) -> bool
 }
 
 /// Whether a row's value compares so with a written one.
+#[inline(always)]
 pub(crate) fn compare_values(comparison: Comparison, left: &Value, right: &Value) -> bool
     ensures { result ≡ datum_test comparison (datum_of left.now) (datum_of right.now) }
 {
