@@ -16,11 +16,11 @@ use Rattle.trace_trigger.specs.declared.trigger.TriggerText.{TriggerText}
 use Rattle.trace_trigger.specs.declared.trigger.TriggerText.TheVariants.{Nothing, Attach, Remove, Hist, RemoveHist}
 use Rattle.hist_entries.specs.Hits.{Hit}
 use Rattle.trace_hist.specs.Groups.{grouped}
-use Rattle.trace_text.specs.BufferText.{trace_text, pipe_text}
-use Rattle.trigger_text.specs.HistText.{hist_text}
-use Rattle.trace_text.specs.SnapshotText.{snapshot_text}
-use Rattle.trace_text.specs.StatsText.{stats_text}
-use Rattle.trigger_text.specs.TriggerText as texts
+use Rattle.record_text.specs.BufferText.{trace_text, pipe_text}
+use Rattle.trace_text.specs.HistText.{hist_text}
+use Rattle.record_text.specs.SnapshotText.{snapshot_text}
+use Rattle.record_text.specs.StatsText.{stats_text}
+use Rattle.trace_text.specs.TriggerText as texts
 use Rattle.trace_command.specs.Paths.{File, SyntheticEvents, OfInstance, OfCpu, OfEvent}
 use Rattle.trace_command.specs.Requests.{Request, Emission, MakeInstance, RemoveInstance, WriteFile, ReadFile}
 use Rattle.trace_command.specs.declared.command.Config.{Config}

@@ -9,9 +9,9 @@ use Rattle.page_ring.specs.Events.{Event}
 use Rattle.trace_buffer.specs.Families.{on_cpu, events_of, kept_count, cpu_readings, cpu_stats}
 use Rattle.trace_buffer.specs.Orders.{kept_from, merged}
 use Rattle.trace_buffer.proofs.MergeLaws.{merged_is_in_time_order}
-use Rattle.trace_text.specs.BufferText.{reading_line, trace_text, entries_of_all, overrun_of_all}
-use Rattle.trace_text.specs.SnapshotText.{snapshot_text}
-use Rattle.trace_text.specs.TraceText.{trace_head}
+use Rattle.record_text.specs.BufferText.{reading_line, trace_text, entries_of_all, overrun_of_all}
+use Rattle.record_text.specs.SnapshotText.{snapshot_text}
+use Rattle.record_text.specs.TraceText.{trace_head}
 use Rattle.trace_command.specs.Requests.{Request}
 use Rattle.trace_command.specs.declared.command.Config.{Config}
 use Rattle.trace_history.specs.FileTexts.{shown_snapshot, shown_trace}

@@ -12,7 +12,7 @@ use Rattle.trace_buffer.specs.Families.{CpuReading, on_cpu, cpu_readings, kept_c
 use Rattle.trace_buffer.specs.Orders.{Consumed, consume_any, after_cpu_reads}
 use Rattle.trace_buffer.proofs.Consumed.{kept_count-consumed}
 use Rattle.trace_format.specs.Definitions.{Definition}
-use Rattle.trace_text.specs.BufferText.{pipe_text, taken_lines}
+use Rattle.record_text.specs.BufferText.{pipe_text, taken_lines}
 use Rattle.trace_command.specs.Paths.{File, OfInstance, OfCpu}
 use Rattle.trace_command.specs.Requests.{Request, ReadFile}
 use Rattle.trace_command.specs.declared.command.Config.{Config}

@@ -11,8 +11,8 @@ use Rattle.trace_buffer.specs.Orders.{Consumed, by_timestamp, consume_any, merge
 use Rattle.trace_buffer.proofs.Consumed.{consumed-min, taken_in_order-consumed}
 use Rattle.trace_buffer.proofs.Merges.{AreAtLeast, Rises as NeverFalls, Rises-from_sort}
 use Rattle.trace_buffer.proofs.PipeLaws.{reads_consume_what_they_take, reads_take_so_many}
-use Rattle.trace_text.specs.BufferText.{taken_lines, pipe_text, trace_text, entries_of_all, overrun_of_all}
-use Rattle.trace_text.specs.TraceText.{trace_head}
+use Rattle.record_text.specs.BufferText.{taken_lines, pipe_text, trace_text, entries_of_all, overrun_of_all}
+use Rattle.record_text.specs.TraceText.{trace_head}
 use Rattle.trace_command.specs.Configs.{IsInRange}
 use Rattle.trace_command.specs.Requests.{Request}
 use Rattle.trace_command.specs.declared.command.Config.{Config}

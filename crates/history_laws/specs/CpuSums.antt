@@ -5,8 +5,8 @@ use Rattle.std.specs.List.{flat_map}
 use Rattle.page_ring.specs.declared.rings.RingStats.{RingStats}
 use Rattle.trace_buffer.specs.Families.{on_cpu, cpu_readings, cpu_stats, kept_count}
 use Rattle.trace_buffer.specs.Orders.{merged}
-use Rattle.trace_text.specs.BufferText.{reading_line}
-use Rattle.trace_text.specs.TraceText.{trace_head}
+use Rattle.record_text.specs.BufferText.{reading_line}
+use Rattle.record_text.specs.TraceText.{trace_head}
 use Rattle.trace_command.specs.Requests.{Request}
 use Rattle.trace_command.specs.declared.command.Config.{Config}
 use Rattle.trace_history.specs.FileTexts.{shown_snapshot, shown_trace}

@@ -7,7 +7,7 @@ use Rattle.page_ring.specs.Account.{Reading}
 use Rattle.page_ring.specs.Events.{Event}
 use Rattle.trace_buffer.specs.Families.{CpuReading, on_cpu, cpu_readings}
 use Rattle.trace_buffer.specs.Orders.{consume_any, merged}
-use Rattle.trace_text.specs.BufferText.{reading_line, taken_lines}
+use Rattle.record_text.specs.BufferText.{reading_line, taken_lines}
 use Rattle.trace_command.specs.Configs.{IsInRange}
 use Rattle.trace_command.specs.Requests.{Request}
 use Rattle.trace_command.specs.declared.command.Config.{Config}

@@ -6,7 +6,7 @@ use Rattle.trace_command.specs.Paths as paths
 use Rattle.trace_command.specs.declared.file_name.CpuFile.TheVariants as per_cpu
 use Rattle.trace_history.specs.FileTexts.{cpu_stats_text}
 use Rattle.trace_history.specs.Settings.{now_of}
-use Rattle.trace_text.specs.StatsText.{stats_text}
+use Rattle.record_text.specs.StatsText.{stats_text}
 use Rattle.mount_tree.specs.Children.{is_there, owner_is_there}
 use Rattle.mount_tree.specs.declared.file.File.{File}
 use Rattle.mount_tree.specs.declared.file.File.TheVariants as files

@@ -14,7 +14,7 @@ use Rattle.trace_history.specs.Pasts.{AreDone}
 use Rattle.trace_history.specs.Rings.{other_rings, rings}
 use Rattle.trace_history.specs.Settings.{now_of}
 use Rattle.trace_history.specs.Snapshots.{exchange_count}
-use Rattle.trace_text.specs.StatsText.{stats_text}
+use Rattle.record_text.specs.StatsText.{stats_text}
 use Rattle.mount_tree.specs.Children.{is_there}
 use Rattle.mount_tree.specs.declared.file.File.TheVariants as files
 use Rattle.mount_service.specs.TracerServices.{IsServing}

@@ -12,15 +12,15 @@ use Rattle.trace_format.specs.Operands.{operand_named}
 use Rattle.trace_filter.specs.Syntax.{step as filter_step}
 use Rattle.trace_filter.specs.Tokens.{piece_of}
 use Rattle.trace_filter.specs.Values.{holds_of}
-use Rattle.trace_text.specs.BufferText.{taken_lines, pipe_text, trace_text}
-use Rattle.trace_text.specs.DeclarationText.{declaration_text}
-use Rattle.trace_text.specs.FieldText.{field_text}
-use Rattle.trace_text.specs.FormatText.{layout_line, field_line, common_pid_line, format_text}
-use Rattle.trace_text.specs.RecordText.{line_start, cell_text, row_line, record_line}
-use Rattle.trace_text.specs.SnapshotText.{freed_line, snapshot_text}
-use Rattle.trace_text.specs.StatsText.{stats_line, stats_text}
-use Rattle.trace_text.specs.TraceText.{lost_line, trace_title, trace_head}
-use Rattle.trigger_text.specs.TriggerText.{trigger_line, available_triggers, trigger_text}
+use Rattle.record_text.specs.BufferText.{taken_lines, pipe_text, trace_text}
+use Rattle.record_text.specs.DeclarationText.{declaration_text}
+use Rattle.record_text.specs.FieldText.{field_text}
+use Rattle.record_text.specs.FormatText.{layout_line, field_line, common_pid_line, format_text}
+use Rattle.record_text.specs.RecordText.{line_start, cell_text, row_line, record_line}
+use Rattle.record_text.specs.SnapshotText.{freed_line, snapshot_text}
+use Rattle.record_text.specs.StatsText.{stats_line, stats_text}
+use Rattle.record_text.specs.TraceText.{lost_line, trace_title, trace_head}
+use Rattle.trace_text.specs.TriggerText.{trigger_line, available_triggers, trigger_text}
 use Rattle.trace_trigger.specs.Frames.{filter_of}
 use Rattle.trace_trigger.specs.TriggerTexts.{count_of, condition_of, snapshot_said, said_of}
 use Rattle.trace_trigger.specs.TriggerTexts.{trigger_of as said_trigger}

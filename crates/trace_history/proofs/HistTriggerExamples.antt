@@ -20,11 +20,11 @@ use Rattle.trace_trigger.specs.HistTexts.{read_of, spec_from, spec_of}
 use Rattle.hist_entries.specs.PrintOrder.{printed}
 use Rattle.trace_trigger.specs.FittingSpecs.{is_fitting}
 use Rattle.trace_trigger.specs.SameSpecs.{is_same}
-use Rattle.trigger_text.specs.EntryText.{entry_line}
-use Rattle.trigger_text.specs.HistText.{hist_head, total_line, totals_text, one_hist, hist_text}
-use Rattle.trace_text.specs.SnapshotText.{freed_line, snapshot_text}
-use Rattle.trace_text.specs.StatsText.{stats_line, stats_text}
-use Rattle.trigger_text.specs.TriggerText.{lists_text, hist_line, trigger_line, available_triggers, trigger_text}
+use Rattle.trace_text.specs.EntryText.{entry_line}
+use Rattle.trace_text.specs.HistText.{hist_head, total_line, totals_text, one_hist, hist_text}
+use Rattle.record_text.specs.SnapshotText.{freed_line, snapshot_text}
+use Rattle.record_text.specs.StatsText.{stats_line, stats_text}
+use Rattle.trace_text.specs.TriggerText.{lists_text, hist_line, trigger_line, available_triggers, trigger_text}
 use Rattle.trace_trigger.specs.TriggerTexts.{count_of, condition_of, snapshot_said, said_of}
 use Rattle.trace_trigger.specs.TriggerTexts.{trigger_of as said_trigger}
 use Rattle.trace_command.specs.Paths.{top_file, option_file, events_file, system_file, cpu_file, event_file, mount_point, below_mount_point, address_of, instance_of}

@@ -8,7 +8,7 @@ use Rattle.page_ring.specs.Account.{Reading}
 use Rattle.page_ring.specs.Events as ring
 use Rattle.page_ring.specs.Laws.{puts_pass, KeptWerePut}
 use Rattle.trace_buffer.specs.Families.{events_of, with_events, all_cleared, cpu_readings, kept_count}
-use Rattle.trace_text.specs.RecordText.{record_line}
+use Rattle.record_text.specs.RecordText.{record_line}
 use Rattle.trace_command.specs.Configs.{IsInRange}
 use Rattle.trace_command.specs.Paths.{File, OfInstance, OfCpu}
 use Rattle.trace_command.specs.declared.file_name.CpuFile.TheVariants as per_cpu

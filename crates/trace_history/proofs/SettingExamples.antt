@@ -12,13 +12,13 @@ use Rattle.trace_format.specs.Operands.{operand_named}
 use Rattle.trace_filter.specs.Syntax.{step as filter_step}
 use Rattle.trace_filter.specs.Tokens.{piece_of}
 use Rattle.trace_filter.specs.Values.{holds_of}
-use Rattle.trace_text.specs.BufferText.{taken_lines, pipe_text, trace_text}
-use Rattle.trace_text.specs.DeclarationText.{declaration_text}
-use Rattle.trace_text.specs.FieldText.{field_text}
-use Rattle.trace_text.specs.FormatText.{layout_line, field_line, common_pid_line, format_text}
-use Rattle.trace_text.specs.RecordText.{line_start, cell_text, row_line, record_line}
-use Rattle.trace_text.specs.StatsText.{stats_line, stats_text}
-use Rattle.trace_text.specs.TraceText.{lost_line, trace_title, trace_head}
+use Rattle.record_text.specs.BufferText.{taken_lines, pipe_text, trace_text}
+use Rattle.record_text.specs.DeclarationText.{declaration_text}
+use Rattle.record_text.specs.FieldText.{field_text}
+use Rattle.record_text.specs.FormatText.{layout_line, field_line, common_pid_line, format_text}
+use Rattle.record_text.specs.RecordText.{line_start, cell_text, row_line, record_line}
+use Rattle.record_text.specs.StatsText.{stats_line, stats_text}
+use Rattle.record_text.specs.TraceText.{lost_line, trace_title, trace_head}
 use Rattle.trace_command.specs.Paths.{top_file, option_file, events_file, system_file, cpu_file, event_file, mount_point, below_mount_point, address_of, instance_of}
 use Rattle.trace_history.specs.FileTexts.{flag_text, cpu_stats_text, shown_trace, shown_pipe, shown_cpu_pipe, option_text, declarations_text, mixture_text, filter_text}
 use Rattle.trace_history.specs.History.{emission_answer, declaration_answer, switch_answer, filter_answer, filter_of_all_answer, option_answer, tracing_answer, snapshot_answer, named_answer, answer}

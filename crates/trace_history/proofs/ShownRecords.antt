@@ -12,8 +12,8 @@ use Rattle.trace_format.specs.Definitions.{Definition}
 use Rattle.trace_format.specs.Rows.{first_wrong, first_missing, given, row_unless, row_of}
 use Rattle.trace_format.proofs.BuildLemmas.{row_held}
 use Rattle.trace_format.proofs.Payloads.{length-field_bytes}
-use Rattle.trace_text.specs.Laws.{IsHeadOf}
-use Rattle.trace_text.proofs.RecordLemmas.{record_shows_its_row}
+use Rattle.record_text.specs.Laws.{IsHeadOf}
+use Rattle.record_text.proofs.RecordLemmas.{record_shows_its_row}
 use Rattle.trace_command.specs.Configs.{IsInRange}
 use Rattle.trace_history.specs.History.{requests_of, IsEntry, IsLegalNewestFirst}
 use Rattle.trace_history.specs.Laws.{RecordsShowTheirRows}

@@ -6,14 +6,14 @@ use Rattle.trace_buffer.specs.Families.{cpu_stats}
 use Rattle.trace_filter.specs.Filters.{Parsed}
 use Rattle.trace_lex.specs.Blanks.{trimmed}
 use Rattle.trace_format.specs.Definitions.{Definition}
-use Rattle.trace_text.specs.BufferText.{trace_text, pipe_text}
-use Rattle.trace_text.specs.DeclarationText.{declaration_text}
-use Rattle.trace_text.specs.FormatText.{format_text}
-use Rattle.trigger_text.specs.HistText.{hist_text}
-use Rattle.trace_text.specs.SnapshotText.{snapshot_text}
-use Rattle.trace_text.specs.StatsText.{stats_text}
-use Rattle.trigger_text.specs.TriggerText.{trigger_text}
-use Rattle.trigger_text.specs.TriggerText as texts
+use Rattle.record_text.specs.BufferText.{trace_text, pipe_text}
+use Rattle.record_text.specs.DeclarationText.{declaration_text}
+use Rattle.record_text.specs.FormatText.{format_text}
+use Rattle.trace_text.specs.HistText.{hist_text}
+use Rattle.record_text.specs.SnapshotText.{snapshot_text}
+use Rattle.record_text.specs.StatsText.{stats_text}
+use Rattle.trace_text.specs.TriggerText.{trigger_text}
+use Rattle.trace_text.specs.TriggerText as texts
 use Rattle.trace_command.specs.Requests.{Request}
 use Rattle.trace_history.specs.Settings.{NumberedEvent, declared_events, now_of}
 use Rattle.trace_history.specs.Rings.{rings, spare_rings, pipe_read, cpu_pipe_read}

@@ -10,7 +10,7 @@ use Rattle.trace_filter.specs.Filters.{IsFilter, Passes}
 use Rattle.trace_format.specs.Cells.{Cells, IsRowOf, payload_of}
 use Rattle.trace_format.specs.Definitions.{Definition}
 use Rattle.trace_trigger.specs.SameSpecs.{IsSame}
-use Rattle.trace_text.specs.RecordText.{record_line, row_line}
+use Rattle.record_text.specs.RecordText.{record_line, row_line}
 use Rattle.trace_trigger.specs.TriggerTexts.{said_of}
 use Rattle.trace_trigger.specs.declared.fault.TriggerFault.{TriggerFault}
 use Rattle.trace_trigger.specs.declared.trigger.TriggerText.{TriggerText}

@@ -7,10 +7,10 @@ use Rattle.trace_filter.specs.Filters.{parsed_of}
 use Rattle.trace_format.specs.Definitions.{Definition}
 use Rattle.trace_history.proofs.EventLists.{named_at}
 use Rattle.trace_buffer.specs.Buffers.{Seen}
-use Rattle.trace_text.specs.SnapshotText.{SpareHasShape}
-use Rattle.trigger_text.specs.HistText.{hist_text}
-use Rattle.trigger_text.specs.TriggerText as texts
-use Rattle.trigger_text.specs.TriggerText.{trigger_text}
+use Rattle.record_text.specs.SnapshotText.{SpareHasShape}
+use Rattle.trace_text.specs.HistText.{hist_text}
+use Rattle.trace_text.specs.TriggerText as texts
+use Rattle.trace_text.specs.TriggerText.{trigger_text}
 use Rattle.trace_hist.specs.Groups.{group, grouped}
 use Rattle.hist_entries.specs.Hits.{Hit}
 use Rattle.trace_trigger.specs.FittingLaws.{CountsAlike}
@@ -20,7 +20,7 @@ use Rattle.trace_history.specs.HistTriggers.{HistTrigger, hists_of, hits_of}
 use Rattle.trace_history.specs.Triggers as history
 use Rattle.trace_history.specs.Triggers.{trigger_of}
 use Rattle.trace_history.specs.Settings.{declared_events, event_named, filter_of, is_enabled, kept_filter}
-use Rattle.trace_text.specs.FormatText.{format_text}
+use Rattle.record_text.specs.FormatText.{format_text}
 use Rattle.trace_instance.specs.FileAnswers.{IsSource}
 use Rattle.trace_instance.specs.private.Commands.{kept_in_order, shown_attached, shown_filter, shown_with}
 use Rattle.trace_instance.specs.Instances.{HasShape, kept_as, kept_trigger}

@@ -6,7 +6,7 @@ ghost use Rattle.trace_instance.specs.private.Commands.{shown_attached};
 ghost use Rattle.trace_instance.specs.private.SharedTables as sharing;
 ghost use Rattle.trace_instance.specs.KeptHists as kept;
 ghost use Rattle.trace_instance.specs.KeptHists.{kept_at, table_numbered};
-ghost use Rattle.trigger_text.specs.ShownTriggers.{shown_trigger};
+ghost use Rattle.trace_text.specs.ShownTriggers.{shown_trigger};
 ghost use Rattle.trace_trigger.specs.SameSpecs.{is_passed};
 
 use crate::tables;
@@ -15,7 +15,7 @@ use std::alloc::{AllocError, Global};
 use std::marker::Model;
 use trace_format::Row;
 use trace_hist::HistSpec;
-use trigger_text::Shown;
+use trace_text::Shown;
 
 /// The most triggers, of all kinds, that an event may have in an instance.
 pub const MOST_TRIGGERS: usize = 4;

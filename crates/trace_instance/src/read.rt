@@ -11,9 +11,9 @@ ghost use Rattle.trace_history.specs.History as history;
 ghost use Rattle.trace_history.specs.Settings.{declared_events};
 ghost use Rattle.trace_buffer.specs.Buffers as buffers;
 ghost use Rattle.trace_format.specs.Definitions.{Definition};
-ghost use Rattle.trace_text.specs.FormatText as texts;
-ghost use Rattle.trigger_text.specs.TriggerText.{trigger_text as trigger_text_of};
-ghost use Rattle.trigger_text.specs.HistText.{hist_text as hist_text_of};
+ghost use Rattle.record_text.specs.FormatText as texts;
+ghost use Rattle.trace_text.specs.TriggerText.{trigger_text as trigger_text_of};
+ghost use Rattle.trace_text.specs.HistText.{hist_text as hist_text_of};
 ghost use Rattle.trace_instance.specs.FileAnswers.{AreThere, HasAll, IsRead, IsReadable, IsSource};
 ghost use Rattle.trace_instance.specs.private.Commands.{kept_in_order, shown_attached};
 ghost use Rattle.trace_instance.specs.Files.{IsThere, file_at, name_at};
@@ -23,13 +23,13 @@ use crate::file::{File, event_at};
 use crate::instance::Instance;
 use crate::shown::{shown_hists, shown_in_order};
 use crate::text::{filter_text, flag_text, mixture_text, option_text, push_declarations};
+use record_text::{format_text, pipe_text, snapshot_text, stats_text, trace_text};
 use std::alloc::{AllocError, Global};
 use trace_buffer::count_each;
 use trace_command::{CpuFile, EventFile, Refusal, Reply, TopFile};
 use trace_format::Catalog;
 use trace_lex::Text;
-use trace_text::{format_text, pipe_text, snapshot_text, stats_text, trace_text};
-use trigger_text::{hist_text, trigger_text};
+use trace_text::{hist_text, trigger_text};
 
 /// What a read shows, and the change that it makes to the instance: only reads of a pipe consume records.
 #[derive(Drop)]

@@ -2,7 +2,7 @@
 
 ghost use Rattle.std.specs.Prelude.{◌≡◌, ◌++◌, map, IfOk, option_copied};
 ghost use Rattle.std.specs.List.{filter};
-ghost use Rattle.trigger_text.specs.ShownTriggers.{shown_trigger};
+ghost use Rattle.trace_text.specs.ShownTriggers.{shown_trigger};
 ghost use Rattle.trace_instance.specs.FileAnswers.{AreThere};
 ghost use Rattle.trace_instance.specs.private.Commands.{is_part, kept_in_order, shown_attached};
 
@@ -10,7 +10,7 @@ use crate::hists::AttachedHist;
 use crate::tables::Table;
 use crate::trigger::Trigger;
 use std::alloc::{AllocError, Global};
-use trigger_text::Shown;
+use trace_text::Shown;
 
 /// The hist triggers of an event.
 pub(crate) fn shown_hists<'a>(

@@ -3,15 +3,15 @@
 ghost use Rattle.std.specs.Prelude.{◌≡◌, ◌≤◌, ◌++◌, length, option_copied, IfOk, OnOk};
 ghost use Rattle.std.specs.List.{flat_map};
 ghost use Rattle.trace_history.specs.FileTexts as file_texts;
-ghost use Rattle.trace_text.specs.DeclarationText as texts;
+ghost use Rattle.record_text.specs.DeclarationText as texts;
 ghost use Rattle.trace_instance.specs.private.Commands.{shown_filter};
 
 use crate::file::event_at;
+use record_text::declaration_text;
 use std::alloc::{AllocError, Global};
 use trace_filter::Filter;
 use trace_format::Catalog;
 use trace_lex::Text;
-use trace_text::declaration_text;
 
 /// The text of a switch.
 #[tactic(auto, unfolding(trace_history::specs::FileTexts::flag_text))]

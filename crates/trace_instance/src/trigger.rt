@@ -5,12 +5,12 @@ ghost use Rattle.trace_history.specs.Triggers as triggers;
 ghost use Rattle.trace_instance.specs.Rows.{kept_acts, kept_holds};
 ghost use Rattle.trace_instance.specs.Deliveries.{counted_down};
 ghost use Rattle.trace_instance.specs.private.Commands.{shown_kept};
-ghost use Rattle.trigger_text.specs.ShownTriggers.{shown_trigger};
+ghost use Rattle.trace_text.specs.ShownTriggers.{shown_trigger};
 
 use trace_filter::Filter;
 use trace_format::Row;
+use trace_text::Shown;
 use trace_trigger::SnapshotTrigger;
-use trigger_text::Shown;
 
 /// A trigger that takes a snapshot for each emission of its event that passes its filter: this many more times, or without limit.
 #[derive(Drop)]

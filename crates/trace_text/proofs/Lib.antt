@@ -1,9 +1,3 @@
-pub mod LayoutLemmas
-pub mod RecordLemmas
-pub mod ProcessLemmas
-pub mod BufferLemmas
-pub mod SnapshotLemmas
 pub mod LoopLemmas
-pub mod CellLemmas
-pub mod EventLemmas
-pub mod StatsLemmas
+pub mod ZipLemmas
+pub mod HistTextExamples

@@ -1,9 +1,5 @@
-pub mod StatsText
-pub mod FieldText
-pub mod FormatText
-pub mod DeclarationText
-pub mod RecordText
-pub mod TraceText
-pub mod Laws
-pub mod BufferText
-pub mod SnapshotText
+pub mod TriggerText
+pub mod EntryText
+pub mod HistText
+pub mod ShownTriggers
+pub mod HistTextExamples

@@ -1,23 +1,17 @@
-//! The texts of a tracer's files: `stats`, `format`, `synthetic_events`, `trace`, `trace_pipe` and `snapshot`, after "The File System" and
-//! "Snapshot" of ftrace.rst, "Event formats" of events.rst and "Synthetic events" of histogram.rst.
+//! The texts of a tracer's files: an event's `trigger` and `hist`, after "Event triggers" of events.rst and "hist triggers" of histogram.rst, and all
+//! those of record_text.
 //!
 //! Each call appends its text to a vector. Where memory is refused, the vector is left as it was.
 #![tactic(auto)]
 
-pub mod append;
-mod declaration;
-mod field;
-mod format;
+mod entry;
+mod hist;
+mod hist_line;
 pub mod laws;
-mod pipe;
-mod record;
-mod snapshot;
-mod stats;
-mod trace;
+mod trigger;
 
-pub use declaration::declaration_text;
-pub use format::format_text;
-pub use pipe::pipe_text;
-pub use snapshot::snapshot_text;
-pub use stats::stats_text;
-pub use trace::trace_text;
+pub use hist::hist_text;
+pub use record_text::{
+    declaration_text, format_text, pipe_text, snapshot_text, stats_text, trace_text,
+};
+pub use trigger::{Shown, trigger_text};

@@ -16,7 +16,7 @@ use Rattle.trace_instance.specs.declared.tables.Table.{Table}
 use Rattle.trace_hist.specs.Groups.{grouped}
 use Rattle.trace_trigger.specs.HistSpecs.{SpecSeen}
 use Rattle.trace_instance.specs.declared.trigger.Trigger.{Trigger}
-use Rattle.trigger_text.specs.TriggerText as texts
+use Rattle.trace_text.specs.TriggerText as texts
 
 -- a value that has to be one
 abbrev pub needed_flag : Option Bool → Result Bool Refusal

@@ -1,6 +1,6 @@
 use Rattle.std.proofs.Common.{arith}
 use Rattle.std.proofs.Common.{◌+◌, slice_index_or}
-use Rattle.trace_text.specs.FormatText.{format_text}
+use Rattle.record_text.specs.FormatText.{format_text}
 use Rattle.std.proofs.lemmas.Grind.{common_steps}
 use Rattle.trace_instance.proofs.Showing.{then-ok}
 use Rattle.trace_instance.proofs.read.format.Goals as goal

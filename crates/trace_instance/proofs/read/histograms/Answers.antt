@@ -1,7 +1,7 @@
 use Rattle.std.proofs.Common.{rules}
 use Rattle.std.proofs.Common.{[], slice_index_or, map}
 use Rattle.trace_instance.specs.private.Commands.{shown_attached}
-use Rattle.trigger_text.specs.HistText.{hist_text}
+use Rattle.trace_text.specs.HistText.{hist_text}
 use Rattle.trace_instance.proofs.Showing.{then-ok}
 use Rattle.trace_instance.proofs.read.histograms.Goals as goal
 

@@ -1,7 +1,7 @@
 use Rattle.std.proofs.Common.{rules}
 use Rattle.std.proofs.Common.{[], None, slice_index_or}
 use Rattle.trace_instance.specs.private.Commands.{kept_in_order}
-use Rattle.trigger_text.specs.TriggerText.{trigger_text}
+use Rattle.trace_text.specs.TriggerText.{trigger_text}
 use Rattle.trace_instance.proofs.Showing.{then-ok}
 use Rattle.trace_instance.proofs.read.triggers.Goals as goal
 

@@ -1,7 +1,7 @@
 use Rattle.std.proofs.Common.{◌∙◌, ◌++◌, ◌≡◌, List, IfOk, false, ap, filter, map, subst}
-use Rattle.trigger_text.specs.ShownTriggers.{shown_trigger}
-use Rattle.trigger_text.specs.TriggerText as texts
-use Rattle.trigger_text.specs.declared.trigger.Shown.{Shown}
+use Rattle.trace_text.specs.ShownTriggers.{shown_trigger}
+use Rattle.trace_text.specs.TriggerText as texts
+use Rattle.trace_text.specs.declared.trigger.Shown.{Shown}
 use Rattle.trace_instance.specs.private.Commands.{is_part, shown_attached}
 use Rattle.trace_instance.proofs.Showing.{all-newer}
 use Rattle.trace_instance.proofs.shown.shown_hists.Goals as goal

@@ -1,6 +1,6 @@
 use Rattle.std.proofs.Common.{◌≡◌, List, IfOk, map, subst}
-use Rattle.trigger_text.specs.ShownTriggers.{shown_trigger}
-use Rattle.trigger_text.specs.TriggerText as texts
+use Rattle.trace_text.specs.ShownTriggers.{shown_trigger}
+use Rattle.trace_text.specs.TriggerText as texts
 use Rattle.trace_instance.proofs.Showing.{ordered}
 use Rattle.trace_instance.proofs.shown.shown_in_order.Goals as goal
 

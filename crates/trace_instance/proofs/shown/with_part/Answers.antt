@@ -1,6 +1,6 @@
 use Rattle.std.proofs.Common.{◌≡◌, ◌∙◌, true, false, sym, ap}
 use Rattle.std.proofs.lemmas.List.{get_or_default}
-use Rattle.trigger_text.specs.ShownTriggers.{shown_trigger}
+use Rattle.trace_text.specs.ShownTriggers.{shown_trigger}
 use Rattle.trace_instance.specs.private.Commands.{is_part, shown_attached}
 use Rattle.trace_instance.proofs.Showing.{part-same, shown-more, shown-past}
 use Rattle.trace_instance.proofs.shown.with_part.Goals as goal

@@ -1,5 +1,5 @@
 use Rattle.std.proofs.Common.{◌≡◌, ◌++◌, drop, filter, map}
-use Rattle.trigger_text.specs.ShownTriggers.{shown_trigger}
+use Rattle.trace_text.specs.ShownTriggers.{shown_trigger}
 use Rattle.trace_instance.specs.private.Commands.{is_part, shown_attached}
 use Rattle.trace_instance.proofs.shown.with_part.Given as goal
 

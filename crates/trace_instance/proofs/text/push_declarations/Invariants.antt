@@ -1,6 +1,6 @@
 use Rattle.std.proofs.Common.{◌≡◌, ◌++◌, drop}
 use Rattle.std.specs.List.{flat_map}
-use Rattle.trace_text.specs.DeclarationText.{declaration_text}
+use Rattle.record_text.specs.DeclarationText.{declaration_text}
 use Rattle.trace_instance.proofs.text.push_declarations.Given as goal
 
 abbrev pub invariant-loop-i : goal.invariant-loop-i

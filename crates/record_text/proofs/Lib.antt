@@ -1,0 +1,9 @@
+pub mod LayoutLemmas
+pub mod RecordLemmas
+pub mod ProcessLemmas
+pub mod BufferLemmas
+pub mod SnapshotLemmas
+pub mod LoopLemmas
+pub mod CellLemmas
+pub mod EventLemmas
+pub mod StatsLemmas

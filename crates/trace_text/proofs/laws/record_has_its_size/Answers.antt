@@ -1,5 +1,0 @@
-use Rattle.trace_text.proofs.RecordLemmas.{record_has_its_size}
-use Rattle.trace_text.proofs.laws.record_has_its_size.Goals as goal
-
-pub returns : goal.returns
-returns c = record_has_its_size

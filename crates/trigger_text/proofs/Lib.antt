@@ -1,3 +1,0 @@
-pub mod LoopLemmas
-pub mod ZipLemmas
-pub mod HistTextExamples

@@ -1,5 +1,0 @@
-pub mod TriggerText
-pub mod EntryText
-pub mod HistText
-pub mod ShownTriggers
-pub mod HistTextExamples
