@@ -4,7 +4,7 @@ use Rattle.std.specs.Int.{w32, w64, to_le_bytes, cast_unsigned}
 use Rattle.trace_format.specs.declared.pair.Pair.{Pair}
 use Rattle.trace_command.specs.declared.command.Command.TheVariants.{Emit}
 use Rattle.trace_command.specs.declared.command.Entry.{Entry}
-use Rattle.trace_log.specs.EntryEncoding.{length_bytes, text_bytes, pairs_bytes, emission_bytes, command_bytes, entry_bytes, IsWritable}
+use Rattle.trace_log.specs.EntryEncoding.{length_bytes, text_bytes, pairs_bytes, emission_bytes, other_bytes, command_bytes, entry_bytes, IsWritable}
 use Rattle.trace_log.specs.PackedEntries.{IsOneEntry}
 use Rattle.trace_log.proofs.PackedLemmas.{one_entry}
 
@@ -15,6 +15,10 @@ head_bytes ticket by cpu pid = to_le_bytes w64 ticket ++ to_le_bytes w32 by ++ 0
 -- the same, one by one
 pub emission_head : (ticket by cpu : ℕ) (pid : ℤ) (t b c p : List ℕ) → t ≡ to_le_bytes w64 ticket → b ≡ to_le_bytes w32 by → c ≡ to_le_bytes w32 cpu → p ≡ to_le_bytes w32 (cast_unsigned w32 pid) → get_or t 0 0 ∷ get_or t 1 0 ∷ get_or t 2 0 ∷ get_or t 3 0 ∷ get_or t 4 0 ∷ get_or t 5 0 ∷ get_or t 6 0 ∷ get_or t 7 0 ∷ get_or b 0 0 ∷ get_or b 1 0 ∷ get_or b 2 0 ∷ get_or b 3 0 ∷ 0 ∷ get_or c 0 0 ∷ get_or c 1 0 ∷ get_or c 2 0 ∷ get_or c 3 0 ∷ get_or p 0 0 ∷ get_or p 1 0 ∷ get_or p 2 0 ∷ get_or p 3 0 ∷ [] ≡ to_le_bytes w64 ticket ++ to_le_bytes w32 by ++ 0 ∷ [] ++ to_le_bytes w32 cpu ++ to_le_bytes w32 (cast_unsigned w32 pid)
 emission_head ticket by cpu pid t b c p et eb ec ep = rw (et, eb, ec, ep) refl
+
+-- and of any other command
+pub other_head : (ticket by kind limit : ℕ) (t b l : List ℕ) → t ≡ to_le_bytes w64 ticket → b ≡ to_le_bytes w32 by → l ≡ to_le_bytes w64 limit → get_or t 0 0 ∷ get_or t 1 0 ∷ get_or t 2 0 ∷ get_or t 3 0 ∷ get_or t 4 0 ∷ get_or t 5 0 ∷ get_or t 6 0 ∷ get_or t 7 0 ∷ get_or b 0 0 ∷ get_or b 1 0 ∷ get_or b 2 0 ∷ get_or b 3 0 ∷ kind ∷ get_or l 0 0 ∷ get_or l 1 0 ∷ get_or l 2 0 ∷ get_or l 3 0 ∷ get_or l 4 0 ∷ get_or l 5 0 ∷ get_or l 6 0 ∷ get_or l 7 0 ∷ [] ≡ to_le_bytes w64 ticket ++ to_le_bytes w32 by ++ kind ∷ [] ++ to_le_bytes w64 limit
+other_head ticket by kind limit t b l et eb el = rw (et, eb, el) refl
 
 joined : (t b k c p x l s : List ℕ) → (((((t ++ b) ++ k) ++ c) ++ p) ++ x) ++ l ++ s ≡ (t ++ b) ++ (((((k ++ c) ++ p) ++ x) ++ l) ++ s)
 joined t b k c p x l s = simp append_assoc
@@ -35,6 +39,17 @@ six_writes a0 a1 a2 a3 a4 a5 a6 t b k l x y e0 e1 e2 e3 e4 e5 e6 = rw (e6, e5, e
   where
     grouped : (t b k l x y : List ℕ) → ((((t ++ b) ++ k) ++ l) ++ x) ++ y ≡ (t ++ b) ++ (((k ++ l) ++ x) ++ y)
     grouped t b k l x y = simp append_assoc
+
+-- a command without a text, whose entry ends as that of an emission without pairs
+module _ (a0 a1 head path : List ℕ) (ticket by kind limit : ℕ) (none : a0 ≡ [])
+    (first : head ≡ to_le_bytes w64 ticket ++ to_le_bytes w32 by ++ kind ∷ [] ++ to_le_bytes w64 limit) where
+  pub path_written : a1 ≡ a0 ++ (head ++ text_bytes path ++ length_bytes 0 ++ []) → a1 ≡ to_le_bytes w64 ticket ++ to_le_bytes w32 by ++ other_bytes kind limit path []
+  unfolding other_bytes text_bytes
+  path_written is = rw (is, none, first) (simp append_assoc)
+
+  pub path_in_pieces : a1 ≡ a0 ++ head ++ text_bytes path ++ length_bytes 0 ++ [] → a1 ≡ to_le_bytes w64 ticket ++ to_le_bytes w32 by ++ other_bytes kind limit path []
+  unfolding other_bytes text_bytes
+  path_in_pieces is = rw (is, none, first) (simp append_assoc)
 
 -- the bytes are an entry with this command
 pub entry_written : (entry : Entry) (ahead : List ℕ) → ahead ≡ to_le_bytes w64 entry.ticket ++ to_le_bytes w32 entry.by ++ command_bytes entry.command → entry.ticket < 2 ^ 64 → entry.by < 2 ^ 32 → IsWritable entry.command → IsOneEntry ahead entry

@@ -44,6 +44,20 @@ fn emission_head(ticket: u64, by: u32, cpu: u32, pid: i32) -> [u8; 21]
     ]
 }
 
+// What the entry of any other command begins with.
+#[inline(always)]
+fn other_head(ticket: u64, by: u32, kind: u8, limit: u64) -> [u8; 21]
+    ensures { result ≡ to_le_bytes w64 ticket ++ to_le_bytes w32 by ++ kind ∷ [] ++ to_le_bytes w64 limit }
+{
+    let t = ticket.to_le_bytes();
+    let c = by.to_le_bytes();
+    let l = limit.to_le_bytes();
+    [
+        t[0], t[1], t[2], t[3], t[4], t[5], t[6], t[7], c[0], c[1], c[2], c[3], kind, l[0], l[1],
+        l[2], l[3], l[4], l[5], l[6], l[7],
+    ]
+}
+
 impl Chunk {
     // A number of four bytes.
     fn write_number_of_four(&mut self, number: u32) -> Result<(), AllocError>
@@ -164,8 +178,31 @@ impl Chunk {
         self.write_text(text)
     }
 
-    // Writes the entry of a read ahead, likewise.
-    fn write_read(
+    // Likewise of a command without a text, whose entry ends as that of an emission without pairs.
+    fn write_path(
+        &mut self,
+        ticket: u64,
+        by: u32,
+        kind: u8,
+        limit: u64,
+        path: &[u8],
+    ) -> Result<(), AllocError>
+        requires { self.old.ahead ≡ [] }
+        ensures entries { self.new.entries ≡ self.old.entries }
+        ensures ahead { OnOk result (self.new.ahead ≡ to_le_bytes w64 ticket ++ to_le_bytes w32 by ++ other_bytes kind limit path.now []) }
+        ensures short { length path.now < 2 ^ 64 }
+    {
+        let _length = path.len();
+        let head = other_head(ticket, by, kind, limit);
+        let is_short = self.write_short(&head, path, &[])?;
+        if is_short {
+            return Ok(());
+        }
+        self.write_pieces(&head, path, &[])
+    }
+
+    /// Writes the entry of a read ahead, likewise.
+    pub(crate) fn write_read(
         &mut self,
         ticket: u64,
         by: u32,
@@ -177,8 +214,8 @@ impl Chunk {
         ensures entry { OnOk result (IsOneEntry self.new.ahead (record { ticket = ticket; by = by; command = Command.Read path.now limit })) }
     {
         match limit {
-            None => self.write_other(ticket, by, READ, 0, path, &[]),
-            Some(limit) => self.write_other(ticket, by, TAKE, limit, path, &[]),
+            None => self.write_path(ticket, by, READ, 0, path),
+            Some(limit) => self.write_path(ticket, by, TAKE, limit, path),
         }
     }
 
@@ -205,8 +242,8 @@ impl Chunk {
                 let emission = BorrowedEmission::new(event.as_bytes(), *cpu, *pid, &pairs);
                 self.write_emission(ticket, by, &emission)
             }
-            Command::Mkdir(path) => self.write_other(ticket, by, MKDIR, 0, path.as_bytes(), &[]),
-            Command::Rmdir(path) => self.write_other(ticket, by, RMDIR, 0, path.as_bytes(), &[]),
+            Command::Mkdir(path) => self.write_path(ticket, by, MKDIR, 0, path.as_bytes()),
+            Command::Rmdir(path) => self.write_path(ticket, by, RMDIR, 0, path.as_bytes()),
             Command::Write {
                 path,
                 append: false,

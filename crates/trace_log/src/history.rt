@@ -124,6 +124,28 @@ impl History {
         Ok(())
     }
 
+    /// Writes a read ahead, in place of what was. `Err` says that memory is refused; nothing is written ahead then.
+    pub fn write_read_ahead(
+        &mut self,
+        ticket: u64,
+        by: u32,
+        path: &[u8],
+        limit: Option<u64>,
+    ) -> Result<(), AllocError>
+        ensures written { OnOk result (self.new.ahead
+            ≡ record { ticket = ticket; by = by; command = Command.Read path.now limit } ∷ []) }
+        ensures refused { OnErr result (self.new.ahead ≡ []) }
+        ensures entries { self.new.entries ≡ self.old.entries }
+    {
+        self.begin()?;
+        if let Err(error) = self.last.write_read(ticket, by, path, limit) {
+            self.last.discard();
+            return Err(error);
+        }
+        self.ahead = 1;
+        Ok(())
+    }
+
     /// Appends what is written ahead to the entries.
     pub fn append_written(&mut self)
         requires { length self.old.entries + length self.old.ahead < 2 ^ 64 }

@@ -9,17 +9,17 @@ pub returns-in-Mkdir-clause-entry : goal.returns-in-Mkdir-clause-entry
 returns-in-Mkdir-clause-entry c =
     let entry : Entry = record { ticket = c.args.ticket; by = c.args.by; command = Mkdir c.in-Mkdir.path } in
     let path = c.as_bytes-in-Mkdir.ensures in
-    let written = rw path at c.write_other.ensures.ahead in
-    let short = rw path at c.write_other.ensures.short in
-    rw c.in-Mkdir.is (on_ok_weaker c.write_other.result (λ e. entry_written entry c.write_other.new.self.ahead e c.ranges.ticket.fits c.ranges.by.fits short.0) written)
+    let written = rw path at c.write_path.ensures.ahead in
+    let short = rw path at c.write_path.ensures.short in
+    rw c.in-Mkdir.is (on_ok_weaker c.write_path.result (λ e. entry_written entry c.write_path.new.self.ahead e c.ranges.ticket.fits c.ranges.by.fits short) written)
 
 pub returns-in-Rmdir-clause-entry : goal.returns-in-Rmdir-clause-entry
 returns-in-Rmdir-clause-entry c =
     let is : c.args.command.now ≡ Rmdir c.in-Rmdir.path = cc in
     let entry : Entry = record { ticket = c.args.ticket; by = c.args.by; command = Rmdir c.in-Rmdir.path } in
-    let written = rw c.as_bytes-in-Rmdir.ensures at c.write_other-in-Rmdir.ensures.ahead in
-    let short = rw c.as_bytes-in-Rmdir.ensures at c.write_other-in-Rmdir.ensures.short in
-    rw is (on_ok_weaker c.write_other-in-Rmdir.result (λ e. entry_written entry c.write_other-in-Rmdir.new.self.ahead e c.ranges.ticket.fits c.ranges.by.fits short.0) written)
+    let written = rw c.as_bytes-in-Rmdir.ensures at c.write_path-in-Rmdir.ensures.ahead in
+    let short = rw c.as_bytes-in-Rmdir.ensures at c.write_path-in-Rmdir.ensures.short in
+    rw is (on_ok_weaker c.write_path-in-Rmdir.result (λ e. entry_written entry c.write_path-in-Rmdir.new.self.ahead e c.ranges.ticket.fits c.ranges.by.fits short) written)
 
 pub returns-in-Write-default-false-default-clause-entry : goal.returns-in-Write-default-false-default-clause-entry
 returns-in-Write-default-false-default-clause-entry c =
@@ -33,6 +33,6 @@ pub returns-in-Write-default-true-default-clause-entry : goal.returns-in-Write-d
 returns-in-Write-default-true-default-clause-entry c =
     let is : c.args.command.now ≡ Write c.in-Write-default-true-default.path true c.in-Write-default-true-default.text = cc in
     let entry : Entry = record { ticket = c.args.ticket; by = c.args.by; command = Write c.in-Write-default-true-default.path true c.in-Write-default-true-default.text } in
-    let written = rw (c.as_bytes-in-Write-default-true-default.ensures, c.as_bytes-in-Write-default-true-default-2.ensures) at c.write_other-in-Write-default-true-default.ensures.ahead in
-    let short = rw (c.as_bytes-in-Write-default-true-default.ensures, c.as_bytes-in-Write-default-true-default-2.ensures) at c.write_other-in-Write-default-true-default.ensures.short in
-    rw is (on_ok_weaker c.write_other-in-Write-default-true-default.result (λ e. entry_written entry c.write_other-in-Write-default-true-default.new.self.ahead e c.ranges.ticket.fits c.ranges.by.fits (short.0, short.1)) written)
+    let written = rw (c.as_bytes-in-Write-default-true-default.ensures, c.as_bytes-in-Write-default-true-default-2.ensures) at c.write_other.ensures.ahead in
+    let short = rw (c.as_bytes-in-Write-default-true-default.ensures, c.as_bytes-in-Write-default-true-default-2.ensures) at c.write_other.ensures.short in
+    rw is (on_ok_weaker c.write_other.result (λ e. entry_written entry c.write_other.new.self.ahead e c.ranges.ticket.fits c.ranges.by.fits (short.0, short.1)) written)

@@ -9,7 +9,7 @@ pub returns-in-None-clause-entry : goal.returns-in-None-clause-entry
 returns-in-None-clause-entry c =
     let entry : Entry = record { ticket = c.args.ticket; by = c.args.by; command = Read c.args.path.now None } in
     rw c.in-None.is
-    (on_ok_weaker c.write_other.result (λ e. entry_written entry c.write_other.new.self.ahead e c.ranges.ticket.fits c.ranges.by.fits c.write_other.ensures.short.0) c.write_other.ensures.ahead)
+    (on_ok_weaker c.write_path.result (λ e. entry_written entry c.write_path.new.self.ahead e c.ranges.ticket.fits c.ranges.by.fits c.write_path.ensures.short) c.write_path.ensures.ahead)
 
 pub returns-in-Some-clause-entry : goal.returns-in-Some-clause-entry
 returns-in-Some-clause-entry c =
@@ -17,4 +17,4 @@ returns-in-Some-clause-entry c =
     let entry : Entry = record { ticket = c.args.ticket; by = c.args.by; command = Read c.args.path.now (Some limit) } in
     let fits : limit < 2 ^ 64 = omega arith in
     rw c.in-Some.is
-    (on_ok_weaker c.write_other-in-Some.result (λ e. entry_written entry c.write_other-in-Some.new.self.ahead e c.ranges.ticket.fits c.ranges.by.fits (c.write_other-in-Some.ensures.short.0, fits)) c.write_other-in-Some.ensures.ahead)
+    (on_ok_weaker c.write_path-in-Some.result (λ e. entry_written entry c.write_path-in-Some.new.self.ahead e c.ranges.ticket.fits c.ranges.by.fits (c.write_path-in-Some.ensures.short, fits)) c.write_path-in-Some.ensures.ahead)
