@@ -116,7 +116,8 @@ impl State {
         })
     }
 
-    fn prepare_read(
+    /// As `prepare`, for a read whose path is borrowed.
+    pub fn prepare_read(
         &self,
         alloc: Global,
         config: &Config,
