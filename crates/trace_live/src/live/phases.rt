@@ -43,6 +43,33 @@ impl Live {
         Ok(prepared)
     }
 
+    /// As `prepare`, for a read of this path, of a pipe of at most so many records.
+    pub fn prepare_read(
+        &self,
+        limit: u64,
+        path: &[u8],
+        most: Option<u64>,
+    ) -> Result<Prepared, Refusal>
+        ensures prepared { (past : List Request) → IsLive self.now.config past self.now
+            → IsPreparedWithin limit self.now.config past (request_of (Command.Read path.now most)) self.now.state result }
+        ensures ready { IfOk result (IsReadyFor self.now) }
+        ensures room { OnOk result (self.now.done < limit) }
+        ensures fits { OnOk result (FitsItsTypes (request_of (Command.Read path.now most))) }
+    {
+        let read = match self
+            .state
+            .prepare_read(self.alloc, &self.config, path, most)
+        {
+            Ok(prepared) => prepared,
+            Err(refusal) => return Err(refusal),
+        };
+        if self.done >= limit {
+            let_go_change(read);
+            return Err(Refusal::HistoryFull);
+        }
+        Ok(read)
+    }
+
     /// Makes the change that was prepared for a command, and returns its reply: the command is done. If memory is refused, nothing changes.
     pub fn carry_out(&mut self, prepared: Prepared) -> Result<Reply, Refusal>
         requires ready { IsReadyFor self.old prepared }
