@@ -15,6 +15,7 @@ pub mod BlockLines
 pub mod BareLines
 pub mod BarePairs
 pub mod BareEmissions
+pub mod BareReads
 pub mod OnePair
 pub mod FaultOrder
 pub mod NumberLemmas

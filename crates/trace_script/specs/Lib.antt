@@ -4,6 +4,7 @@ pub mod Grammar
 pub mod Lines
 pub mod Commands
 pub mod PlainEmissions
+pub mod PlainReads
 pub mod Faults
 pub mod Rendering
 pub mod ScriptFaultTexts

@@ -1,6 +1,7 @@
 -- Words of private functions and of proofs: no public clause cites them.
 pub mod Bytes
 pub mod Emissions
+pub mod Reads
 pub mod TokensIn
 pub mod TokensLeft
 pub mod Words

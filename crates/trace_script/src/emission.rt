@@ -65,7 +65,7 @@ fn name_len(text: &[u8]) -> usize
 
 /// The word that a line begins with, and what follows the blank after it; nothing, if it begins with a blank or no blank follows.
 #[inline(always)]
-fn cut_word(line: &[u8]) -> Option<(&[u8], &[u8])>
+pub(crate) fn cut_word(line: &[u8]) -> Option<(&[u8], &[u8])>
     requires { highest_rank line.now ≡ 0 }
     ensures word { IfSome result (λ cut. tokens_of line.now ≡ behind (IsWord cut.0.now ∷ []) (tokens_of cut.1.now)) }
     ensures bare { IfSome result (λ cut. highest_rank cut.1.now ≡ 0) }

@@ -10,6 +10,7 @@ mod line;
 mod number;
 mod outcome;
 mod prefix;
+mod read;
 mod token;
 mod tokens;
 mod word;
@@ -21,4 +22,5 @@ pub use line::{
     Line, commands_are_as_written, faults_come_in_order, lines_are_as_written, may_end, prepare,
 };
 pub use outcome::{Outcome, render};
+pub use read::{PlainRead, plain_read};
 pub use token::tokens_are_as_written;
