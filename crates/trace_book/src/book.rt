@@ -103,6 +103,7 @@ impl Book {
                 pid,
                 pairs,
             } => self.ask_pairs(ticket, by, event.as_bytes(), *cpu, *pid, pairs.as_slice()),
+            Command::Read { path, limit } => self.ask_read(ticket, by, path.as_bytes(), *limit),
             _ => self.ask_other(ticket, by, &command),
         };
         let_go(command);
@@ -181,6 +182,60 @@ impl Book {
         self.live.deliver();
         self.history.append_written();
         Ok(Reply::Done)
+    }
+
+    /// As `ask`, for a read of this path, of a pipe of at most `limit` records. The path is borrowed.
+    pub fn ask_read(
+        &mut self,
+        ticket: u64,
+        by: u32,
+        path: &[u8],
+        limit: Option<u64>,
+    ) -> Result<Reply, Refusal>
+        requires { All (λ entry. entry.ticket < ticket) self.old.entries }
+        ensures reply { OrMemory result (answer_to self.old.config self.old.entries (Command.Read path.now limit)) }
+        ensures early { IsFoundEarly (answer_to self.old.config self.old.entries (Command.Read path.now limit))
+            → result ≡ answer_to self.old.config self.old.entries (Command.Read path.now limit) }
+        ensures late_memory { TakesMemoryLate (request_of (Command.Read path.now limit))
+            → IfErr (answer_to self.old.config self.old.entries (Command.Read path.now limit)) (λ r. result ≡ Err r) }
+        ensures done { OnOk result (self.new.entries
+            ≡ self.old.entries ++ record { ticket = ticket; by = by; command = Command.Read path.now limit } ∷ []) }
+        ensures refused { OnErr result (self.new.entries ≡ self.old.entries) }
+        ensures config { self.new.config ≡ self.old.config }
+        ensures legal { IsLegal self.new.config self.new.entries }
+    {
+        self.run_read(ticket, by, path, limit)
+    }
+
+    // As `ask_read`, whose clauses are here in one word.
+    #[inline(always)]
+    fn run_read(
+        &mut self,
+        ticket: u64,
+        by: u32,
+        path: &[u8],
+        limit: Option<u64>,
+    ) -> Result<Reply, Refusal>
+        requires { All (λ entry. entry.ticket < ticket) self.old.entries }
+        ensures { IsBookCall self.old self.new
+            (record { ticket = ticket; by = by; command = Command.Read path.now limit }) result }
+    {
+        let room = self.live.config().history_limit;
+        let prepared = match self.live.prepare_read(room, path, limit) {
+            Ok(prepared) => prepared,
+            Err(refusal) => return Err(refusal),
+        };
+        let Ok(()) = self.history.write_read_ahead(ticket, by, path, limit) else {
+            let_go_change(prepared);
+            return Err(Refusal::Memory);
+        };
+        match self.live.carry_out(prepared) {
+            Ok(shown) => {
+                self.history.append_written();
+                Ok(shown)
+            }
+            Err(refusal) => Err(refusal),
+        }
     }
 
     // As `ask`, for a command other than an emission. Errors are matched, and what was prepared is dropped by a call, since with `?` the proof of this

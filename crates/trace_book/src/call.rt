@@ -76,3 +76,29 @@ pub fn ask_emission<R: Wait>(
         Err(worn) => (worn.pass, Err(Refusal::Worn)),
     }
 }
+
+/// As `ask`, for a read whose path is borrowed. It builds no command.
+pub fn ask_read<R: Wait>(
+    rt: &R,
+    lock: &TicketLock<Book>,
+    pass: Pass<Book>,
+    path: &[u8],
+    limit: Option<u64>,
+) -> (Pass<Book>, Result<Reply, Refusal>)
+    requires { IsOf lock.now pass }
+    ensures of { IsOf lock.now result.0 }
+    ensures goes_on { GoesOn (view_of pass) (view_of result.0) }
+    ensures done { IfOk result.1 (IsDone (view_of pass) (view_of result.0) (Command.Read path.now limit)) }
+    ensures refused { IfErr result.1 (IsRefused (view_of pass) (view_of result.0) (Command.Read path.now limit)) }
+    ensures legal { (g : Config) → numbers_of g ≡ (view_of pass).base → IsLegal g (view_of pass).seen → IsLegal g (view_of result.0).seen }
+{
+    match lock.acquire(rt, pass) {
+        Ok(mut held) => {
+            let ticket = held.ticket();
+            let by = held.by();
+            let read = held.value().ask_read(ticket, by, path, limit);
+            (lock.release(held), read)
+        }
+        Err(worn) => (worn.pass, Err(Refusal::Worn)),
+    }
+}

@@ -8,7 +8,7 @@ mod logged;
 mod tracer;
 
 pub use book::Book;
-pub use call::{ask, ask_emission};
+pub use call::{ask, ask_emission, ask_read};
 pub use trace_command::{BorrowedEmission, Command, Config, Entry, Pairs, Refusal, Reply};
 pub use trace_format::{BorrowedPair, Pair};
 pub use trace_history::laws;
