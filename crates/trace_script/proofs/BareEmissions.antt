@@ -1,5 +1,5 @@
 -- Emissions read where they lie: their words are cut, their numbers read, and their pairs taken one after the other.
-use Rattle.std.proofs.Common.{◌≡◌, ◌≢◌, ℕ, ℤ, ◌-◌, ◌^◌, ◌≤◌, nat_lt, Bool, true, false, ◌&&◌, ◌||◌, ◌==◌, if◌then◌else◌, List, [], ◌∷◌, ◌++◌, length, Option, Some, None, Result, Ok, Err, IsErr, codes, refl, ap, sym, subst, ◌∙◌, arith}
+use Rattle.std.proofs.Common.{◌≡◌, ◌≢◌, ℕ, ℤ, ◌-◌, ◌^◌, ◌≤◌, nat_lt, Bool, true, false, ◌&&◌, ◌||◌, ◌==◌, if◌then◌else◌, List, [], ◌∷◌, ◌++◌, length, Option, Some, None, Result, Ok, Err, IsErr, IsSome, IfOk, IfSome, IfNone, codes, refl, ap, sym, subst, ◌∙◌, arith}
 use Rattle.std.proofs.lemmas.Bool.Decides.{nat_tests}
 use Rattle.std.proofs.lemmas.List.{append-nil}
 use Rattle.std.specs.List.{list_all, list_any}
@@ -9,10 +9,11 @@ use Rattle.trace_command.specs.declared.command.Command.{Command}
 use Rattle.trace_command.specs.declared.command.Command.TheVariants.{Emit}
 use Rattle.trace_script.specs.Lines.{number_up_to, process_id, pairs_of, emission_of, emission_with, is_line_byte, asked_of, spoken, line_of}
 use Rattle.trace_script.specs.Outcomes.{or_fault, ◌>>=◌}
-use Rattle.trace_script.specs.PlainEmissions.{is_spaced, IsPlainEmission}
+use Rattle.trace_script.specs.PlainEmissions.{emission_said, is_spaced, IsPlainEmission}
 use Rattle.trace_script.specs.Tokens.{is_quote, behind, tokens_of}
 use Rattle.trace_script.specs.private.Bytes.{rank, highest_rank}
 use Rattle.trace_script.specs.private.Emissions.{asked_after_emit, pairs_in, emission_in}
+use Rattle.trace_script.specs.declared.emission.EmissionHead.{EmissionHead}
 use Rattle.trace_script.specs.declared.fault.ScriptFault.{ScriptFault}
 use Rattle.trace_script.specs.declared.fault.ScriptFault.TheVariants.{LineTooLong, BadByte, WrongWords, BadNumber, UnclosedQuote}
 use Rattle.trace_script.specs.declared.line.Line.TheVariants.{Ask}
@@ -141,6 +142,12 @@ module _ (text pairs cpu pid event : List ℕ) (cut : tokens_of text ≡ behind 
       by_cpu None items = refl
       by_cpu (Some c) items = rw e refl
 
+-- what is asked for by these words and pairs
+pub rest_read : (text pairs cpu pid event : List ℕ) (c : ℕ) (p : ℤ) (items : List Pair) → tokens_of text ≡ behind (Word cpu ∷ Word pid ∷ Word event ∷ []) (tokens_of pairs)
+    → number_up_to (2 ^ 32 - 1) cpu ≡ Some c → process_id pid ≡ Some p → pairs_in pairs ≡ Some items → items ≢ [] → asked_after_emit text ≡ Ok (Ask (Emit event c p items))
+rest_read text pairs cpu pid event c p items cut e f g some =
+    ap (λ (r : Result Command ScriptFault). r >>= λ command. Ok (Ask command)) (emission_read text pairs cpu pid event cut c p items e f g some)
+
 -- ---- a line
 
 module _ (line rest : List ℕ) (is : line ≡ codes "emit " ++ rest) where
@@ -165,12 +172,6 @@ module _ (line rest : List ℕ) (is : line ≡ codes "emit " ++ rest) where
       omega (arith, bare, same)
 
 module _ (line rest : List ℕ) (said : line_of line ≡ asked_after_emit rest) where
-  -- a line of these words and pairs
-  pub plain_read : (pairs cpu pid event : List ℕ) (c : ℕ) (p : ℤ) (items : List Pair) → tokens_of rest ≡ behind (Word cpu ∷ Word pid ∷ Word event ∷ []) (tokens_of pairs)
-      → number_up_to (2 ^ 32 - 1) cpu ≡ Some c → process_id pid ≡ Some p → pairs_in pairs ≡ Some items → items ≢ [] → line_of line ≡ Ok (Ask (Emit event c p items))
-  plain_read pairs cpu pid event c p items cut e f g some =
-      said ∙ ap (λ (r : Result Command ScriptFault). r >>= λ command. Ok (Ask command)) (emission_read rest pairs cpu pid event cut c p items e f g some)
-
   -- a line that asks for something is no faulty emission
   not_faulty : (command : Command) → line_of line ≡ Ok (Ask command) → IsErr (emission_in rest) → ⊥
   not_faulty command asks wrong = by_read (emission_in rest) (sym said ∙ asks) wrong
@@ -181,6 +182,21 @@ module _ (line rest : List ℕ) (said : line_of line ≡ asked_after_emit rest) 
 
   pub not_found : (IsPlainEmission line → is_spaced true rest ≡ true) → (is_spaced true rest ≡ true → IsErr (emission_in rest)) → IsPlainEmission line → ⊥
   not_found spaced wrong plain = not_faulty plain.command plain.asks (wrong (spaced plain))
+
+-- what is found is what the line asks for
+pub said_read : (E : Type 0) (line rest : List ℕ) (items : List Pair) (found : Result (Option EmissionHead) E) → line_of line ≡ asked_after_emit rest
+    → IfOk found (λ o. IfSome o (λ head. asked_after_emit rest ≡ emission_said head items)) → IfOk found (λ o. IfSome o (λ head. line_of line ≡ emission_said head items))
+said_read E line rest items (Ok None) said read = read
+said_read E line rest items (Ok (Some head)) said read = said ∙ read
+said_read E line rest items (Err error) said read = read
+
+-- and no emission is missed
+pub all_found : (E : Type 0) (line rest : List ℕ) (found : Result (Option EmissionHead) E) → line_of line ≡ asked_after_emit rest
+    → (IsPlainEmission line → is_spaced true rest ≡ true) → IfOk found (λ o. IfNone o (is_spaced true rest ≡ true → IsErr (emission_in rest)))
+    → IfOk found (λ o. IsPlainEmission line → IsSome o)
+all_found E line rest (Ok None) said spaced none = λ plain. absurd (not_found line rest said spaced none plain)
+all_found E line rest (Ok (Some head)) said spaced none = λ plain. refl
+all_found E line rest (Err error) said spaced none = none
 
 -- ---- a line that has to be found
 

@@ -16,6 +16,8 @@ pub mod BareLines
 pub mod BarePairs
 pub mod BareEmissions
 pub mod BareReads
+pub mod MarkLemmas
+pub mod FirstLines
 pub mod OnePair
 pub mod FaultOrder
 pub mod NumberLemmas

@@ -53,25 +53,35 @@ cut : (q : ℕ → Bool) (d : List ℕ) (i n : ℕ)
     (prefix_len q (chunk i n d))
 cut q d i n = ap (prefix_len q) (chunk-drop i n d) ∙ prefix_len-append q (chunk i n d) (drop (i + n) d)
 
+-- past a block of which no byte passes a test
+pub past_block : (p : ℕ → Bool) (d : List ℕ) (i n : ℕ) → i + n ≤ length d
+    → mask_l (map p (chunk i n d)) ≡ 0 → prefix_len (λ b. not (p b)) (drop i d) ≡ n + prefix_len (λ b. not (p b)) (drop (i + n) d)
+past_block p d i n room none =
+    let q : ℕ → Bool = λ b. not (p b) in
+    let c = chunk i n d in
+    let whole : eqb (prefix_len q c) (length c) ≡ true = eq-eqb _ _ (leading_from_mask_l p c none) in
+    cut q d i n ∙ ap (λ b. cond b (length c + prefix_len q (drop (i + n) d)) (prefix_len q c)) whole
+    ∙ ap (λ k. k + prefix_len q (drop (i + n) d)) (length-chunk i n d room)
+
+-- a block of which a byte does
+pub in_block : (p : ℕ → Bool) (d : List ℕ) (i n : ℕ) → i + n ≤ length d → n ≤ 64 → 0 < mask_l (map p (chunk i n d))
+    → prefix_len (λ b. not (p b)) (drop i d) ≡ count_trailing_zeros 64 (mask_l (map p (chunk i n d)))
+in_block p d i n room short some =
+    let q : ℕ → Bool = λ b. not (p b) in
+    let c = chunk i n d in
+    let ends : prefix_len q c ≢ length c = λ (e : prefix_len q c ≡ length c). omega (arith, all_pass p c e) in
+    cut q d i n ∙ ap (λ b. cond b (length c + prefix_len q (drop (i + n) d)) (prefix_len q c)) (ne_eqb _ _ ends)
+    ∙ sym (trailing_mask_l p 64 c (omega (arith, length-chunk i n d room)) some)
+
 -- past a block in which no word ends
 pub run_through : (end : ℕ) (d : List ℕ) (i n : ℕ) → i + n ≤ length d
     → mask_l (map (is_stop end) (chunk i n d)) ≡ 0 → prefix_len (goes_on end) (drop i d) ≡ n + prefix_len (goes_on end) (drop (i + n) d)
-run_through end d i n room none =
-    let q = goes_on end in
-    let c = chunk i n d in
-    let whole : eqb (prefix_len q c) (length c) ≡ true = eq-eqb _ _ (leading_from_mask_l (is_stop end) c none) in
-    cut q d i n ∙ ap (λ b. cond b (length c + prefix_len q (drop (i + n) d)) (prefix_len q c)) whole
-    ∙ ap (λ k. k + prefix_len q (drop (i + n) d)) (length-chunk i n d room)
+run_through end = past_block (is_stop end)
 
 -- a block in which a word ends
 pub run_stops : (end : ℕ) (d : List ℕ) (i n : ℕ) → i + n ≤ length d → n ≤ 64 → 0 < mask_l (map (is_stop end) (chunk i n d))
     → prefix_len (goes_on end) (drop i d) ≡ count_trailing_zeros 64 (mask_l (map (is_stop end) (chunk i n d)))
-run_stops end d i n room short some =
-    let q = goes_on end in
-    let c = chunk i n d in
-    let ends : prefix_len q c ≢ length c = λ (e : prefix_len q c ≡ length c). omega (arith, all_pass (is_stop end) c e) in
-    cut q d i n ∙ ap (λ b. cond b (length c + prefix_len q (drop (i + n) d)) (prefix_len q c)) (ne_eqb _ _ ends)
-    ∙ sym (trailing_mask_l (is_stop end) 64 c (omega (arith, length-chunk i n d room)) some)
+run_stops end = in_block (is_stop end)
 
 -- ---- byte by byte
 

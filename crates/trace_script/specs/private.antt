@@ -2,6 +2,7 @@
 pub mod Bytes
 pub mod Emissions
 pub mod Reads
+pub mod Marks
 pub mod TokensIn
 pub mod TokensLeft
 pub mod Words

@@ -6,7 +6,8 @@
 //!
 //! Whether all bytes of a line have rank 0 takes less than their highest rank: a block then gives a bit for each byte that has another rank.
 
-ghost use Rattle.std.specs.Prelude.{◌≡◌, ◌<◌, ◌≤◌, ◌==◌, length, map};
+ghost use Rattle.std.specs.Prelude.{◌≡◌, ◌<◌, ◌≤◌, ◌==◌, length, map, ◌+◌, not, drop};
+ghost use Rattle.std.specs.List.{prefix_len};
 ghost use Rattle.std.specs.Simd.Lanes.{mask_l};
 ghost use Rattle.trace_script.specs.Lines.{is_line_byte};
 ghost use Rattle.trace_script.specs.private.Bytes.{rank, highest_rank, is_rare};
@@ -92,6 +93,36 @@ fn rare_bits(block: u8x16) -> u64
     let other = outside & block.simd_ne(u8x16::splat(b'\t'));
     let quote = block.simd_eq(u8x16::splat(b'\'')) | block.simd_eq(u8x16::splat(b'"'));
     (other | quote | block.simd_eq(u8x16::splat(b'>'))).to_bitmask()
+}
+
+/// The first index from this one on at which a byte has another rank than 0; the length, if there is none.
+#[inline(always)]
+fn bare_bytewise(text: &[u8], from: usize) -> usize
+    requires { from ≤ length text.now }
+    ensures { result ≡ from + prefix_len (λ b. not (is_rare b)) (drop from text.now) }
+{
+    let mut at = from;
+    while at < text.len() && rank(text[at]) == 0 {
+        at += 1;
+    }
+    at
+}
+
+/// How many bytes a string begins with that have rank 0. A line that has no others ends there.
+#[inline(always)]
+pub(crate) fn bare_len(text: &[u8]) -> usize
+    ensures value { result ≡ prefix_len (λ b. not (is_rare b)) text.now }
+    ensures bound { result ≤ length text.now }
+{
+    let mut at = 0;
+    while text.len() - at >= BLOCK {
+        let bits = rare_bits(u8x16::from_slice(&text[at..]));
+        if bits != 0 {
+            return at + bits.trailing_zeros() as usize;
+        }
+        at += BLOCK;
+    }
+    bare_bytewise(text, at)
 }
 
 /// Whether all bytes of a line have rank 0.

@@ -26,7 +26,7 @@ use trace_command::Pairs;
 use trace_format::BorrowedPair;
 
 /// How many bytes `emit` and a space are.
-const EMIT_BYTES: usize = 5;
+pub(crate) const EMIT_BYTES: usize = 5;
 
 /// An emission's words but its pairs, as they lie in its line.
 #[derive(Clone, Copy)]
@@ -136,7 +136,7 @@ pub(crate) fn is_word(line: &[u8]) -> bool
 
 /// What follows `emit` and a space at the front of a line.
 #[tactic(auto, using(crate::proofs::BareLines::after_emit))]
-fn after_emit(line: &[u8]) -> Option<&[u8]>
+pub(crate) fn after_emit(line: &[u8]) -> Option<&[u8]>
     ensures some { IfSome result (λ rest. line.now ≡ codes "emit " ++ rest.now) }
     ensures none { IfNone result ((rest : List ℕ) → line.now ≢ codes "emit " ++ rest) }
 {
@@ -218,19 +218,16 @@ pub fn plain_emission<'a>(
     }
 }
 
-/// As `plain_emission`, but pairs may be left where there is no such emission.
-#[inline(always)]
-#[tactic(auto, using(crate::proofs::BareEmissions::plain_read, crate::proofs::BareEmissions::wrong_pairs, crate::proofs::BareEmissions::no_cpu, crate::proofs::BareEmissions::no_pid, crate::proofs::BareEmissions::not_found))]
-fn cut_emission<'a>(
-    line: &'a [u8],
+/// The emission whose words follow `emit` in a line that has neither quotes nor `>`.
+#[tactic(auto, using(crate::proofs::BareEmissions::wrong_pairs, crate::proofs::BareEmissions::no_cpu, crate::proofs::BareEmissions::no_pid))]
+pub(crate) fn cut_bare<'a>(
+    rest: &'a [u8],
     pairs: &mut Vec<BorrowedPair<'a>>,
 ) -> Result<Option<EmissionHead<'a>>, AllocError>
-    ensures read { IfOk result (λ found. IfSome found (λ head. line_of line.now ≡ emission_said head pairs.new.items)) }
-    ensures found { IfOk result (λ found. IsPlainEmission line.now → IsSome found) }
+    requires { highest_rank rest.now ≡ 0 }
+    ensures read { IfOk result (λ found. IfSome found (λ head. asked_after_emit rest.now ≡ emission_said head pairs.new.items)) }
+    ensures none { IfOk result (λ found. IfNone found (is_spaced true rest.now ≡ true → IsErr (emission_in rest.now))) }
 {
-    let Some(rest) = bare_after_emit(line) else {
-        return Ok(None);
-    };
     let Some(words) = words_after(rest) else {
         return Ok(None);
     };
@@ -245,6 +242,22 @@ fn cut_emission<'a>(
         cpu,
         pid,
     }))
+}
+
+/// As `plain_emission`, but pairs may be left where there is no such emission.
+#[inline(always)]
+#[tactic(auto, using(crate::proofs::BareEmissions::not_found))]
+fn cut_emission<'a>(
+    line: &'a [u8],
+    pairs: &mut Vec<BorrowedPair<'a>>,
+) -> Result<Option<EmissionHead<'a>>, AllocError>
+    ensures read { IfOk result (λ found. IfSome found (λ head. line_of line.now ≡ emission_said head pairs.new.items)) }
+    ensures found { IfOk result (λ found. IsPlainEmission line.now → IsSome found) }
+{
+    let Some(rest) = bare_after_emit(line) else {
+        return Ok(None);
+    };
+    cut_bare(rest, pairs)
 }
 
 /// The words of a line without quotes and `>`, if it is an emission of one pair with one blank between each two words.

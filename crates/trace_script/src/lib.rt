@@ -5,8 +5,10 @@ mod bytes;
 mod command;
 mod emission;
 mod fault;
+mod first;
 pub mod laws;
 mod line;
+mod marked;
 mod number;
 mod outcome;
 mod prefix;
@@ -18,6 +20,7 @@ mod word;
 pub use command::writes_are_as_written;
 pub use emission::{EmissionHead, plain_emission};
 pub use fault::{LineError, ScriptFault};
+pub use first::{FirstEmission, first_emission};
 pub use line::{
     Line, commands_are_as_written, faults_come_in_order, lines_are_as_written, may_end, prepare,
 };

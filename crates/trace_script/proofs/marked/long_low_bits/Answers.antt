@@ -1,0 +1,13 @@
+use Rattle.std.proofs.Common.{arith}
+use Rattle.std.proofs.lemmas.Simd.{zip2_splat}
+use Rattle.trace_script.specs.private.Marks.{is_low}
+use Rattle.trace_script.proofs.BlockLemmas.{masked_at}
+use Rattle.trace_script.proofs.MarkLemmas.{one_bit}
+use Rattle.trace_script.proofs.PrefixLemmas.{at_most}
+use Rattle.trace_script.proofs.marked.long_low_bits.Goals as goal
+
+pub returns : goal.returns
+returns c =
+    let v = c.args.block in
+    let long = c.fits-block.0 in
+    masked_at _ is_low v _ (omega arith) c.fits-block.1 (zip2_splat at_most v 64 32 long) (λ x within. one_bit _)

@@ -1,0 +1,150 @@
+//! The emission that the first line of a string is.
+//!
+//! The end of such a line is the first byte that is not of a word or a blank, if that is a newline: so one look finds the end, and tells that
+//! neither quotes nor `>` come before it. A short line's words are then found by bits, in a string that goes on after it; those of a long one as
+//! [`plain_emission`] finds them.
+
+ghost use Rattle.std.specs.Prelude.{◌≡◌, ◌≤◌, [], length, take, true, IsErr, IsSome, IfOk, IfSome, IfNone, OnErr};
+ghost use Rattle.trace_script.specs.Lines.{line_of};
+ghost use Rattle.trace_script.specs.PlainEmissions.{emission_said, is_spaced, line_len, line_in, IsPlainEmission};
+ghost use Rattle.trace_script.specs.private.Bytes.{highest_rank};
+ghost use Rattle.trace_script.specs.private.Emissions.{asked_after_emit, emission_in};
+ghost use Rattle.trace_script.specs.private.Marks.{IsMarked};
+
+use crate::bytes::bare_len;
+use crate::emission::{EMIT_BYTES, EmissionHead, after_emit, cut_bare};
+use crate::line::MOST_BYTES;
+use crate::marked::{Marked, marked_front, marked_pairs, marked_word};
+use crate::number::{cpu_number, process_id};
+use std::alloc::AllocError;
+use trace_format::BorrowedPair;
+
+/// An emission that a string begins with.
+#[derive(Clone, Copy)]
+pub struct FirstEmission<'a> {
+    pub head: EmissionHead<'a>,
+    /// How many bytes its line has.
+    pub len: usize,
+}
+
+/// The emission whose words follow `emit` in a line, of which this is marked. Nothing, if not one blank stands between each two words, and
+/// perhaps if a number is wrong.
+#[inline(always)]
+#[tactic(auto, using(crate::proofs::BareEmissions::three_words))]
+fn marked_emission<'a>(
+    rest: &Marked<'a>,
+    pairs: &mut Vec<BorrowedPair<'a>>,
+) -> Result<Option<EmissionHead<'a>>, AllocError>
+    requires bare { highest_rank rest.now.text.now ≡ 0 }
+    requires marked { IsMarked rest.now }
+    ensures { IfOk result (λ found. IfSome found (λ head. asked_after_emit rest.now.text.now ≡ emission_said head pairs.new.items)) }
+{
+    let Some((cpu, rest)) = marked_word(rest) else {
+        return Ok(None);
+    };
+    let Some((pid, rest)) = marked_word(&rest) else {
+        return Ok(None);
+    };
+    let Some((event, rest)) = marked_word(&rest) else {
+        return Ok(None);
+    };
+    let (Some(cpu), Some(pid)) = (cpu_number(cpu), process_id(pid)) else {
+        return Ok(None);
+    };
+    if !marked_pairs(&rest, pairs)? {
+        return Ok(None);
+    }
+    Ok(Some(EmissionHead { event, cpu, pid }))
+}
+
+/// The emission that a bare line is, of which so many bytes of a string follow `emit`.
+#[inline(always)]
+fn emission_after<'a>(
+    text: &'a [u8],
+    len: usize,
+    pairs: &mut Vec<BorrowedPair<'a>>,
+) -> Result<Option<EmissionHead<'a>>, AllocError>
+    requires within { len ≤ length text.now }
+    requires bare { highest_rank (take len text.now) ≡ 0 }
+    ensures read { IfOk result (λ found. IfSome found (λ head. asked_after_emit (take len text.now) ≡ emission_said head pairs.new.items)) }
+    ensures none { IfOk result (λ found. IfNone found (is_spaced true (take len text.now) ≡ true → IsErr (emission_in (take len text.now)))) }
+{
+    if let Some(line) = marked_front(text, len) {
+        if let Some(head) = marked_emission(&line, pairs)? {
+            return Ok(Some(head));
+        }
+    }
+    let (rest, _) = text.split_at(len);
+    cut_bare(rest, pairs)
+}
+
+/// How many bytes of a line are left at the front of a string, if all of them are of words without quotes, or blanks.
+#[inline(always)]
+#[tactic(auto, using(crate::proofs::FirstLines::bare_taken, crate::proofs::FirstLines::ends_with_text, crate::proofs::FirstLines::ends_at_newline, crate::proofs::FirstLines::goes_on_rare))]
+fn bare_line_len(text: &[u8]) -> Option<usize>
+    ensures within { IfSome result (λ len. len ≤ length text.now) }
+    ensures len { IfSome result (λ len. len ≡ line_len text.now) }
+    ensures bare { IfSome result (λ len. highest_rank (take len text.now) ≡ 0) }
+    ensures none { IfNone result (highest_rank (line_in text.now) ≡ 0 → ⊥) }
+{
+    let len = bare_len(text);
+    if len < text.len() && text[len] != b'\n' {
+        return None;
+    }
+    Some(len)
+}
+
+/// As `first_emission`, but pairs may be left where there is no such emission.
+#[inline(always)]
+#[tactic(auto, using(crate::proofs::FirstLines::first_len, crate::proofs::FirstLines::no_emission))]
+fn cut_first<'a>(
+    text: &'a [u8],
+    pairs: &mut Vec<BorrowedPair<'a>>,
+) -> Result<Option<FirstEmission<'a>>, AllocError>
+    ensures read { IfOk result (λ found. IfSome found (λ first. line_of (line_in text.now) ≡ emission_said first.head pairs.new.items)) }
+    ensures len { IfOk result (λ found. IfSome found (λ first. first.len ≡ line_len text.now)) }
+    ensures found { IfOk result (λ found. IsPlainEmission (line_in text.now) → IsSome found) }
+{
+    let Some(rest) = after_emit(text) else {
+        return Ok(None);
+    };
+    let Some(len) = bare_line_len(rest) else {
+        return Ok(None);
+    };
+    if len > MOST_BYTES - EMIT_BYTES {
+        return Ok(None);
+    }
+    let Some(head) = emission_after(rest, len, pairs)? else {
+        return Ok(None);
+    };
+    Ok(Some(FirstEmission {
+        head,
+        len: EMIT_BYTES + len,
+    }))
+}
+
+/// The emission that the first line of a string is, if that has no quotes and no `>` and one blank between each two words; found as
+/// [`plain_emission`] finds it in a line, but without a look for the line's end first. Its pairs are left in a list as there.
+#[inline(always)]
+pub fn first_emission<'a>(
+    text: &'a [u8],
+    pairs: &mut Vec<BorrowedPair<'a>>,
+) -> Result<Option<FirstEmission<'a>>, AllocError>
+    ensures read { IfOk result (λ found. IfSome found (λ first. line_of (line_in text.now) ≡ emission_said first.head pairs.new.items)) }
+    ensures len { IfOk result (λ found. IfSome found (λ first. first.len ≡ line_len text.now)) }
+    ensures found { IfOk result (λ found. IsPlainEmission (line_in text.now) → IsSome found) }
+    ensures none { IfOk result (λ found. IfNone found (pairs.new.items ≡ [])) }
+    ensures refused { OnErr result (pairs.new.items ≡ []) }
+{
+    match cut_first(text, pairs) {
+        Ok(Some(first)) => Ok(Some(first)),
+        Ok(None) => {
+            pairs.clear();
+            Ok(None)
+        }
+        Err(error) => {
+            pairs.clear();
+            Err(error)
+        }
+    }
+}
