@@ -1,9 +1,9 @@
 -- The items of a script, read one after the other.
-use Rattle.std.proofs.Common.{◌≡◌, ℕ, suc, ◌+◌, ◌-◌, ◌||◌, Bool, true, false, if◌then◌else◌, List, [], ◌∷◌, drop, length, Option, Result, Ok, Err, IsSome, refl, ap, sym, subst, ◌∙◌, arith}
+use Rattle.std.proofs.Common.{◌≡◌, ℕ, suc, ◌+◌, ◌-◌, ◌||◌, Bool, true, false, if◌then◌else◌, List, [], ◌∷◌, drop, length, Result, Ok, Err, refl, ap, sym, subst, ◌∙◌, arith}
 use Rattle.std.specs.List.{list_any, slice_get}
 use Rattle.trace_format.specs.declared.pair.Pair.{Pair}
 use Rattle.trace_script.specs.Lines.{line_of}
-use Rattle.trace_script.specs.PlainEmissions.{emission_said, IsPlainEmission}
+use Rattle.trace_script.specs.PlainEmissions.{emission_said, line_in, IsPlainEmission}
 use Rattle.trace_script.specs.declared.emission.EmissionHead.{EmissionHead}
 use Rattle.trace_script.specs.declared.fault.ScriptFault.{ScriptFault}
 use Rattle.trace_script.specs.declared.line.Line.{Line}
@@ -11,8 +11,10 @@ use Rattle.trace_script.specs.declared.line.Line.TheVariants.{Blank, Ask, Parall
 use Rattle.script_reader.specs.Items.{Item, Single, is_end, part_of, before_end, after_end, Taken, begun, taken_at, item_at, items_from}
 use Rattle.script_reader.specs.NextItems.{begins_with}
 use Rattle.script_reader.specs.PartReads.{IsPartRead, IsLineAt, HasItsLine}
+use Rattle.script_reader.specs.ScriptLines.{lines_of}
 use Rattle.script_reader.specs.declared.part.Part.{Part}
 use Rattle.script_reader.specs.declared.part.Part.TheVariants as parts
+use Rattle.script_reader.proofs.ScriptLemmas.{first_of}
 
 -- ---- after a part
 
@@ -130,12 +132,12 @@ pub emission_next : (number : ℕ) (line : List ℕ) (all lines : List (List ℕ
     → line_of line ≡ emission_said head pairs → items_from number 0 all ≡ Single number line ∷ items_from (number + 1) 0 lines
 emission_next number line all lines head pairs is says = line_next number line all lines (emission_said head pairs) is (sym says) refl
 
--- a line that is the first of some is found as that
-pub first_is_plain : (A : Type 0) (found : Option A) (line first : List ℕ) (all lines more : List (List ℕ)) → all ≡ first ∷ more → all ≡ line ∷ lines
-    → (IsPlainEmission first → IsSome found) → IsPlainEmission line → IsSome found
-first_is_plain A found line first all lines more is same finds plain =
-    let it : first ≡ line = cc (is, same) in
-    finds (subst IsPlainEmission (sym it) plain)
+-- a text's first line is the one that it begins with
+pub plain_first : (text line : List ℕ) (lines : List (List ℕ)) → lines_of text ≡ line ∷ lines → IsPlainEmission line → IsPlainEmission (line_in text)
+plain_first text line lines is plain =
+    let first = first_of text in
+    let it : line ≡ line_in text = cc (is, first.1) in
+    subst IsPlainEmission it plain
 
 -- ---- the line of a fault
 

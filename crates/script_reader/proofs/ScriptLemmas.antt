@@ -1,13 +1,15 @@
 -- The lines of a script.
-use Rattle.std.proofs.Common.{◌≡◌, ℕ, ◌+◌, ◌-◌, ◌==◌, ◌<◌, ◌≤◌, Bool, true, false, not, cond, ltb, List, [], ◌∷◌, length, take, drop, position, Option, Some, None, refl, ap, sym, ◌∙◌, arith}
-use Rattle.std.proofs.lemmas.List.{take_rest}
+use Rattle.std.proofs.Common.{◌≡◌, ℕ, ◌+◌, ◌-◌, ◌==◌, ◌<◌, ◌≤◌, Bool, true, false, not, cond, ltb, List, [], ◌∷◌, length, take, drop, position, Option, Some, None, refl, ap, sym, ◌∙◌, ◌⊎◌, inl, inr, arith, length-drop}
+use Rattle.std.proofs.lemmas.Bool.{cases_lt, eqb-true}
+use Rattle.std.proofs.lemmas.List.{drop-drop, take_all, take_rest}
 use Rattle.std.proofs.lemmas.List.Splits.{slice_split_first}
 use borrow.Author.Tests.{ltb-true, ltb-false}
 use Rattle.std.proofs.lemmas.Option.{cond_some}
 use Rattle.std.proofs.lemmas.Bool.Decides.{nat_tests}
-use Rattle.std.proofs.lemmas.List.Sums.{position_or_len_is}
+use Rattle.std.proofs.lemmas.List.Sums.{position_or_len_is, prefix_len-le-length}
 use Rattle.memchr.specs.Find.{IsFirstByte, is_byte}
 use Rattle.std.specs.List.{onto_first, position_or_len}
+use Rattle.trace_script.specs.PlainEmissions.{line_len, line_in}
 use Rattle.script_reader.specs.ScriptLines.{lines_of}
 
 no_newline_step : (t : Bool) (b : ℕ) (bs : List ℕ) (n : ℕ) (parts : List (List ℕ)) → length (b ∷ bs) ≤ cond (not t) (1 + n) 0 → (length bs ≤ n → parts ≡ bs ∷ [])
@@ -63,3 +65,44 @@ found_at byte text None h =
 found_at byte text (Some at) h =
     position_some (is_byte byte) text at
     (position_or_len_is (is_byte byte) text at 0 (omega (arith, h.0.high)) (λ k lt. not_true _ (h.0.before k (omega arith) lt)) (λ lt. h.1)) h.0.high
+
+-- ---- the first line, of which its length is known
+
+pub len_le : (text : List ℕ) → line_len text ≤ length text
+len_le text = prefix_len-le-length (λ b. not (b == 10)) text
+
+some_bytes : (xs : List ℕ) → (length xs == 0) ≡ false → 0 < length xs
+some_bytes [] e = absurd cc
+some_bytes (b ∷ bs) e = omega arith
+
+no_bytes : (xs : List ℕ) → (length xs == 0) ≡ true → length xs ≡ 0
+no_bytes xs e = eqb-true (length xs) 0 e
+
+module _ (text line after : List ℕ) (n : ℕ) (is : n ≡ line_len text) (front : line ≡ take n text) (back : after ≡ drop n text) where
+  pub first_line_is : line ≡ line_in text
+  first_line_is = front ∙ ap (λ (k : ℕ). take k text) is
+
+  pub line_then : (rest : List ℕ) → (length after == 0) ≡ false → rest ≡ drop 1 after → lines_of text ≡ line ∷ lines_of rest
+  line_then rest some left =
+      let less : line_len text < length text = omega (arith, some_bytes after some, ap length back, length-drop n text, is) in
+      slice_split_first (λ b. b == 10) text 0 less
+      ∙ ap (λ (k : ℕ). take k text ∷ lines_of (drop (k + 1) text)) (sym is)
+      ∙ ap (λ (xs : List ℕ). xs ∷ lines_of (drop (n + 1) text)) (sym front)
+      ∙ ap (λ (xs : List ℕ). line ∷ lines_of xs) (sym (left ∙ ap (drop 1) back ∙ drop-drop 1 n text))
+
+  pub line_last : (length after == 0) ≡ true → lines_of text ≡ line ∷ []
+  line_last none =
+      let all : length text ≤ n = omega (arith, no_bytes after none, ap length back, length-drop n text) in
+      no_newline text (omega (arith, is, all)) ∙ ap (λ (xs : List ℕ). xs ∷ []) (sym (front ∙ take_all n text all))
+
+  pub rest_shorter : (rest : List ℕ) → (length after == 0) ≡ false → rest ≡ drop 1 after → length rest + 1 ≤ length text
+  rest_shorter rest some left =
+      omega (arith, some_bytes after some, ap length back, length-drop n text, ap length left, length-drop 1 after)
+
+-- the lines of a text begin with that
+pub first_of : (text : List ℕ) → (more : List (List ℕ)) × (lines_of text ≡ line_in text ∷ more)
+first_of text = by_test (cases_lt (line_len text) (length text))
+  where
+    by_test : (line_len text < length text) ⊎ (length text ≤ line_len text) → (more : List (List ℕ)) × (lines_of text ≡ line_in text ∷ more)
+    by_test (inl less) = (lines_of (drop (line_len text + 1) text), slice_split_first (λ b. b == 10) text 0 less)
+    by_test (inr all) = ([], no_newline text all ∙ ap (λ (xs : List ℕ). xs ∷ []) (sym (take_all (line_len text) text all)))

@@ -7,10 +7,10 @@ ghost use Rattle.trace_script.specs.PlainEmissions.{emission_said, IsPlainEmissi
 ghost use Rattle.script_reader.specs.Items.{Single, items_from};
 ghost use Rattle.script_reader.specs.ScriptLines.{lines_of, lines_left, bytes_left};
 
-use crate::script::first_line;
+use crate::script::line_of_len;
 use std::alloc::AllocError;
 use trace_format::BorrowedPair;
-use trace_script::{EmissionHead, plain_emission};
+use trace_script::{EmissionHead, first_emission};
 
 /// An emission by itself, whose words lie in its line.
 #[derive(Drop)]
@@ -21,11 +21,11 @@ pub struct PlainItem<'a> {
     pub rest: Option<&'a [u8]>,
 }
 
-/// The item that a string begins with, if its first line is an emission that [`plain_emission`] reads. The pairs are left in a list, which keeps
+/// The item that a string begins with, if its first line is an emission that [`first_emission`] reads. The pairs are left in a list, which keeps
 /// its room from item to item, and is empty if there is no such item or memory is refused. Every other item is left to [`crate::item::next_item`]. It
 /// fails only if memory is refused.
 #[inline(always)]
-#[tactic(auto, using(crate::proofs::ItemReading::emission_next, crate::proofs::ItemReading::first_is_plain))]
+#[tactic(auto, using(crate::proofs::ItemReading::emission_next))]
 pub fn plain_item<'a>(
     text: &'a [u8],
     pairs: &mut Vec<BorrowedPair<'a>>,
@@ -40,9 +40,10 @@ pub fn plain_item<'a>(
     ensures none { IfOk result (λ found. IfNone found (pairs.new.items ≡ [])) }
     ensures refused { OnErr result (pairs.new.items ≡ []) }
 {
-    let (line, rest) = first_line(text);
-    match plain_emission(line, pairs)? {
-        Some(head) => Ok(Some(PlainItem { line, head, rest })),
-        None => Ok(None),
-    }
+    let Some(first) = first_emission(text, pairs)? else {
+        return Ok(None);
+    };
+    let (line, rest) = line_of_len(text, first.len);
+    let head = first.head;
+    Ok(Some(PlainItem { line, head, rest }))
 }

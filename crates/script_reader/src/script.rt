@@ -3,6 +3,7 @@
 ghost use Rattle.std.specs.Prelude.{◌≡◌, ◌==◌, ◌+◌, ◌-◌, ◌<◌, ◌≤◌, ◌⊎◌, ◌∷◌, ◌++◌, length, take, position, true, IfOk, IfSome, OnOk, IsErrOf};
 ghost use Rattle.std.specs.Io.KnownBytes.{Consumes, IsAtEnd};
 ghost use Rattle.std.specs.Option.{option_copied};
+ghost use Rattle.trace_script.specs.PlainEmissions.{line_len, line_in};
 ghost use Rattle.script_reader.specs.ScriptLines.{lines_of, lines_left, bytes_left};
 ghost use Rattle.script_reader.specs.Sources.{ConsumesAtMost, GivesAtMost, GivesMore, HasRisen};
 
@@ -98,4 +99,21 @@ pub(crate) fn first_line(text: &[u8]) -> (&[u8], Option<&[u8]>)
         Some(at) => (&text[..at], Some(&text[at + 1..])),
         None => (text, None),
     }
+}
+
+/// The first line of a string, of which its length is known, and what follows its newline, if it has one.
+#[inline(always)]
+#[tactic(auto, using(crate::proofs::ScriptLemmas::len_le, crate::proofs::ScriptLemmas::first_line_is, crate::proofs::ScriptLemmas::line_then, crate::proofs::ScriptLemmas::line_last, crate::proofs::ScriptLemmas::rest_shorter))]
+pub(crate) fn line_of_len(text: &[u8], len: usize) -> (&[u8], Option<&[u8]>)
+    requires { len ≡ line_len text.now }
+    ensures line { result.0.now ≡ line_in text.now }
+    ensures lines { lines_of text.now ≡ result.0.now ∷ lines_left (option_copied result.1) }
+    ensures shorter { bytes_left (option_copied result.1) ≤ length text.now }
+{
+    let (line, after) = text.split_at(len);
+    if after.is_empty() {
+        return (line, None);
+    }
+    let (_, rest) = after.split_at(1);
+    (line, Some(rest))
 }
