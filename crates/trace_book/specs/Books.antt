@@ -1,6 +1,6 @@
 -- What contracts see of a book.
 use Rattle.trace_history.specs.History.{past_of, IsLegal}
-use Rattle.trace_live.specs.Lives.{IsLive}
+use Rattle.live_tracer.specs.Lives.{IsLive}
 use Rattle.trace_book.specs.BookSeen.{BookSeen}
 use Rattle.trace_book.specs.declared.book.Book.TheInside.{Inside}
 

@@ -9,10 +9,10 @@ mod tracer;
 
 pub use book::Book;
 pub use call::{ask, ask_emission, ask_read};
+pub use command_log::{CommandRef, Entries, EntryRef, PairRefs};
 pub use trace_command::{BorrowedEmission, Command, Config, Entry, Pairs, Refusal, Reply};
 pub use trace_format::{BorrowedPair, Pair};
 pub use trace_history::laws;
 pub use trace_instance::Instance;
 pub use trace_lex::Text;
-pub use trace_log::{CommandRef, Entries, EntryRef, PairRefs};
 pub use tracer::Tracer;

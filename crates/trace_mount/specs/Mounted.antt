@@ -12,8 +12,8 @@ use Rattle.trace_command.specs.Requests.{Request}
 use Rattle.trace_command.specs.declared.command.Reply.{Reply as Answer}
 use Rattle.trace_command.specs.declared.refusal.Refusal.{Refusal}
 use Rattle.trace_history.specs.Settings.{declares, made, removed}
-use Rattle.trace_live.specs.LiveSeen.{LiveSeen}
-use Rattle.trace_live.specs.Lives.{IsLive, live_answer}
+use Rattle.live_tracer.specs.LiveSeen.{LiveSeen}
+use Rattle.live_tracer.specs.Lives.{IsLive, live_answer}
 use Rattle.error_log.specs.Errors.{ErrorSeen}
 use Rattle.mount_tree.specs.Nodes.{FitsItsTypes, number_of}
 use Rattle.mount_tree.specs.Scenes.{SceneSeen}

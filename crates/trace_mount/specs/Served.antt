@@ -36,10 +36,10 @@ use Rattle.mount_tree.specs.declared.node.Node.TheVariants as nodes
 use Rattle.mount_tree.specs.declared.node.Owner.TheVariants.{Top, Made}
 use Rattle.mount_tree.specs.declared.node.Owner.{Owner}
 use Rattle.mount_tree.specs.declared.tool.ToolFile.TheVariants as tools
-use Rattle.tool_files.specs.ToolTexts.{tool_text}
-use Rattle.tool_files.specs.ToolWrites.{tool_write}
-use Rattle.tool_files.specs.declared.write.ToolWrite.{ToolWrite}
-use Rattle.tool_files.specs.declared.write.ToolWrite.TheVariants.{Missing, Wrong, Same, Switch}
+use Rattle.trace_cmd_files.specs.ToolTexts.{tool_text}
+use Rattle.trace_cmd_files.specs.ToolWrites.{tool_write}
+use Rattle.trace_cmd_files.specs.declared.write.ToolWrite.{ToolWrite}
+use Rattle.trace_cmd_files.specs.declared.write.ToolWrite.TheVariants.{Missing, Wrong, Same, Switch}
 use Rattle.trace_mount.specs.Errnos.{errno_of, errno_of_other}
 use Rattle.trace_mount.specs.Injections.{first_line, injection, line_size, pairs_of_line}
 use Rattle.trace_mount.specs.Pipes.{ends, is_dry, is_used_up, would_wait}

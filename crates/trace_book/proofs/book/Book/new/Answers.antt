@@ -1,8 +1,8 @@
 use Rattle.std.proofs.Common.{◌≡◌, [], sym, ap, subst}
 use Rattle.trace_command.specs.declared.command.Config.{Config}
 use Rattle.trace_history.specs.History.{IsLegal, past_of}
-use Rattle.trace_log.specs.HistorySeen.{HistorySeen}
-use Rattle.trace_live.specs.Lives.{IsLive}
+use Rattle.command_log.specs.HistorySeen.{HistorySeen}
+use Rattle.live_tracer.specs.Lives.{IsLive}
 use Rattle.trace_book.proofs.book.Book.new.Goals as goal
 
 pub invariant_of-result : goal.invariant_of-result

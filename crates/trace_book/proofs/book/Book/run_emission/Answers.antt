@@ -6,10 +6,10 @@ use Rattle.trace_command.specs.declared.command.Config.{Config}
 use Rattle.trace_command.specs.declared.command.Entry.{Entry}
 use Rattle.trace_command.specs.declared.command.Reply.TheVariants.{Done}
 use Rattle.trace_history.specs.History.{answer_with_room, past_of}
-use Rattle.trace_log.specs.HistorySeen.{HistorySeen}
+use Rattle.command_log.specs.HistorySeen.{HistorySeen}
 use Rattle.tracer_state.specs.States.{IsPreparedEmission}
 use Rattle.tracer_state.proofs.Histories.{length-past_of, past_of-push}
-use Rattle.trace_live.specs.Lives.{limited_answer}
+use Rattle.live_tracer.specs.Lives.{limited_answer}
 use Rattle.trace_book.specs.BookSeen.{BookSeen}
 use Rattle.trace_book.specs.Books.{seen}
 use Rattle.trace_book.specs.private.BookCalls.{IsBookCall}

@@ -5,10 +5,10 @@ use Rattle.trace_command.specs.declared.command.Config.{Config}
 use Rattle.trace_command.specs.declared.command.Entry.{Entry}
 use Rattle.trace_command.specs.declared.command.Command.TheVariants.{Read}
 use Rattle.trace_history.specs.History.{past_of}
-use Rattle.trace_log.specs.HistorySeen.{HistorySeen}
+use Rattle.command_log.specs.HistorySeen.{HistorySeen}
 use Rattle.tracer_state.specs.States.{IsPrepared}
 use Rattle.tracer_state.proofs.Histories.{length-past_of, past_of-push}
-use Rattle.trace_live.specs.Lives.{limited_answer}
+use Rattle.live_tracer.specs.Lives.{limited_answer}
 use Rattle.trace_book.specs.BookSeen.{BookSeen}
 use Rattle.trace_book.specs.Books.{seen}
 use Rattle.trace_book.specs.private.BookCalls.{IsBookCall}
