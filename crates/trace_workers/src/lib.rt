@@ -17,4 +17,4 @@ pub use fault::BlockFault;
 pub use gate::{Gate, OpenGate, Point};
 pub use history::history_of;
 pub use part::Part;
-pub use trace_book::{ask, ask_emission};
+pub use trace_book::{ask, ask_emission, ask_read};
