@@ -127,7 +127,8 @@ impl Chunk {
         self.write(&[byte])
     }
 
-    /// Writes the entry of an emission with this head ahead, if it is short. Whether it is.
+    /// Writes the entry of an emission with this head ahead, if it is short, or of a path, which has no pairs. Whether it is.
+    #[inline(always)]
     pub(crate) fn write_short(
         &mut self,
         head: &[u8],
