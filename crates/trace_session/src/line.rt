@@ -1,6 +1,7 @@
 //! A single line, run through the lock.
 
 ghost use Rattle.std.specs.Prelude.{◌≡◌, ◌≢◌, ℕ, List, false, Ok, IfOk, IsErrOf};
+ghost use Rattle.script_reader.specs.NextItems.{said_of};
 ghost use Rattle.ticket_lock.specs.Calls.{view_of, IsOf, IsWorn};
 ghost use Rattle.trace_command.specs.declared.command.Config.{Config};
 ghost use Rattle.trace_history.specs.History.{answer_to};
@@ -10,13 +11,14 @@ ghost use Rattle.trace_session.specs.Passes.{IsSessionPass, IsRefusedEarly, prog
 ghost use Rattle.trace_session.specs.Sessions.{Progress, answered, is_fault, turn_of};
 
 use script_reader::Stop;
+use script_reader::item::Said;
 use std::sync::Wait;
 use ticket_lock::{Pass, TicketLock};
 use trace_book::Book;
 use trace_command::{BorrowedEmission, Command, Refusal};
 use trace_format::BorrowedPair;
 use trace_script::{EmissionHead, Line, Outcome, ScriptFault};
-use trace_workers::{ask, ask_emission};
+use trace_workers::{ask, ask_emission, ask_read};
 
 /// The outcome of a line that is no command.
 #[tactic(auto, unfolding(crate::specs::Sessions::turn_of))]
@@ -49,21 +51,29 @@ pub(crate) fn ask_line<R: Wait>(
     rt: &R,
     lock: &TicketLock<Book>,
     pass: Pass<Book>,
-    said: Result<Line, ScriptFault>,
+    said: Said<'_>,
 ) -> (Pass<Book>, Result<Option<Outcome>, Stop>)
     requires { IsOf lock.now pass }
     ensures of { IsOf lock.now result.0 }
     ensures session { (g : Config) → IsSessionPass g (view_of pass) → IsSessionPass g (view_of result.0) }
-    ensures turn { IfOk result.1 (λ outcome. (g : Config) (text : List ℕ) → IsSessionPass g (view_of pass) → said ≡ line_of text
+    ensures turn { IfOk result.1 (λ outcome. (g : Config) (text : List ℕ) → IsSessionPass g (view_of pass) → said_of said.entry ≡ line_of text
         → turn_of g (progress_of (view_of pass)) text
         ≡ record { outcome = outcome; progress = progress_of (view_of result.0) }) }
     ensures early { IsErrOf result.1 Stop.Memory → (g : Config) (command : Command) → IsSessionPass g (view_of pass)
-        → said ≡ Ok (Line.Ask command) → IsRefusedEarly g (view_of pass) command → IsWorn (view_of pass) (view_of result.0) }
+        → said_of said.entry ≡ Ok (Line.Ask command) → IsRefusedEarly g (view_of pass) command → IsWorn (view_of pass) (view_of result.0) }
     ensures device { IsErrOf result.1 Stop.Device → ⊥ }
     ensures stopped { IsErrOf result.1 Stop.Stopped → ⊥ }
 {
     match said {
-        Ok(Line::Ask(command)) => {
+        Said::Read(read) => {
+            let (pass, answer) = ask_read(rt, lock, pass, read.path, read.limit);
+            match answer {
+                Ok(reply) => (pass, Ok(Some(Outcome::Replied(reply)))),
+                Err(Refusal::Worn | Refusal::Memory) => (pass, Err(Stop::Memory)),
+                Err(refusal) => (pass, Ok(Some(Outcome::Refused(refusal)))),
+            }
+        }
+        Said::Other(Ok(Line::Ask(command))) => {
             let (pass, answer) = ask(rt, lock, pass, command);
             match answer {
                 Ok(reply) => (pass, Ok(Some(Outcome::Replied(reply)))),
@@ -71,7 +81,7 @@ pub(crate) fn ask_line<R: Wait>(
                 Err(refusal) => (pass, Ok(Some(Outcome::Refused(refusal)))),
             }
         }
-        said => (pass, Ok(unasked(said))),
+        Said::Other(said) => (pass, Ok(unasked(said))),
     }
 }
 

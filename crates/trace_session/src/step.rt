@@ -5,7 +5,7 @@ ghost use Rattle.ticket_lock.specs.Calls.{view_of, IsOf};
 ghost use Rattle.trace_command.specs.declared.command.Config.{Config};
 ghost use Rattle.script_reader.specs.declared.item.ItemRead.TheVariants as reads;
 ghost use Rattle.script_reader.specs.Items.{Single, Threads, Faulty};
-ghost use Rattle.script_reader.specs.NextItems.{item_read, IsSaid};
+ghost use Rattle.script_reader.specs.NextItems.{item_read, said_of, IsSaid};
 ghost use Rattle.script_reader.specs.FewThreads.{HasFewThreads};
 ghost use Rattle.script_reader.specs.PartReads.{commands_in};
 ghost use Rattle.script_reader.specs.ScriptLines.{lines_of};
@@ -29,7 +29,7 @@ use crate::replies::Replies;
 use crate::status::Status;
 use crate::told::{give, give_part};
 use script_reader::Stop;
-use script_reader::item::ItemRead;
+use script_reader::item::{ItemRead, Said};
 use script_reader::part::FaultAt;
 use script_reader::part_line::PartLine;
 use script_reader::plain::PlainItem;
@@ -40,7 +40,7 @@ use ticket_lock::Pass;
 use trace_book::Book;
 use trace_command::Reply;
 use trace_format::BorrowedPair;
-use trace_script::{Line, Outcome, ScriptFault};
+use trace_script::Outcome;
 use trace_workers::Gate;
 
 /// Whether a command was done and has nothing to show, and the writer hears nothing.
@@ -109,13 +109,13 @@ fn do_line<R: Wait, W: Sink, G>(
     pass: Pass<Book>,
     number: usize,
     line: &[u8],
-    said: Result<Line, ScriptFault>,
+    said: Said<'_>,
     replies: &mut Replies,
     writer: &mut W,
 ) -> (Pass<Book>, Result<Status, Stop>)
     requires of { IsOf env.now.lock.now pass }
     requires session { (g : Config) × IsSessionPass g (view_of pass) }
-    requires says { said ≡ line_of line.now }
+    requires says { said_of said ≡ line_of line.now }
     ensures of { IsOf env.now.lock.now result.0 }
     ensures session { (g : Config) → IsSessionPass g (view_of pass) → IsSessionPass g (view_of result.0) }
     ensures done { IfOk result.1 (λ status. (g : Config) → IsSessionPass g (view_of pass)
