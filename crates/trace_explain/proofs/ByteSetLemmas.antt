@@ -1,5 +1,5 @@
 -- What the bytes that a string begins with say of all its bytes.
-use Rattle.std.proofs.Common.{◌≡◌, ℕ, Bool, true, false, not, eqb, List, [], ◌∷◌, ◌++◌, ◌<◌, ◌+◌, cond, get_or, length, reverse, take, refl, arith, tests}
+use Rattle.std.proofs.Common.{◌≡◌, ℕ, Bool, eqb, List, [], ◌∷◌, ◌++◌, ◌<◌, ◌+◌, cond, get_or, length, reverse, take, refl, arith, tests}
 use Rattle.std.specs.List.{list_all, prefix_len}
 use Rattle.std.proofs.lemmas.List.{take_more, reverse-append}
 
@@ -7,14 +7,6 @@ use Rattle.std.proofs.lemmas.List.{take_more, reverse-append}
 pub all_by_len : (p : ℕ → Bool) (xs : List ℕ) → eqb (prefix_len p xs) (length xs) ≡ list_all p xs
 all_by_len p [] = refl
 all_by_len p (x ∷ xs) = let more = all_by_len p xs in grind (arith, tests)
-
-pub not_not : (b : Bool) → not (not b) ≡ b
-not_not true = refl
-not_not false = refl
-
-pub first_passing : (p : ℕ → Bool) (xs : List ℕ) → prefix_len (λ x. not (not (p x))) xs ≡ prefix_len p xs
-first_passing p [] = refl
-first_passing p (x ∷ xs) = rw (not_not (p x), first_passing p xs) refl
 
 -- one byte more at the end
 pub last_more : (p : ℕ → Bool) (xs : List ℕ) (i : ℕ) → i < length xs

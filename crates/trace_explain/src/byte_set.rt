@@ -1,10 +1,10 @@
 //! Sets of bytes, and how many bytes of one a string begins or ends with.
 
-ghost use Rattle.std.specs.Prelude.{◌≡◌, ◌≤◌, not, length, position, reverse, take};
+ghost use Rattle.std.specs.Prelude.{◌≡◌, ◌≤◌, length, reverse, take};
 ghost use Rattle.std.specs.List.{list_all, prefix_len};
 ghost use Rattle.trace_explain.specs.private.ByteSets as sets;
 
-use trace_lex::{is_blank, is_name_byte};
+use trace_lex::is_blank;
 
 /// Some of all bytes.
 #[derive(Clone, Copy)]
@@ -17,12 +17,6 @@ pub(crate) enum ByteSet {
     Except(u8),
     /// Any byte but blanks and this one.
     Inside(u8),
-    OfName,
-    OfNoName,
-    /// From 0x20 to 0x7e.
-    Printable,
-    /// Those that a line of a script may have.
-    OfLine,
 }
 
 /// Whether a byte is in a set.
@@ -35,10 +29,6 @@ fn has(set: ByteSet, byte: u8) -> bool
         ByteSet::Only(other) => byte == other,
         ByteSet::Except(other) => byte != other,
         ByteSet::Inside(end) => !(is_blank(byte) || byte == end),
-        ByteSet::OfName => is_name_byte(byte),
-        ByteSet::OfNoName => !is_name_byte(byte),
-        ByteSet::Printable => matches!(byte, b' '..=b'~'),
-        ByteSet::OfLine => matches!(byte, b'\t' | b' '..=b'~'),
     }
 }
 
@@ -80,12 +70,4 @@ pub(crate) fn are_all(set: ByteSet, text: &[u8]) -> bool
     ensures { result ≡ list_all (sets.has set) text.now }
 {
     first_len(set, text) == text.len()
-}
-
-/// Where the first byte is that is not in a set.
-pub(crate) fn first_outside(set: ByteSet, text: &[u8]) -> Option<usize>
-    ensures { result ≡ position (λ b. not (sets.has set b)) text.now }
-{
-    let len = first_len(set, text);
-    if len < text.len() { Some(len) } else { None }
 }

@@ -1,11 +1,10 @@
 //! Which byte of a line is a byte of what it writes, where its words begin, and where a quote begins that is not closed.
 
-ghost use Rattle.std.specs.Prelude.{◌≡◌, ◌-◌, ◌^◌, ◌<◌, if◌then◌else◌, [], ◌∷◌, ◌++◌, IfOk, OnOk};
+ghost use Rattle.std.specs.Prelude.{◌≡◌, ◌-◌, ◌^◌, ◌<◌, if◌then◌else◌, [], ◌∷◌, ◌++◌, drop, IfOk, OnOk};
 ghost use Rattle.trace_script.specs.Tokens.{is_end};
 ghost use Rattle.trace_explain.specs.Carets.{stand_after, offsets_of, written_offset};
 ghost use Rattle.trace_explain.specs.private.Steps as steps;
 
-use crate::cut::{number_at, numbers_after};
 use crate::filter_due::is_quote;
 use std::alloc::{AllocError, Global};
 use trace_lex::is_blank;
@@ -121,6 +120,16 @@ fn offsets(alloc: Global, line: &[u8]) -> Result<Vec<usize>, AllocError>
     Ok(offsets)
 }
 
+/// The offsets of a line from what an `echo` writes on.
+fn after_echo(offsets: &[usize]) -> &[usize]
+    ensures { result.now ≡ drop 5 offsets.now }
+{
+    match offsets.get(ECHO_PLACES..) {
+        Some(rest) => rest,
+        None => &[],
+    }
+}
+
 /// Where the byte of this offset in what an `echo` writes stands in its line.
 pub(crate) fn written_offset(
     alloc: Global,
@@ -130,7 +139,7 @@ pub(crate) fn written_offset(
     ensures { IfOk result (λ offset. offset ≡ written_offset line.now at) }
 {
     let offsets = offsets(alloc, line)?;
-    Ok(number_at(numbers_after(ECHO_PLACES, &offsets), at))
+    Ok(after_echo(&offsets).get(at).copied())
 }
 
 /// Whether a word or a redirection begins at a byte.

@@ -1,6 +1,6 @@
 //! Strings up to an offset, and from one on, whether or not they are as long; and what bytes they have.
 
-ghost use Rattle.std.specs.Prelude.{◌≡◌, ◌≤◌, drop, length, map, slice_get, take};
+ghost use Rattle.std.specs.Prelude.{◌≡◌, ◌≤◌, drop, length, map, take};
 ghost use Rattle.std.specs.List.{count_by, prefix_len};
 ghost use Rattle.std.specs.Str.{bytes_eq};
 ghost use Rattle.trace_trigger.specs.Frames as frames;
@@ -88,23 +88,6 @@ pub(crate) fn is_one_of(text: &[u8], words: &[&str]) -> bool
         }
     }
     false
-}
-
-/// The number of an index.
-pub(crate) fn number_at(numbers: &[usize], index: usize) -> Option<usize>
-    ensures { result ≡ slice_get numbers.now index }
-{
-    numbers.get(index).copied()
-}
-
-/// The numbers after so many.
-pub(crate) fn numbers_after(len: usize, numbers: &[usize]) -> &[usize]
-    ensures { result.now ≡ drop len numbers.now }
-{
-    match numbers.get(len..) {
-        Some(rest) => rest,
-        None => &[],
-    }
 }
 
 /// Strings one after the other.

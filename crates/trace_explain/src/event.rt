@@ -29,20 +29,20 @@ pub(crate) fn declared(alloc: Global, command: &Command) -> Result<Option<EventD
     }
 }
 
-/// The event that a path names, if it names one.
-fn event_in_path(path: &[u8]) -> Option<&[u8]> {
+/// The name of the event that a path names; empty, if it names none.
+fn event_in_path(path: &[u8]) -> &[u8] {
     match address_of(path).file {
-        Some(FileName::OfEvent(name, _)) => Some(name),
-        _ => None,
+        Some(FileName::OfEvent(name, _)) => name,
+        _ => b"",
     }
 }
 
-/// The event that a command names, if it names one.
-pub(crate) fn event_of(command: &Command) -> Option<&[u8]> {
+/// The name of the event that a command names; empty, if it names none.
+pub(crate) fn event_of(command: &Command) -> &[u8] {
     match command {
-        Command::Emit { event, .. } => Some(event.as_bytes()),
+        Command::Emit { event, .. } => event.as_bytes(),
         Command::Write { path, .. } | Command::Read { path, .. } => event_in_path(path.as_bytes()),
-        _ => None,
+        _ => b"",
     }
 }
 

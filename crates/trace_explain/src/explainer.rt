@@ -8,14 +8,13 @@ ghost use Rattle.trace_explain.specs.Places.{named_offset};
 
 use crate::cut::joined;
 use crate::event::{command_of, declared};
-use crate::fault_place::fault_offset;
-use crate::fault_words::{fault_words, name_of};
+use crate::fault::{fault_offset, fault_words, name_of};
 use crate::layout::shown;
-use crate::meant::{command_meant, line_meant, written_in};
+use crate::meant::{command_meant, line_meant};
 use crate::place::refusal_offset;
 use crate::row::row_fault;
 use crate::script_line::ScriptLine;
-use crate::subject::{command_subject, path_of};
+use crate::subject::{command_subject, path_of, written_in};
 use crate::wording::refusal_words;
 use std::alloc::{AllocError, Global};
 use trace_command::{Command, Refusal};
@@ -35,21 +34,7 @@ fn at_field<'a>(alloc: Global, field: &'a [u8], words: &'a [u8]) -> Result<Vec<u
     joined(alloc, &[field, b": ", words])
 }
 
-/// What is wrong with a row at a field.
-fn row_words(
-    alloc: Global,
-    events: &[EventDef],
-    command: &Command,
-    field: &[u8],
-) -> Result<Vec<u8>, AllocError> {
-    let Command::Emit { event, pairs, .. } = command else {
-        return Ok(Vec::new(alloc));
-    };
-    let fault = row_fault(events, event.as_bytes(), pairs.as_slice(), field);
-    at_field(alloc, field, fault.words.as_bytes())
-}
-
-/// What is wrong with a refused command.
+/// What is wrong with a refused command; of an emission's row, at a field.
 fn command_words(
     alloc: Global,
     events: &[EventDef],
@@ -57,7 +42,12 @@ fn command_words(
     refusal: &Refusal,
 ) -> Result<Vec<u8>, AllocError> {
     if let Refusal::BadRow { field } = refusal {
-        return row_words(alloc, events, command, field.as_bytes());
+        let Command::Emit { event, pairs, .. } = command else {
+            return Ok(Vec::new(alloc));
+        };
+        let field = field.as_bytes();
+        let fault = row_fault(events, event.as_bytes(), pairs.as_slice(), field);
+        return at_field(alloc, field, fault.words.as_bytes());
     }
     let subject = command_subject(command);
     let words = refusal_words(subject, path_of(command), written_in(command), refusal);

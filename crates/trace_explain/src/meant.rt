@@ -1,33 +1,35 @@
 //! What was meant, if something that is near is there.
 
 use crate::byte_set::{ByteSet, first_bytes};
-use crate::cut::{after, begins, has_blank, is_one_of, is_same, up_to};
+use crate::cut::{after, begins, has_blank, up_to};
 use crate::declaration_due::{DeclarationDue, declaration_due};
 use crate::event::{event_named, event_of, field_named};
+use crate::filter_due::FilterDue;
 use crate::hist_due::{is_attribute_name, last_part};
 use crate::near::{first_near, is_near};
 use crate::near_files::near_path;
-use crate::operator_meant::operator_meant;
-use crate::subject::{Subject, command_subject};
+use crate::subject::{Subject, command_subject, path_of, written_in};
 use crate::trigger_due::mark_len;
 use crate::wording::filter_due_at;
 use std::alloc::{AllocError, Global};
 use trace_command::{Command, Refusal};
 use trace_format::EventDef;
-use trace_lex::{len_before, trim};
+use trace_lex::{is_name_byte, len_before, trim, trim_end};
 use trace_script::ScriptFault;
+
+// ---- what is always there
 
 /// The type of fields that is near, without `int` and `long`, which `uint` and `ulong` are near to. Some types that fields don't have are near, too.
 fn type_meant(given: &[u8]) -> &'static str {
-    if is_one_of(given, &["signed", "uchar", "uid_t", "gid_t"]) || begins(b"f", given) {
-        return "";
+    match given {
+        b"signed" | b"uchar" | b"uid_t" | b"gid_t" | [b'f', ..] => "",
+        _ => first_near(
+            given,
+            &[
+                "s64", "s32", "s16", "u64", "u32", "u16", "char", "pid_t", "unsigned",
+            ],
+        ),
     }
-    first_near(
-        given,
-        &[
-            "s64", "s32", "s16", "u64", "u32", "u16", "char", "pid_t", "unsigned",
-        ],
-    )
 }
 
 /// The type that was meant in a declaration.
@@ -41,34 +43,18 @@ fn declaration_meant(text: &[u8], at: usize) -> &'static str {
     }
 }
 
-/// The word for an option, if it is given, as between blanks, or else that is near.
-fn option_meant(given: &[u8]) -> &'static str {
-    if is_same(b"nooverwrite", given) {
-        "nooverwrite"
-    } else if is_same(b"overwrite", given) {
-        "overwrite"
-    } else {
-        first_near(given, &["nooverwrite", "overwrite"])
-    }
-}
-
-/// The beginning of a trigger that is near.
-fn trigger_meant(given: &[u8]) -> &'static str {
-    if is_near(given, b"hist") {
-        "hist:"
-    } else {
-        first_near(given, &["snapshot"])
-    }
-}
-
-/// By what is no value for its file.
+/// By what is no value for its file: an option that is given, as between blanks, or else that is near; the beginning of a trigger.
 fn value_meant(subject: Subject, text: &[u8]) -> &'static str {
     match subject {
-        Subject::Options => option_meant(trim(text)),
-        Subject::Trigger => trigger_meant(first_bytes(
-            ByteSet::Inside(b':'),
-            after(mark_len(text), text),
-        )),
+        Subject::Options => match trim(text) {
+            b"nooverwrite" => "nooverwrite",
+            b"overwrite" => "overwrite",
+            given => first_near(given, &["nooverwrite", "overwrite"]),
+        },
+        Subject::Trigger => match first_bytes(ByteSet::Inside(b':'), after(mark_len(text), text)) {
+            given if is_near(given, b"hist") => "hist:",
+            given => first_near(given, &["snapshot"]),
+        },
         _ => "",
     }
 }
@@ -88,11 +74,36 @@ fn attribute_meant(text: &[u8], at: usize) -> &'static str {
     )
 }
 
+/// Whether the name that a string ends with is `not`.
+fn ends_with_not(front: &[u8]) -> bool {
+    match front {
+        [.., byte, b'n', b'o', b't'] => !is_name_byte(*byte),
+        _ => front == b"not".as_slice(),
+    }
+}
+
+/// The operator that is meant in a filter between these bytes, where half of one is written, or one with its bytes exchanged, or its name.
+fn operator_meant(due: FilterDue, front: &[u8], rest: &[u8]) -> &'static str {
+    match due {
+        FilterDue::Name | FilterDue::Operator => match rest {
+            [b'=', b'>', ..] => ">=",
+            [b'=', b'<', ..] => "<=",
+            [b'=', b'!', ..] => "!=",
+            [b'=', b'~', ..] => "~",
+            [b'=', ..] => "==",
+            _ if ends_with_not(trim_end(front)) => "!(..)",
+            _ => "",
+        },
+        FilterDue::Bare | FilterDue::Joint if begins(b"&", rest) || begins(b"and ", rest) => "&&",
+        FilterDue::Bare | FilterDue::Joint if begins(b"|", rest) || begins(b"or ", rest) => "||",
+        _ => "",
+    }
+}
+
+// ---- what was declared
+
 /// The event whose name is near.
-fn event_meant<'a>(events: &'a [EventDef], name: Option<&[u8]>) -> &'a [u8] {
-    let Some(name) = name else {
-        return b"";
-    };
+fn event_meant<'a>(events: &'a [EventDef], name: &[u8]) -> &'a [u8] {
     match events.iter().find(|event| is_near(name, event.name())) {
         Some(event) => event.name(),
         None => b"",
@@ -100,7 +111,10 @@ fn event_meant<'a>(events: &'a [EventDef], name: Option<&[u8]>) -> &'a [u8] {
 }
 
 /// The field of an event whose name is near, if none has it.
-fn near_field<'a>(event: &'a EventDef, name: &[u8]) -> &'a [u8] {
+fn field_meant<'a>(events: &'a [EventDef], event: &[u8], name: &[u8]) -> &'a [u8] {
+    let Some(event) = event_named(events, event) else {
+        return b"";
+    };
     if field_named(event.fields(), name).is_some() {
         return b"";
     }
@@ -114,18 +128,10 @@ fn near_field<'a>(event: &'a EventDef, name: &[u8]) -> &'a [u8] {
     }
 }
 
-fn field_meant<'a>(events: &'a [EventDef], event: Option<&[u8]>, name: &[u8]) -> &'a [u8] {
-    let Some(event) = event else {
-        return b"";
-    };
-    match event_named(events, event) {
-        Some(event) => near_field(event, name),
-        None => b"",
-    }
-}
-
-/// A field of the event, or else one that each event has.
-fn operand_meant<'a>(events: &'a [EventDef], event: Option<&[u8]>, name: &[u8]) -> &'a [u8] {
+/// A field of the event, or else one that each event has, by what begins with its name.
+fn operand_meant<'a>(events: &'a [EventDef], event: &[u8], rest: &[u8]) -> &'a [u8] {
+    let len = rest.iter().take_while(|byte| is_name_byte(**byte)).count();
+    let name = up_to(len, rest);
     let field = field_meant(events, event, name);
     if field.is_empty() {
         first_near(name, &["common_pid", "common_cpu"]).as_bytes()
@@ -134,26 +140,7 @@ fn operand_meant<'a>(events: &'a [EventDef], event: Option<&[u8]>, name: &[u8]) 
     }
 }
 
-/// What a command writes.
-pub(crate) fn written_in(command: &Command) -> &[u8] {
-    match command {
-        Command::Write { text, .. } => text.as_bytes(),
-        _ => b"",
-    }
-}
-
-fn path_meant(
-    alloc: Global,
-    events: &[EventDef],
-    command: &Command,
-) -> Result<Vec<u8>, AllocError> {
-    match command {
-        Command::Write { path, .. } | Command::Read { path, .. } => {
-            near_path(alloc, events, path.as_bytes())
-        }
-        _ => Ok(Vec::new(alloc)),
-    }
-}
+// ---- of a line
 
 /// What was meant by a refused command; empty, if nothing is near.
 pub(crate) fn command_meant(
@@ -163,18 +150,18 @@ pub(crate) fn command_meant(
     refusal: &Refusal,
 ) -> Result<Vec<u8>, AllocError> {
     let subject = command_subject(command);
+    let event = event_of(command);
     let text = written_in(command);
     let meant = match refusal {
-        Refusal::NoSuchFile => return path_meant(alloc, events, command),
-        Refusal::NoSuchEvent => event_meant(events, event_of(command)),
+        Refusal::NoSuchFile if !matches!(subject, Subject::Instance) => {
+            return near_path(alloc, events, path_of(command));
+        }
+        Refusal::NoSuchEvent => event_meant(events, event),
         Refusal::BadValue => value_meant(subject, text).as_bytes(),
         Refusal::BadDefinition { at } => declaration_meant(text, *at).as_bytes(),
         Refusal::HistSyntax { at } => attribute_meant(text, *at).as_bytes(),
-        Refusal::NoSuchField { at } => {
-            let name = first_bytes(ByteSet::OfName, after(*at, text));
-            operand_meant(events, event_of(command), name)
-        }
-        Refusal::BadRow { field } => field_meant(events, event_of(command), field.as_bytes()),
+        Refusal::NoSuchField { at } => operand_meant(events, event, after(*at, text)),
+        Refusal::BadRow { field } => field_meant(events, event, field.as_bytes()),
         Refusal::FilterSyntax { at } => {
             let due = filter_due_at(subject, text, *at);
             operator_meant(due, up_to(*at, text), after(*at, text)).as_bytes()

@@ -1,6 +1,6 @@
 //! When a string is near a name or a path, for `did you mean ..?`.
 
-use crate::cut::{after, has_byte};
+use crate::cut::after;
 
 /// How many bytes two strings begin with alike.
 fn common_len(a: &[u8], b: &[u8]) -> usize {
@@ -24,22 +24,12 @@ fn is_swapped(a: &[u8], b: &[u8]) -> bool {
     }
 }
 
-/// Whether strings are alike after so many bytes of each.
-fn is_alike(i: usize, j: usize, a: &[u8], b: &[u8]) -> bool {
-    after(i, a) == after(j, b)
+/// Whether so many bytes in a row are others, there too much, or left out.
+fn is_off_by(len: usize, a: &[u8], b: &[u8]) -> bool {
+    after(len, a) == after(len, b) || after(len, a) == b || a == after(len, b)
 }
 
-/// Whether one byte is another one, is there too much, or is left out, or two are exchanged.
-fn is_one_off(a: &[u8], b: &[u8]) -> bool {
-    is_alike(1, 1, a, b) || is_alike(1, 0, a, b) || is_alike(0, 1, a, b) || is_swapped(a, b)
-}
-
-/// Whether two bytes in a row are others, there too much, or left out.
-fn is_two_off(a: &[u8], b: &[u8]) -> bool {
-    is_alike(2, 2, a, b) || is_alike(2, 0, a, b) || is_alike(0, 2, a, b)
-}
-
-/// Whether a string is a name but for a byte, or, if it is longer, two in a row.
+/// Whether a string is a name but for a byte, or two that are exchanged, or, if it is longer, two in a row.
 pub(crate) fn is_near(given: &[u8], name: &[u8]) -> bool {
     if given == name {
         return false;
@@ -47,7 +37,8 @@ pub(crate) fn is_near(given: &[u8], name: &[u8]) -> bool {
     let common = common_len(given, name);
     let a = after(common, given);
     let b = after(common, name);
-    (given.len() >= 3 && is_one_off(a, b)) || (given.len() >= 6 && is_two_off(a, b))
+    (given.len() >= 3 && (is_off_by(1, a, b) || is_swapped(a, b)))
+        || (given.len() >= 6 && is_off_by(2, a, b))
 }
 
 /// Whether a string is a path without some bytes in a row. The path of a folder is none.
@@ -55,7 +46,7 @@ fn is_shortened(given: &[u8], path: &[u8]) -> bool {
     let common = common_len(given, path);
     let left = after(common, given);
     if left.is_empty() {
-        !has_byte(b'/', after(given.len().saturating_sub(1), path))
+        !after(given.len().saturating_sub(1), path).contains(&b'/')
     } else {
         after(common, path).ends_with(left)
     }

@@ -31,20 +31,19 @@ fn instance_len(path: &[u8]) -> usize {
 
 /// Whether a path is of a CPU whose number begins with `0` and goes on, so that another CPU may be meant.
 fn is_other_cpu(given: &[u8]) -> bool {
-    match after(12, given) {
-        [byte, ..] => begins(b"per_cpu/cpu0", given) && byte.is_ascii_digit(),
-        [] => false,
+    begins(b"per_cpu/cpu0", given) && matches!(after(12, given), [b'0'..=b'9', ..])
+}
+
+/// The first file, but of no event, whose path is near; empty, if none is.
+fn near_fixed_file(is_top: bool, given: &[u8]) -> &'static str {
+    if is_top && is_near_path(given, b"synthetic_events") {
+        return "synthetic_events";
     }
-}
-
-/// Whether a path has the name of what a file turns on, for turning it off.
-fn is_opposite(given: &[u8]) -> bool {
-    begins(b"options/no", given) || begins(b"tracing_of", given)
-}
-
-/// The first file of an instance or of all its events whose path is near; empty, if none is.
-fn near_shared_file(given: &[u8]) -> &'static str {
-    first_near_path(
+    // The name of what a file turns on, for turning it off.
+    if begins(b"options/no", given) || begins(b"tracing_of", given) {
+        return "";
+    }
+    let file = first_near_path(
         given,
         &[
             "trace",
@@ -57,18 +56,7 @@ fn near_shared_file(given: &[u8]) -> &'static str {
             "events/synthetic/enable",
             "events/synthetic/filter",
         ],
-    )
-}
-
-/// The first file, but of no event, whose path is near; empty, if none is.
-fn near_fixed_file(is_top: bool, given: &[u8]) -> &'static str {
-    if is_top && is_near_path(given, b"synthetic_events") {
-        return "synthetic_events";
-    }
-    if is_opposite(given) {
-        return "";
-    }
-    let file = near_shared_file(given);
+    );
     if !file.is_empty() || is_other_cpu(given) {
         return file;
     }

@@ -8,7 +8,6 @@ ghost use Rattle.trace_explain.specs.Places as places;
 
 use crate::byte_set::{ByteSet, first_bytes};
 use crate::caret::{starts, written_offset};
-use crate::cut::number_at;
 use crate::hist_due::attribute_at;
 use crate::row::row_fault;
 use crate::subject::{Subject, written_subject};
@@ -17,6 +16,20 @@ use std::alloc::{AllocError, Global};
 use trace_command::{Command, Refusal};
 use trace_format::EventDef;
 use trace_lex::blanks_len;
+
+/// The offset that a refusal names in what is written, if it names one.
+fn named_offset(refusal: &Refusal) -> Option<usize>
+    ensures { result ≡ places.named_offset refusal.now }
+{
+    match refusal {
+        Refusal::BadDefinition { at }
+        | Refusal::FilterSyntax { at }
+        | Refusal::NoSuchField { at }
+        | Refusal::WrongOperator { at }
+        | Refusal::HistSyntax { at } => Some(*at),
+        _ => None,
+    }
+}
 
 fn size_offset(text: &[u8]) -> Option<usize>
     ensures { result ≡ places.size_offset (attribute_at (codes ":size=") (texts.word_of text.now)) }
@@ -58,13 +71,9 @@ fn other_offset(subject: Subject, text: &[u8], refusal: &Refusal) -> Option<usiz
 pub(crate) fn blamed_offset(path: &[u8], text: &[u8], refusal: &Refusal) -> Option<usize>
     ensures { result ≡ places.blamed_offset path.now text.now refusal.now }
 {
-    match refusal {
-        Refusal::BadDefinition { at }
-        | Refusal::FilterSyntax { at }
-        | Refusal::NoSuchField { at }
-        | Refusal::WrongOperator { at }
-        | Refusal::HistSyntax { at } => Some(*at),
-        _ => other_offset(written_subject(path), text, refusal),
+    match named_offset(refusal) {
+        Some(at) => Some(at),
+        None => other_offset(written_subject(path), text, refusal),
     }
 }
 
@@ -75,12 +84,6 @@ fn blamed_word(
     refusal: &Refusal,
     count: usize,
 ) -> Option<usize> {
-    if matches!(
-        refusal,
-        Refusal::HistoryFull | Refusal::Memory | Refusal::Worn
-    ) {
-        return None;
-    }
     let Command::Emit { event, pairs, .. } = command else {
         return count.checked_sub(1);
     };
@@ -111,9 +114,15 @@ fn other_place(
             return written_offset(alloc, line, at);
         }
     }
+    if matches!(
+        refusal,
+        Refusal::HistoryFull | Refusal::Memory | Refusal::Worn
+    ) {
+        return Ok(None);
+    }
     let starts = starts(alloc, line)?;
     Ok(match blamed_word(events, command, refusal, starts.len()) {
-        Some(index) => number_at(&starts, index),
+        Some(index) => starts.get(index).copied(),
         None => None,
     })
 }
@@ -128,15 +137,8 @@ pub(crate) fn refusal_offset(
 ) -> Result<Option<usize>, AllocError>
     ensures { IfOk result (λ caret. IsUnder line.now (places.named_offset refusal.now) caret) }
 {
-    match refusal {
-        Refusal::BadDefinition { at }
-        | Refusal::FilterSyntax { at }
-        | Refusal::NoSuchField { at }
-        | Refusal::WrongOperator { at }
-        | Refusal::HistSyntax { at } => written_offset(alloc, line, *at),
-        _ => {
-            let place = other_place(alloc, events, line, command, refusal)?;
-            Ok(place)
-        }
+    match named_offset(refusal) {
+        Some(at) => written_offset(alloc, line, at),
+        None => other_place(alloc, events, line, command, refusal),
     }
 }

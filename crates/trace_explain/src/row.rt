@@ -1,6 +1,5 @@
 //! Why the pairs of an emission are no row.
 
-use crate::byte_set::{ByteSet, are_all};
 use crate::event::{event_named, field_named};
 use trace_format::{EventDef, Kind, Pair};
 use trace_lex::number;
@@ -12,16 +11,8 @@ pub(crate) struct RowFault {
     pub pair: Option<usize>,
 }
 
-fn number_misfit(is_in_range: Option<bool>) -> Option<&'static str> {
-    match is_in_range {
-        None => Some("its value is no number from -2^63 to 2^64 - 1"),
-        Some(false) => Some("its value is out of the range of its type"),
-        Some(true) => None,
-    }
-}
-
 fn text_misfit(len: usize, text: &[u8]) -> Option<&'static str> {
-    if !are_all(ByteSet::Printable, text) {
+    if !text.iter().all(|byte| matches!(*byte, b' '..=b'~')) {
         Some("its value has a byte that is not from 0x20 to 0x7e")
     } else if text.len() < len {
         None
@@ -34,18 +25,23 @@ fn text_misfit(len: usize, text: &[u8]) -> Option<&'static str> {
 fn misfit(kind: Kind, text: &[u8]) -> Option<&'static str> {
     match kind {
         Kind::Number(range) => match number(text) {
-            Some(value) => number_misfit(Some(range.holds(value))),
-            None => number_misfit(None),
+            Some(value) if range.holds(value) => None,
+            Some(_) => Some("its value is out of the range of its type"),
+            None => Some("its value is no number from -2^63 to 2^64 - 1"),
         },
         Kind::Char(len) => text_misfit(usize::from(len), text),
     }
 }
 
-/// The index of the first pair of a name, from this index on.
-fn pair_from(start: usize, pairs: &[Pair], name: &[u8]) -> Option<usize> {
+/// The index of a pair of a name, after so many others of that name.
+fn pair_of(before: usize, pairs: &[Pair], name: &[u8]) -> Option<usize> {
+    let mut left = before;
     for (at, pair) in pairs.iter().enumerate() {
-        if at >= start && pair.name.as_bytes() == name {
-            return Some(at);
+        if pair.name.as_bytes() == name {
+            if left == 0 {
+                return Some(at);
+            }
+            left -= 1;
         }
     }
     None
@@ -69,24 +65,20 @@ pub(crate) fn row_fault(
     pairs: &[Pair],
     name: &[u8],
 ) -> RowFault {
-    let Some(at) = pair_from(0, pairs, name) else {
+    let Some(pair) = pairs.iter().find(|pair| pair.name.as_bytes() == name) else {
         return RowFault {
             words: "the field is missing",
             pair: None,
         };
     };
-    let wrong = match pairs.get(at) {
-        Some(pair) => value_misfit(events, event, pair),
-        None => None,
-    };
-    match wrong {
+    match value_misfit(events, event, pair) {
         Some(words) => RowFault {
             words,
-            pair: Some(at),
+            pair: pair_of(0, pairs, name),
         },
         None => RowFault {
             words: "the field is repeated",
-            pair: pair_from(at.saturating_add(1), pairs, name),
+            pair: pair_of(1, pairs, name),
         },
     }
 }

@@ -85,3 +85,11 @@ pub(crate) fn path_of(command: &Command) -> &[u8] {
         Command::Write { path, .. } | Command::Read { path, .. } => path.as_bytes(),
     }
 }
+
+/// What a command writes.
+pub(crate) fn written_in(command: &Command) -> &[u8] {
+    match command {
+        Command::Write { text, .. } => text.as_bytes(),
+        _ => b"",
+    }
+}

@@ -1,14 +1,11 @@
 -- Which bytes the program's sets have.
-use Rattle.std.specs.Prelude.{ℕ, Bool, not}
+use Rattle.std.specs.Prelude.{ℕ, Bool}
 use Rattle.trace_lex.specs.Blanks.{is_blank}
-use Rattle.trace_lex.specs.Names.{is_name_byte}
 use Rattle.trace_lex.specs.Prefixes.{is_not}
-use Rattle.trace_format.specs.Cells.{is_printable}
 use Rattle.trace_trigger.specs.Frames.{is_unblank}
-use Rattle.trace_script.specs.Lines.{is_line_byte}
 use Rattle.trace_explain.specs.Bytes.{is_inside, is_same_byte}
 use Rattle.trace_explain.specs.declared.byte_set.ByteSet.{ByteSet}
-use Rattle.trace_explain.specs.declared.byte_set.ByteSet.TheVariants.{Blank, Unblank, Only, Except, Inside, OfName, OfNoName, Printable, OfLine}
+use Rattle.trace_explain.specs.declared.byte_set.ByteSet.TheVariants.{Blank, Unblank, Only, Except, Inside}
 
 abbrev pub has : ByteSet → ℕ → Bool
 has Blank b = is_blank b
@@ -16,7 +13,3 @@ has Unblank b = is_unblank b
 has (Only byte) b = is_same_byte byte b
 has (Except byte) b = is_not byte b
 has (Inside byte) b = is_inside byte b
-has OfName b = is_name_byte b
-has OfNoName b = not (is_name_byte b)
-has Printable b = is_printable b
-has OfLine b = is_line_byte b
