@@ -147,6 +147,22 @@ module _ (text rest : List ℕ) (is : text ≡ codes "emit " ++ rest) where
       pub none_read : (is_spaced true (take len rest) ≡ true → IsErr (emission_in (take len rest))) → IsPlainEmission (line_in text) → ⊥
       none_read wrong = not_found (line_in text) (take len rest) said (plain_rest (line_in text) (take len rest) whole) wrong
 
+-- of a short line, which is what its bits are of
+module _ (text rest line : List ℕ) (is : text ≡ codes "emit " ++ rest) (cut : line ≡ line_in rest) where
+  within : line_len rest ≤ length rest
+  within = prefix_len-le-length in_line rest
+
+  as_long : length line ≡ line_len rest
+  as_long = ap length cut ∙ length-take-le (line_len rest) rest within
+
+  pub short_len : 5 + length line ≡ line_len text
+  short_len = omega (arith, as_long, len_is text rest is)
+
+  pub short_read : highest_rank line ≡ 0 → length line ≤ 4091 → (asked : Result Line ScriptFault) → asked_after_emit line ≡ asked → line_of (line_in text) ≡ asked
+  short_read bare short asked e =
+      first_read text rest is (line_len rest) refl within (ap highest_rank (sym cut) ∙ bare) (omega (arith, as_long, short)) asked
+      (ap asked_after_emit (sym cut) ∙ e)
+
 -- a text that does not begin with `emit`
 pub no_emission : (text : List ℕ) → ((rest : List ℕ) → text ≢ codes "emit " ++ rest) → IsPlainEmission (line_in text) → ⊥
 no_emission text other plain =

@@ -13,13 +13,14 @@ use lib.Count.{count_trailing_zeros, trailing_of_zero}
 use lib.Lanes.{mask_l, top}
 use Rattle.trace_format.specs.declared.pair.Pair.{Pair}
 use Rattle.trace_script.specs.Tokens.{behind, tokens_of}
-use Rattle.trace_script.specs.private.Bytes.{highest_rank}
+use Rattle.trace_script.specs.private.Bytes.{highest_rank, is_rare}
 use Rattle.trace_script.specs.private.Emissions.{pairs_in}
 use Rattle.trace_script.specs.private.Marks.{is_low, is_equals, AreBits}
 use Rattle.trace_script.specs.declared.token.Token.TheVariants.{Word}
 use Rattle.trace_script.proofs.BareLines.{word_cut}
 use Rattle.trace_script.proofs.BarePairs.{pair_taken}
 use Rattle.trace_script.proofs.ByteLemmas.{later_le}
+use Rattle.trace_script.proofs.PrefixLemmas.{in_block}
 
 abbrev above : ℕ → Bool
 above b = nat_lt 32 b
@@ -33,22 +34,39 @@ pub one_bit : (x : Bool) → top 7 (cond x 255 0) ≡ x
 one_bit true = refl
 one_bit false = refl
 
--- the bits of a block are those of what a string begins with
-pub front_bits : (test : ℕ → Bool) (len size bits : ℕ) (text : List ℕ) → len < size → size ≤ 64 → size ≤ length text
-    → bits ≡ mask_l (map test (take size text)) → AreBits test (take len text) bits
-front_bits test len size bits text less few fits are =
+closed_rest : (len size : ℕ) (text : List ℕ) → len < size → len < length text → get_or text len 0 ≡ 10
+    → take (size - len) (drop len text) ≡ 10 ∷ take (size - (len + 1)) (drop (len + 1) text)
+closed_rest len size text less more newline =
+    let m = size - (len + 1) in
+    let n : size - len ≡ suc m = omega arith in
+    let one : suc len ≡ len + 1 = omega arith in
+    ap (λ (k : ℕ). take k (drop len text)) n ∙ ap (take (suc m)) (drop-cons text len 0 more)
+    ∙ ap (λ (b : ℕ). b ∷ take m (drop (suc len) text)) newline ∙ ap (λ (k : ℕ). 10 ∷ take m (drop k text)) one
+
+-- the bits of a block are those of what a string begins with, up to a newline
+pub front_bits : (test : ℕ → Bool) (len size bits : ℕ) (text : List ℕ) → len < size → size ≤ 64 → size ≤ length text → get_or text len 0 ≡ 10
+    → bits ≡ mask_l (map test (take size text)) → AreBits test (take len text) (10 ∷ take (size - (len + 1)) (drop (len + 1) text)) bits
+front_bits test len size bits text less few fits newline are =
     let rest = take (size - len) (drop len text) in
     let n : len + (size - len) ≡ size = omega arith in
+    let after = closed_rest len size text less (omega arith) newline in
     let whole : take len text ++ rest ≡ take size text =
     ap (λ (xs : List ℕ). take len text ++ xs) (sym (drop-take len (size - len) text) ∙ ap (λ (k : ℕ). drop len (take k text)) n)
     ∙ ap (λ (xs : List ℕ). xs ++ drop len (take size text)) (sym (take-take len size text (omega arith)))
     ∙ take-append-drop len (take size text) in
+    let all = ap (λ (xs : List ℕ). take len text ++ xs) (sym after) ∙ whole in
     record {
-      after = rest;
-      few = omega (arith, sym (length-append (take len text) rest) ∙ ap length whole, length-take-le size text fits);
-      short = omega (arith, length-take-le len text (omega arith));
-      are = are ∙ ap (λ (xs : List ℕ). mask_l (map test xs)) (sym whole);
+      few = omega (arith, sym (length-append (take len text) (10 ∷ take (size - (len + 1)) (drop (len + 1) text))) ∙ ap length all, length-take-le size text fits);
+      are = are ∙ ap (λ (xs : List ℕ). mask_l (map test xs)) (sym all);
     }
+
+-- how far a bare line goes, if its end is in a block
+pub run_in_block : (len size bits : ℕ) (text : List ℕ) → size ≤ 64 → size ≤ length text → bits ≡ mask_l (map is_rare (take size text))
+    → len ≡ count_trailing_zeros 64 bits → len < size → len ≡ prefix_len (λ b. not (is_rare b)) text
+run_in_block len size bits text few fits are counted less = elim (cases_eq bits 0) [
+  | inl none ↦ absurd (omega (arith, less, few, counted, ap (count_trailing_zeros 64) none ∙ trailing_of_zero 64))
+  | inr some ↦ counted ∙ ap (count_trailing_zeros 64) are ∙ sym (in_block is_rare text 0 size (omega arith) few (omega (arith, are, some)))
+]
 
 -- ---- the first bit
 
@@ -62,12 +80,12 @@ within q (x ∷ xs) ys = by_test (q x) (within q xs ys)
     by_test true ih = omega arith
     by_test false ih = omega arith
 
-pub first_bit : (test : ℕ → Bool) (line : List ℕ) (bits : ℕ) → AreBits test line bits
+pub first_bit : (test : ℕ → Bool) (line after : List ℕ) (bits : ℕ) → AreBits test line after bits
     → min (count_trailing_zeros 64 bits) (length line) ≡ prefix_len (λ b. not (test b)) line
-first_bit test line bits is =
-    let all = line ++ is.after in
-    let long = length-append line is.after in
-    let front = within (λ b. not (test b)) line is.after in
+first_bit test line after bits is =
+    let all = line ++ after in
+    let long = length-append line after in
+    let front = within (λ b. not (test b)) line after in
     elim (cases_eq bits 0) [
       | inl none ↦
           let whole = leading_from_mask_l test all (sym is.are ∙ none) in
@@ -78,6 +96,30 @@ first_bit test line bits is =
           omega (arith, found, front)
     ]
 
+-- where what follows the line begins with a byte that passes the test
+closed_run : (test : ℕ → Bool) (xs ys : List ℕ) (y : ℕ) → test y ≡ true → prefix_len (λ b. not (test b)) (xs ++ y ∷ ys) ≤ length xs
+closed_run test [] ys y passes = rw passes (omega arith)
+closed_run test (x ∷ xs) ys y passes = by_test (test x) (closed_run test xs ys y passes)
+  where
+    by_test : (t : Bool) → prefix_len (λ b. not (test b)) (xs ++ y ∷ ys) ≤ length xs
+        → cond (not t) (1 + prefix_len (λ b. not (test b)) (xs ++ y ∷ ys)) 0 ≤ length (x ∷ xs)
+    by_test true ih = omega arith
+    by_test false ih = omega (arith, ih)
+
+closed_bit : (test : ℕ → Bool) (line after : List ℕ) (bits end : ℕ) → AreBits test line (end ∷ after) bits → test end ≡ true
+    → count_trailing_zeros 64 bits ≡ prefix_len (λ b. not (test b)) line
+closed_bit test line after bits end is passes =
+    let all = line ++ end ∷ after in
+    let most = closed_run test line after end passes in
+    let front = within (λ b. not (test b)) line (end ∷ after) in
+    let long = length-append line (end ∷ after) in
+    elim (cases_eq bits 0) [
+      | inl none ↦ absurd (omega (arith, most, long, leading_from_mask_l test all (sym is.are ∙ none)))
+      | inr some ↦
+          let found = ap (count_trailing_zeros 64) is.are ∙ trailing_mask_l test 64 all (omega (arith, long, is.few)) (omega (arith, is.are, some)) in
+          omega (arith, found, front, most)
+    ]
+
 not_above : (b : ℕ) → not (is_low b) ≡ nat_lt 32 b
 not_above b = grind (arith, nat_tests)
 
@@ -85,9 +127,9 @@ same_run : (p q : ℕ → Bool) → ((b : ℕ) → p b ≡ q b) → (bytes : Lis
 same_run p q same [] = refl
 same_run p q same (b ∷ bs) = rw (same b, same_run p q same bs) refl
 
-pub first_word_len : (line : List ℕ) (bits : ℕ) → AreBits is_low line bits
-    → min (count_trailing_zeros 64 bits) (length line) ≡ prefix_len (λ b. nat_lt 32 b) line
-first_word_len line bits is = first_bit is_low line bits is ∙ same_run _ _ not_above line
+pub first_word_len : (line after : List ℕ) (bits : ℕ) → AreBits is_low line (10 ∷ after) bits
+    → count_trailing_zeros 64 bits ≡ prefix_len (λ b. nat_lt 32 b) line
+first_word_len line after bits is = closed_bit is_low line after bits 10 is refl ∙ same_run _ _ not_above line
 
 pub word_within : (line : List ℕ) → prefix_len (λ b. nat_lt 32 b) line ≤ length line
 word_within line = prefix_len-le-length (λ b. nat_lt 32 b) line
@@ -111,15 +153,12 @@ mask_drop test (suc k) (x ∷ xs) =
     ∙ ap (λ (n : ℕ). n / 2 ^ k) (halved (cond (test x) 1 0) (mask_l (map test xs)) (bit_le (test x)))
     ∙ mask_drop test k xs
 
-pub bits_after : (test : ℕ → Bool) (line : List ℕ) (bits k : ℕ) → AreBits test line bits → k ≤ length line → AreBits test (drop k line) (bits / 2 ^ k)
-bits_after test line bits k is fits =
-    let short = length-drop k line in
+pub bits_after : (test : ℕ → Bool) (line after : List ℕ) (bits k : ℕ) → AreBits test line after bits → k ≤ length line → AreBits test (drop k line) after (bits / 2 ^ k)
+bits_after test line after bits k is fits =
     record {
-      after = is.after;
-      few = omega (arith, short, is.few);
-      short = omega (arith, short, is.short);
-      are = ap (λ (n : ℕ). n / 2 ^ k) is.are ∙ mask_drop test k (line ++ is.after)
-          ∙ ap (λ (xs : List ℕ). mask_l (map test xs)) (drop-append-le k line is.after fits);
+      few = omega (arith, length-drop k line, is.few);
+      are = ap (λ (n : ℕ). n / 2 ^ k) is.are ∙ mask_drop test k (line ++ after)
+          ∙ ap (λ (xs : List ℕ). mask_l (map test xs)) (drop-append-le k line after fits);
     }
 
 pub bare_after : (k : ℕ) (line : List ℕ) → highest_rank line ≡ 0 → highest_rank (drop k line) ≡ 0

@@ -86,13 +86,14 @@ const BLOCK: usize = 16;
 
 /// A bit for each byte of a block that has another rank than 0.
 #[inline(always)]
-fn rare_bits(block: u8x16) -> u64
-    ensures { result ≡ mask_l (map is_rare block) }
+pub(crate) fn rare_bits<const N: usize>(block: Simd<u8, N>) -> u64
+    requires { N ≤ 64 }
+    ensures { result ≡ mask_l (map is_rare block.entry) }
 {
-    let outside = block.simd_lt(u8x16::splat(b' ')) | block.simd_gt(u8x16::splat(b'~'));
-    let other = outside & block.simd_ne(u8x16::splat(b'\t'));
-    let quote = block.simd_eq(u8x16::splat(b'\'')) | block.simd_eq(u8x16::splat(b'"'));
-    (other | quote | block.simd_eq(u8x16::splat(b'>'))).to_bitmask()
+    let outside = block.simd_lt(Simd::splat(b' ')) | block.simd_gt(Simd::splat(b'~'));
+    let other = outside & block.simd_ne(Simd::splat(b'\t'));
+    let quote = block.simd_eq(Simd::splat(b'\'')) | block.simd_eq(Simd::splat(b'"'));
+    (other | quote | block.simd_eq(Simd::splat(b'>'))).to_bitmask()
 }
 
 /// The first index from this one on at which a byte has another rank than 0; the length, if there is none.

@@ -1,20 +1,20 @@
 //! The emission that the first line of a string is.
 //!
 //! The end of such a line is the first byte that is not of a word or a blank, if that is a newline: so one look finds the end, and tells that
-//! neither quotes nor `>` come before it. A short line's words are then found by bits, in a string that goes on after it; those of a long one as
-//! [`plain_emission`] finds them.
+//! neither quotes nor `>` come before it. The same look finds a short line's words by bits, in a string that goes on after it; those of a long one
+//! are found as [`plain_emission`] finds them.
 
-ghost use Rattle.std.specs.Prelude.{◌≡◌, ◌≤◌, [], length, take, true, IsErr, IsSome, IfOk, IfSome, IfNone, OnErr};
+ghost use Rattle.std.specs.Prelude.{◌≡◌, ◌≤◌, ◌++◌, ℕ, List, [], length, take, codes, IsSome, IfOk, IfSome, IfNone, OnErr};
 ghost use Rattle.trace_script.specs.Lines.{line_of};
-ghost use Rattle.trace_script.specs.PlainEmissions.{emission_said, is_spaced, line_len, line_in, IsPlainEmission};
+ghost use Rattle.trace_script.specs.PlainEmissions.{emission_said, line_len, line_in, IsPlainEmission};
 ghost use Rattle.trace_script.specs.private.Bytes.{highest_rank};
-ghost use Rattle.trace_script.specs.private.Emissions.{asked_after_emit, emission_in};
+ghost use Rattle.trace_script.specs.private.Emissions.{asked_after_emit};
 ghost use Rattle.trace_script.specs.private.Marks.{IsMarked};
 
 use crate::bytes::bare_len;
 use crate::emission::{EMIT_BYTES, EmissionHead, after_emit, cut_bare};
 use crate::line::MOST_BYTES;
-use crate::marked::{Marked, marked_front, marked_pairs, marked_word};
+use crate::marked::{Marked, marked_line, marked_pairs, marked_word};
 use crate::number::{cpu_number, process_id};
 use std::alloc::AllocError;
 use trace_format::BorrowedPair;
@@ -48,34 +48,16 @@ fn marked_emission<'a>(
     let Some((event, rest)) = marked_word(&rest) else {
         return Ok(None);
     };
-    let (Some(cpu), Some(pid)) = (cpu_number(cpu), process_id(pid)) else {
+    let Some(cpu) = cpu_number(cpu) else {
+        return Ok(None);
+    };
+    let Some(pid) = process_id(pid) else {
         return Ok(None);
     };
     if !marked_pairs(&rest, pairs)? {
         return Ok(None);
     }
     Ok(Some(EmissionHead { event, cpu, pid }))
-}
-
-/// The emission that a bare line is, of which so many bytes of a string follow `emit`.
-#[inline(always)]
-fn emission_after<'a>(
-    text: &'a [u8],
-    len: usize,
-    pairs: &mut Vec<BorrowedPair<'a>>,
-) -> Result<Option<EmissionHead<'a>>, AllocError>
-    requires within { len ≤ length text.now }
-    requires bare { highest_rank (take len text.now) ≡ 0 }
-    ensures read { IfOk result (λ found. IfSome found (λ head. asked_after_emit (take len text.now) ≡ emission_said head pairs.new.items)) }
-    ensures none { IfOk result (λ found. IfNone found (is_spaced true (take len text.now) ≡ true → IsErr (emission_in (take len text.now)))) }
-{
-    if let Some(line) = marked_front(text, len) {
-        if let Some(head) = marked_emission(&line, pairs)? {
-            return Ok(Some(head));
-        }
-    }
-    let (rest, _) = text.split_at(len);
-    cut_bare(rest, pairs)
 }
 
 /// How many bytes of a line are left at the front of a string, if all of them are of words without quotes, or blanks.
@@ -94,9 +76,38 @@ fn bare_line_len(text: &[u8]) -> Option<usize>
     Some(len)
 }
 
-/// As `first_emission`, but pairs may be left where there is no such emission.
+/// As `first_emission`, of a string that this follows `emit` in, but pairs may be left where there is no such emission. It is kept out of line, as
+/// most lines are short.
+#[inline(never)]
+#[tactic(auto, using(crate::proofs::FirstLines::first_len))]
+fn cut_any<'a>(
+    rest: &'a [u8],
+    pairs: &mut Vec<BorrowedPair<'a>>,
+) -> Result<Option<FirstEmission<'a>>, AllocError>
+    ensures read { IfOk result (λ found. IfSome found (λ first. (text : List ℕ) → text ≡ codes "emit " ++ rest.now
+        → line_of (line_in text) ≡ emission_said first.head pairs.new.items)) }
+    ensures len { IfOk result (λ found. IfSome found (λ first. (text : List ℕ) → text ≡ codes "emit " ++ rest.now → first.len ≡ line_len text)) }
+    ensures found { IfOk result (λ found. (text : List ℕ) → text ≡ codes "emit " ++ rest.now → IsPlainEmission (line_in text) → IsSome found) }
+{
+    let Some(len) = bare_line_len(rest) else {
+        return Ok(None);
+    };
+    if len > MOST_BYTES - EMIT_BYTES {
+        return Ok(None);
+    }
+    let (line, _) = rest.split_at(len);
+    let Some(head) = cut_bare(line, pairs)? else {
+        return Ok(None);
+    };
+    Ok(Some(FirstEmission {
+        head,
+        len: EMIT_BYTES + len,
+    }))
+}
+
+/// As `first_emission`, but pairs may be left where there is no such emission. Most lines are short, and their words are found by bits.
 #[inline(always)]
-#[tactic(auto, using(crate::proofs::FirstLines::first_len, crate::proofs::FirstLines::no_emission))]
+#[tactic(auto, using(crate::proofs::FirstLines::short_len, crate::proofs::FirstLines::no_emission))]
 fn cut_first<'a>(
     text: &'a [u8],
     pairs: &mut Vec<BorrowedPair<'a>>,
@@ -108,19 +119,15 @@ fn cut_first<'a>(
     let Some(rest) = after_emit(text) else {
         return Ok(None);
     };
-    let Some(len) = bare_line_len(rest) else {
-        return Ok(None);
-    };
-    if len > MOST_BYTES - EMIT_BYTES {
-        return Ok(None);
+    if let Some(line) = marked_line(rest) {
+        if let Some(head) = marked_emission(&line, pairs)? {
+            return Ok(Some(FirstEmission {
+                head,
+                len: EMIT_BYTES + line.text.len(),
+            }));
+        }
     }
-    let Some(head) = emission_after(rest, len, pairs)? else {
-        return Ok(None);
-    };
-    Ok(Some(FirstEmission {
-        head,
-        len: EMIT_BYTES + len,
-    }))
+    cut_any(rest, pairs)
 }
 
 /// The emission that the first line of a string is, if that has no quotes and no `>` and one blank between each two words; found as

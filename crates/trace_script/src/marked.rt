@@ -1,19 +1,22 @@
 //! Short lines, whose words are found by bits.
 //!
 //! Two numbers tell where the words of a line end: one has a bit for each byte that is at most a space, the other for each `=`, the lowest bit
-//! for the first byte. How many zeros are below the lowest of them is how many bytes the first word has. What follows a word has the same
-//! numbers, shifted. They are made at once for the bytes of a block, which goes on after the line.
+//! for the first byte. How many zeros are below the lowest of them is how many bytes the first word has, since a newline follows the line. What
+//! follows a word has the same numbers, shifted. They are made at once for the bytes of a block, which goes on after the line, and with them the
+//! line's end: the first byte that no word has and that is no blank, if that is a newline.
 
-ghost use Rattle.std.specs.Prelude.{◌≡◌, ◌+◌, ◌<◌, ◌≤◌, nat_lt, length, map, take, drop, true, Some, IfOk, IfSome, ◌≢◌, ◌∷◌, []};
+ghost use Rattle.std.specs.Prelude.{◌≡◌, ◌+◌, ◌<◌, ◌≤◌, nat_lt, length, map, drop, true, Some, IfOk, IfSome, ◌≢◌, ◌∷◌, []};
 ghost use Rattle.std.specs.List.{prefix_len};
 ghost use Rattle.std.specs.Option.{option_map};
 ghost use Rattle.std.specs.Simd.Lanes.{mask_l};
+ghost use Rattle.trace_script.specs.PlainEmissions.{line_in};
 ghost use Rattle.trace_script.specs.Tokens.{behind, tokens_of};
 ghost use Rattle.trace_script.specs.private.Bytes.{highest_rank};
 ghost use Rattle.trace_script.specs.private.Emissions.{pairs_in};
 ghost use Rattle.trace_script.specs.private.Marks.{is_low, is_equals, IsMarked};
 ghost use Rattle.trace_script.specs.declared.token.Token.TheVariants.{Word as IsWord};
 
+use crate::bytes::rare_bits;
 use std::alloc::AllocError;
 use std::simd::prelude::*;
 use trace_format::BorrowedPair;
@@ -36,61 +39,60 @@ const LONG_BLOCK: usize = 64;
 
 /// A bit for each byte of a block that is at most a space.
 #[inline(always)]
-fn low_bits(block: u8x32) -> u64
-    ensures { result ≡ mask_l (map is_low block) }
+fn low_bits<const N: usize>(block: Simd<u8, N>) -> u64
+    requires { N ≤ 64 }
+    ensures { result ≡ mask_l (map is_low block.entry) }
 {
-    block.simd_le(u8x32::splat(b' ')).to_bitmask()
+    block.simd_le(Simd::splat(b' ')).to_bitmask()
 }
 
 /// A bit for each `=` of a block.
 #[inline(always)]
-fn equals_bits(block: u8x32) -> u64
-    ensures { result ≡ mask_l (map is_equals block) }
+fn equals_bits<const N: usize>(block: Simd<u8, N>) -> u64
+    requires { N ≤ 64 }
+    ensures { result ≡ mask_l (map is_equals block.entry) }
 {
-    block.simd_eq(u8x32::splat(b'=')).to_bitmask()
+    block.simd_eq(Simd::splat(b'=')).to_bitmask()
 }
 
-/// As `low_bits`, of a long block.
+/// The line that a string begins with, if it is bare and ends with a newline among so many bytes, which the string has.
 #[inline(always)]
-fn long_low_bits(block: u8x64) -> u64
-    ensures { result ≡ mask_l (map is_low block) }
-{
-    block.simd_le(u8x64::splat(b' ')).to_bitmask()
-}
-
-/// As `equals_bits`, of a long block.
-#[inline(always)]
-fn long_equals_bits(block: u8x64) -> u64
-    ensures { result ≡ mask_l (map is_equals block) }
-{
-    block.simd_eq(u8x64::splat(b'=')).to_bitmask()
-}
-
-/// So many bytes that a string begins with, if they are few enough and the string fills a block.
-#[inline(always)]
-pub(crate) fn marked_front(text: &[u8], len: usize) -> Option<Marked<'_>>
-    requires { len ≤ length text.now }
-    ensures text { IfSome result (λ line. line.text.now ≡ take len text.now) }
+fn line_in_block<const N: usize>(text: &[u8]) -> Option<Marked<'_>>
+    requires { (N ≤ 64) × (N ≤ length text.now) }
+    ensures text { IfSome result (λ line. line.text.now ≡ line_in text.now) }
+    ensures bare { IfSome result (λ line. highest_rank line.text.now ≡ 0) }
     ensures marked { IfSome result IsMarked }
 {
+    let block = Simd::<u8, N>::from_slice(text);
+    let len = rare_bits(block).trailing_zeros() as usize;
+    if len >= N || text[len] != b'\n' {
+        return None;
+    }
     let (line, _) = text.split_at(len);
-    if len < BLOCK && text.len() >= BLOCK {
-        let block = u8x32::from_slice(text);
-        return Some(Marked {
-            text: line,
-            low: low_bits(block),
-            equals: equals_bits(block),
-        });
+    Some(Marked {
+        text: line,
+        low: low_bits(block),
+        equals: equals_bits(block),
+    })
+}
+
+/// The line that a string begins with, if it is bare and short and ends with a newline, and the string fills a block.
+#[inline(always)]
+pub(crate) fn marked_line(text: &[u8]) -> Option<Marked<'_>>
+    ensures text { IfSome result (λ line. line.text.now ≡ line_in text.now) }
+    ensures bare { IfSome result (λ line. highest_rank line.text.now ≡ 0) }
+    ensures marked { IfSome result IsMarked }
+{
+    if text.len() < BLOCK {
+        return None;
     }
-    if len < LONG_BLOCK && text.len() >= LONG_BLOCK {
-        let block = u8x64::from_slice(text);
-        return Some(Marked {
-            text: line,
-            low: long_low_bits(block),
-            equals: long_equals_bits(block),
-        });
+    if let Some(line) = line_in_block::<BLOCK>(text) {
+        return Some(line);
     }
-    None
+    if text.len() < LONG_BLOCK {
+        return None;
+    }
+    line_in_block::<LONG_BLOCK>(text)
 }
 
 /// How many bytes a line begins with that are above a space.
@@ -101,11 +103,7 @@ fn word_len(line: &Marked<'_>) -> usize
     ensures value { result ≡ prefix_len (λ b. nat_lt 32 b) line.now.text.now }
     ensures bound { result ≤ length line.now.text.now }
 {
-    let zeros = line.low.trailing_zeros() as usize;
-    if zeros < line.text.len() {
-        return zeros;
-    }
-    line.text.len()
+    line.low.trailing_zeros() as usize
 }
 
 /// A line without so many of its first bytes.

@@ -7,7 +7,7 @@ use Rattle.trace_script.proofs.PrefixLemmas.{same}
 use Rattle.trace_script.proofs.marked.equals_bits.Goals as goal
 
 pub returns : goal.returns
-returns c =
+returns g c =
     let v = c.args.block in
     let long = c.fits-block.0 in
-    masked_at _ is_equals v _ (omega arith) c.fits-block.1 (zip2_splat same v 32 61 long) (λ x within. one_bit _)
+    masked_at _ is_equals v _ (omega arith) c.fits-block.1 (zip2_splat same v _ 61 long) (λ x within. one_bit _)

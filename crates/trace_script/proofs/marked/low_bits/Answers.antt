@@ -7,7 +7,7 @@ use Rattle.trace_script.proofs.PrefixLemmas.{at_most}
 use Rattle.trace_script.proofs.marked.low_bits.Goals as goal
 
 pub returns : goal.returns
-returns c =
+returns g c =
     let v = c.args.block in
     let long = c.fits-block.0 in
-    masked_at _ is_low v _ (omega arith) c.fits-block.1 (zip2_splat at_most v 32 32 long) (λ x within. one_bit _)
+    masked_at _ is_low v _ (omega arith) c.fits-block.1 (zip2_splat at_most v _ 32 long) (λ x within. one_bit _)

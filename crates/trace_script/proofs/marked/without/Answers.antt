@@ -4,6 +4,7 @@ use Rattle.trace_script.proofs.marked.without.Goals as goal
 pub returns-clause-marked : goal.returns-clause-marked
 returns-clause-marked c =
     rw c.split_at.ensures.back (record {
-      low = bits_after _ c.args.line.now.text.now _ c.args.count c.requires.marked.low c.requires.within;
-      equals = bits_after _ c.args.line.now.text.now _ c.args.count c.requires.marked.equals c.requires.within;
+      after = c.requires.marked.after;
+      low = bits_after _ c.args.line.now.text.now _ _ c.args.count c.requires.marked.low c.requires.within;
+      equals = bits_after _ c.args.line.now.text.now _ _ c.args.count c.requires.marked.equals c.requires.within;
     })

@@ -1,4 +1,4 @@
-use Rattle.std.proofs.Common.{sym, rules}
+use Rattle.std.proofs.Common.{rules}
 use Rattle.trace_script.proofs.BareReads.{cat_read}
 use Rattle.trace_script.proofs.read.cat_of.Goals as goal
 
