@@ -132,7 +132,9 @@ impl Chunk {
         self.write_pairs(pairs)
     }
 
-    /// Writes the entry of an emission ahead. Where memory is refused, a part of it may be written all the same.
+    /// Writes the entry of an emission ahead. Where memory is refused, a part of it may be written all the same. It is inlined, as most entries are of
+    /// emissions.
+    #[inline(always)]
     pub(crate) fn write_emission(
         &mut self,
         ticket: u64,

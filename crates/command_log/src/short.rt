@@ -73,7 +73,22 @@ fn put_long(out: &mut [u8], at: usize, text: &[u8])
     put_piece(out, at, text);
 }
 
-// Writes bytes at an offset.
+// Writes eight bytes or more at an offset.
+#[inline(always)]
+fn put_many(out: &mut [u8], at: usize, text: &[u8])
+    requires room { at + length text.now ≤ length out.old }
+    requires many { 8 ≤ length text.now }
+    ensures length { length out.new ≡ length out.old }
+    ensures bytes { take (at + length text.now) out.new ≡ take at out.old ++ text.now }
+{
+    if text.len() <= 16 {
+        put_ends::<8>(out, at, text);
+    } else {
+        put_long(out, at, text);
+    }
+}
+
+// Writes bytes at an offset. The lengths are told apart from the long ones on, so that most strings take two tests.
 #[inline(always)]
 fn put_bytes(out: &mut [u8], at: usize, text: &[u8])
     requires room { at + length text.now ≤ length out.old }
@@ -81,12 +96,11 @@ fn put_bytes(out: &mut [u8], at: usize, text: &[u8])
     ensures bytes { take (at + length text.now) out.new ≡ take at out.old ++ text.now }
 {
     match text.len() {
-        0 => {}
-        1 => put_first::<1>(out, at, text),
-        2..=3 => put_ends::<2>(out, at, text),
+        8.. => put_many(out, at, text),
         4..=7 => put_ends::<4>(out, at, text),
-        8..=16 => put_ends::<8>(out, at, text),
-        _ => put_long(out, at, text),
+        2..=3 => put_ends::<2>(out, at, text),
+        1 => put_first::<1>(out, at, text),
+        0 => {}
     }
 }
 
