@@ -52,7 +52,8 @@ pub fn ask<R: Wait>(
     }
 }
 
-/// As `ask`, for an emission whose strings are borrowed. It builds no command.
+/// As `ask`, for an emission whose strings are borrowed. It builds no command. It is inlined, so that its answer is not moved.
+#[inline(always)]
 pub fn ask_emission<R: Wait>(
     rt: &R,
     lock: &TicketLock<Book>,
