@@ -1,5 +1,6 @@
 pub mod DeviceLemmas
 pub mod EarlyRefusals
+pub mod EmissionTurns
 pub mod Standing
 pub mod Stepping
 pub mod PartSessions

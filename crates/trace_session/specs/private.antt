@@ -1,3 +1,4 @@
 -- Words of private functions and of proofs: no public clause cites them.
+pub mod AnswersTold
 pub mod HeardItems
 pub mod StepFronts

@@ -23,7 +23,7 @@ ghost use Rattle.trace_workers.specs.Gates.{LetsAllPass, StopsOne};
 
 use crate::device::Sink;
 use crate::environment::Environment;
-use crate::line::{ask_emission_line, ask_line};
+use crate::line::{ask_emission_line, ask_line, outcome_of};
 use crate::part_run::run_part;
 use crate::replies::Replies;
 use crate::status::Status;
@@ -38,24 +38,24 @@ use std::sync::Wait;
 use std::thread;
 use ticket_lock::Pass;
 use trace_book::Book;
-use trace_command::Reply;
+use trace_command::{Refusal, Reply};
 use trace_format::BorrowedPair;
 use trace_script::Outcome;
 use trace_workers::Gate;
 
 /// Whether a command was done and has nothing to show, and the writer hears nothing.
 #[inline(always)]
-fn is_silent<W: Sink>(outcome: &Option<Outcome>, writer: &W) -> bool
-    ensures done { result ≡ true → outcome.now ≡ Some (Outcome.Replied Reply.Done) }
+fn is_silent<W: Sink>(answer: &Result<Reply, Refusal>, writer: &W) -> bool
+    ensures done { result ≡ true → answer.now ≡ Ok Reply.Done }
     ensures unheard { result ≡ true → W.heard writer.now ≡ None }
 {
-    matches!(outcome, Some(Outcome::Replied(Reply::Done))) && !writer.hears()
+    matches!(answer, Ok(Reply::Done)) && !writer.hears()
 }
 
 /// Runs an emission whose words lie in its line, and writes its output. One that is done prints nothing, so that only a writer that hears is told
 /// of it. It is inlined, so that neither its words nor its answer are moved.
 #[inline(always)]
-#[tactic(auto, using(crate::proofs::Stepping::done_unheard, crate::proofs::Stepping::no_fault, crate::proofs::Stepping::untold_flushed))]
+#[tactic(auto, using(crate::proofs::Stepping::done_unheard, crate::proofs::Stepping::no_fault, crate::proofs::Stepping::untold_flushed, crate::proofs::EmissionTurns::told_faultless))]
 pub(crate) fn do_emission<R: Wait, W: Sink, G>(
     env: &Environment<'_, R, G>,
     pass: Pass<Book>,
@@ -88,17 +88,15 @@ pub(crate) fn do_emission<R: Wait, W: Sink, G>(
     ensures heard { (g : Config) → IsSessionPass g (view_of pass) → OnOk result.1 (Hears (W.heard writer.old) (W.heard writer.new)
         (heard_of number plain.now.line.now (turn_of g (progress_of (view_of pass)) plain.now.line.now).outcome (W.contents writer.new) ∷ [])) }
 {
-    let (pass, asked) = ask_emission_line(env.rt, env.lock, pass, plain.head, pairs);
-    match asked {
-        Ok(outcome) => {
-            if is_silent(&outcome, writer) {
-                return (pass, Ok(Status::Done));
-            }
-            (
-                pass,
-                give(env.alloc, number, plain.line, &outcome, replies, writer),
-            )
-        }
+    let (pass, answer) = ask_emission_line(env.rt, env.lock, pass, plain.head, pairs);
+    if is_silent(&answer, writer) {
+        return (pass, Ok(Status::Done));
+    }
+    match outcome_of(answer) {
+        Ok(outcome) => (
+            pass,
+            give(env.alloc, number, plain.line, &outcome, replies, writer),
+        ),
         Err(stop) => (pass, Err(stop)),
     }
 }
