@@ -240,7 +240,7 @@ pub record AreReached (emission : Emission) (hists : List AttachedHist) (i : ℕ
   pub few : (k : ℕ) (d : AttachedHist) → k < length hists
       → IfSome (table_numbered (get_or hists k d).table now) (λ (hist : Seen). counted hist + 4 ≤ most_rows + i)
 
-nothing-counted : (number : ℕ) (emission : Emission) (paused : Bool) → rows_counted number paused [] emission ≡ []
+pub nothing-counted : (number : ℕ) (emission : Emission) (paused : Bool) → rows_counted number paused [] emission ≡ []
 nothing-counted number emission true = refl
 nothing-counted number emission false = refl
 

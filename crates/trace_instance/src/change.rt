@@ -110,8 +110,8 @@ pub struct Reach {
     pub fires: bool,
 }
 
-/// A prepared emission: the index of its event; its row, with CPU and process; in each instance, in their order, what it does and which hist triggers'
-/// filters it passes; and its record, which is one only if an instance records it.
+/// A prepared emission: the index of its event; its row, with CPU and process; whether it may do anything at all; in each instance, in their order,
+/// what it does and which hist triggers' filters it passes; and its record, which is one only if an instance records it.
 ///
 /// A tracer keeps one for all its emissions, whose row and record are made anew in the memory of those before.
 #[derive(Drop)]
@@ -120,6 +120,7 @@ pub struct Delivery {
     pub row: Row,
     pub cpu: u32,
     pub pid: i32,
+    pub wanted: bool,
     pub reaches: [Reach; INSTANCES],
     pub passed: [Passed; INSTANCES],
     pub record: Vec<u8>,
@@ -137,6 +138,7 @@ impl Delivery {
             row: Row::new(alloc),
             cpu: 0,
             pid: 0,
+            wanted: false,
             reaches: [nothing; INSTANCES],
             passed: [[false; MOST_TRIGGERS]; INSTANCES],
             record: Vec::new(alloc),

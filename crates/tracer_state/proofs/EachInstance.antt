@@ -80,6 +80,19 @@ pub none_more : (each : List Reach) (i : ℕ) (reach : Reach) (some : Bool) → 
 none_more each i reach true inside before none = absurd (cc)
 none_more each i reach false inside before none = reached_more no_reach (λ k r. r.records ≡ false) each i reach inside none (before refl)
 
+pub neither : (a b : Bool) → (a || b) ≡ false → (a ≡ false) × (b ≡ false)
+neither true b is = absurd (cc)
+neither false b is = (refl, is)
+
+-- no trigger acts, and one more thing holds, also of one more
+pub quiet_more : (Q : ℕ → Type 0) (each : List Reach) (i : ℕ) (reach : Reach) (some has : Bool) → i < length each → (has ≡ false → Q i)
+    → (some ≡ false → (k : ℕ) → k < i → ((get_or each k no_reach).fires ≡ false) × Q k)
+    → (some || (reach.fires || has)) ≡ false → (k : ℕ) → k < i + 1 → ((get_or (set each i reach) k no_reach).fires ≡ false) × Q k
+quiet_more Q each i reach true has inside here before none = absurd (cc)
+quiet_more Q each i reach false has inside here before none =
+    let off = neither reach.fires has none in
+    reached_more no_reach (λ k r. (r.fires ≡ false) × Q k) each i reach inside (off.0, here off.1) (before refl)
+
 -- ---- names
 
 -- lists of instances that have the same names at each index

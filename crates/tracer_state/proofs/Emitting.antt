@@ -26,7 +26,7 @@ use Rattle.trace_instance.specs.Instances.{InstanceSeen, InstanceStandsFor, IsAl
 use Rattle.trace_instance.specs.Rows.{fires, kept_acts, kept_holds, records}
 use Rattle.trace_instance.specs.KeptHists.{passed}
 use Rattle.trace_instance.specs.declared.hists.AttachedHist.{AttachedHist}
-use Rattle.tracer_state.specs.States.{AllReached, ArePassed, CanEmit, EachCame, IsEmission, IsPreparedEmission, IsUsable, StandsFor, reach_at, IsStateAlike}
+use Rattle.tracer_state.specs.States.{AllReached, ArePassed, CanEmit, EachCame, IsEmission, IsPreparedEmission, IsUsable, StandsFor, reach_at, StaysUnlessWanted, IsStateAlike}
 use Rattle.trace_instance.specs.Deliveries as deliveries
 use Rattle.trace_instance.specs.Deliveries.{CanCountRow, IsWritable}
 use Rattle.tracer_state.specs.private.Emissions.{AreReached, HasEventAt, IsAhead, IsReserved}
@@ -213,18 +213,29 @@ passed-still old new emission event known alike are k d inside =
     let same = ap (λ (i : InstanceSeen). i.hists) (alike.instances.came k d within).rest in
     are k d within ∙ ap (λ (hists : List (List AttachedHist)). passed emission (get_or hists event [])) (sym same)
 
+-- where it does nothing, it does nothing still
+pub idle-still : (old new : State) (d : Delivery) → IsStateAlike old new → AllReached (StaysUnlessWanted d) d.reaches old.instances.items
+    → AllReached (StaysUnlessWanted d) d.reaches new.instances.items
+idle-still old new d alike idle k n inside off =
+    let within : k < length old.instances.items = omega (arith, inside, alike.instances.many) in
+    let same = ap (λ (i : InstanceSeen). i.hists) (alike.instances.came k n within).rest in
+    let nothing = idle k n within off in
+    (nothing.0, nothing.1, ap (λ (hists : List (List AttachedHist)). get_or hists d.event []) same ∙ nothing.2)
+
 -- and so all is there for the emission
 pub ready-emission : (g : Config) (old new : State) (past : List Request) (request : Request) (d : Delivery) (recorded : Bool) → StandsFor g new past
     → IsEmission g past request new.instances.items d → IsStateAlike old new → d.cpu < g.cpus
     → AreReached d.event d.row d.cpu d.pid d.reaches recorded old.instances.items → IsAhead old.clock d.event d.row d.pid recorded d.record.items
-    → (recorded ≡ true → length d.record.items ≤ g.page_bytes) → ArePassed (deliveries.row_of d) d.event d.passed old.instances.items
+    → (recorded ≡ true → length d.record.items ≤ g.page_bytes) → AllReached (StaysUnlessWanted d) d.reaches old.instances.items
+    → ArePassed (deliveries.row_of d) d.event d.passed old.instances.items
     → All (λ (n : Named). CanCountRow (deliveries.row_of d) d.event n.instance) new.instances.items → CanEmit new d
-ready-emission g old new past request d recorded stands emission alike inside are ahead short passed counted = (
+ready-emission g old new past request d recorded stands emission alike inside are ahead short idle passed counted = (
   rw stands.events emission.index.inside,
   can-be-written g old new past d recorded stands alike inside are ahead short,
   λ k n within.
       can-fire g (get_or new.instances.items k n).name past emission.e d.event (reach_at d.reaches k) (get_or new.instances.items k n).instance
       (stands.each k n within) emission.index (emission.fires k n within),
+  idle-still old new d alike idle,
   passed-still old new (deliveries.row_of d) d.event d.passed alike passed,
   counted,
 )
@@ -263,7 +274,7 @@ prepared-emission g old new past name cpu pid pairs found row d usable stands al
       answers-emission g past name d.cpu pairs (numbered found) d.row within (named-found g old past name found stands named) exact,
       emission,
       ready-emission g old new past own d reserved.recorded (state_alike-stands g old new past alike stands) emission alike within reserved.reached
-          reserved.ahead short reserved.passed reserved.counted,
+          reserved.ahead short reserved.idle reserved.passed reserved.counted,
     )
   where
     own : Request

@@ -1,6 +1,7 @@
 pub mod RecordBytes
 pub mod EachInstance
 pub mod ReservedEach
+pub mod Idle
 pub mod Stands
 pub mod Usable
 pub mod Alike

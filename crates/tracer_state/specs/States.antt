@@ -86,6 +86,10 @@ reach_at reaches k = slice_index_or reaches k no_reach
 abbrev pub AllReached : (Reach → InstanceSeen → Type 0) → List Reach → List Named → Type 0
 AllReached R reaches instances = (k : ℕ) (n : Named) → k < length instances → R (reach_at reaches k) (slice_index_or instances k n).instance
 
+-- an emission does nothing in an instance, unless some instance is said to want it
+abbrev pub StaysUnlessWanted : Delivery → Reach → InstanceSeen → Type 0
+StaysUnlessWanted d reach i = d.wanted ≡ false → (reach.records ≡ false) × (reach.fires ≡ false) × (slice_index_or i.hists d.event [] ≡ [])
+
 -- each instance has its name still, and this came of it
 pub record EachCame (R : InstanceSeen → InstanceSeen → Type 0) (old new : List Named) : Type 0 where
   pub many : length new ≡ length old
@@ -230,6 +234,7 @@ abbrev pub CanEmit : State → Delivery → Type 0
 CanEmit state delivery =
     (delivery.event < length state.catalog) × AllReached (IsWritable delivery) delivery.reaches state.instances.items
     × AllReached CanFire delivery.reaches state.instances.items
+    × AllReached (StaysUnlessWanted delivery) delivery.reaches state.instances.items
     × ArePassed (row_of delivery) delivery.event delivery.passed state.instances.items
     × All (λ (n : Named). CanCountRow (row_of delivery) delivery.event n.instance) state.instances.items
 

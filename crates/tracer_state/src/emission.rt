@@ -1,16 +1,15 @@
 //! Emissions: a row is built once, each filter is evaluated once, and each table that counts the row has its memory reserved, before any instance is
 //! written to. All of it is kept in one `Delivery`, in the memory of the emissions before, so that most take no allocation.
 
-ghost use Rattle.std.specs.Prelude.{◌≡◌, ◌<◌, ◌≤◌, ◌^◌, true, List, [], length, All, slice_index_or, IfErr, OnOk, OnErr};
+ghost use Rattle.std.specs.Prelude.{◌≡◌, ◌<◌, ◌≤◌, true, false, List, [], length, All, slice_index_or, IfErr, OnOk, OnErr};
 ghost use Rattle.trace_command.specs.Configs.{IsInRange};
 ghost use Rattle.trace_command.specs.Refusals.{IsRefusal};
 ghost use Rattle.trace_command.specs.Requests as requests;
 ghost use Rattle.trace_command.specs.Requests.{Request, Emission};
-ghost use Rattle.trace_format.specs.Cells.{IsRowOf, payload_size_of, size_of_all};
+ghost use Rattle.trace_format.specs.Cells.{IsRowOf, record_size_of};
 ghost use Rattle.trace_format.specs.declared.pair.Pair.{Pair as PairSeen};
 ghost use Rattle.trace_history.specs.History.{answer_with_room, emission_answer};
 ghost use Rattle.trace_history.specs.Settings.{declared_events};
-ghost use Rattle.trace_record.specs.Record.{record_size};
 ghost use Rattle.tracer_state.specs.private.Emissions as emissions;
 ghost use Rattle.tracer_state.specs.ValueEmissions.{values_emission};
 ghost use Rattle.trace_instance.specs.Instances.{IsAlike};
@@ -23,12 +22,12 @@ use crate::row::record;
 use crate::state::{Named, State};
 use std::alloc::{AllocError, Global};
 use trace_command::{Config, Refusal};
-use trace_format::{BorrowedPair, EventDef, FieldValue, Row, payload_size};
+use trace_format::{BorrowedPair, FieldValue, Row, payload_size};
 use trace_instance::{Delivery, INSTANCES, MOST_TRIGGERS, Passed, Reach};
 
 impl State {
-    /// Prepares an emission, in this order: its CPU, its event, its row, what it does in each instance, the memory of its hist triggers, and its
-    /// record, if an instance records it. A refused one leaves a delivery that means nothing.
+    /// Prepares an emission, in this order: its CPU, its event, its row, what it does in each instance, its record, if an instance
+    /// records it, and the memory of its hist triggers. A refused one leaves a delivery that means nothing.
     #[tactic(auto, unfolding(trace_history::specs::History::emission_answer))]
     pub fn prepare_emission(
         &mut self,
@@ -61,6 +60,7 @@ impl State {
     }
 
     /// Likewise, for the event with this number, from 1, and values of its fields in order of declaration.
+    #[inline(always)]
     pub fn prepare_values(
         &mut self,
         alloc: Global,
@@ -110,8 +110,8 @@ impl State {
     }
 }
 
-// Prepares the emission of an event that was found, whose row the delivery has, in this order: what it does in each instance, the memory of its hist
-// triggers, and its record.
+// Prepares the emission of an event that was found, whose row the delivery has, in this order: what it does in each instance, its record, and the memory
+// of its hist triggers.
 #[inline(always)]
 fn prepare_row(
     instances: &mut [Named],
@@ -137,46 +137,63 @@ fn prepare_row(
     delivery.cpu = cpu;
     delivery.pid = pid;
     let row = &delivery.row;
-    let recorded = reach_each(instances, index, row, cpu, pid, &mut delivery.reaches);
-    let size = size_if(recorded, found.event);
-    reserve_each(instances, index, row, cpu, pid, &mut delivery.passed)?;
-    write_ahead(clock, recorded, index, pid, size, row, &mut delivery.record)?;
+    let reached = reach_each(instances, index, row, cpu, pid, &mut delivery.reaches);
+    delivery.wanted = reached.recorded | reached.triggered;
+    write_ahead(
+        clock,
+        reached.recorded,
+        found,
+        pid,
+        row,
+        &mut delivery.record,
+    )?;
+    reserve_if(
+        reached.triggered,
+        instances,
+        index,
+        row,
+        cpu,
+        pid,
+        &mut delivery.passed,
+    )?;
     Ok(())
 }
 
-// How many bytes the payload of an event takes, where its record is to be made.
-fn size_if(recorded: bool, event: &EventDef) -> usize
-    requires { length event.now.fields ≤ 16 }
-    ensures size { recorded ≡ true → result ≡ payload_size_of event.now }
-    ensures small { result < 2 ^ 12 }
-{
-    if recorded { payload_size(event) } else { 0 }
-}
-
-// Makes the record of an emission of the event at this index, if some instance records it.
+// Makes the record of an emission of an event that was found, if some instance records it.
+#[inline(always)]
 fn write_ahead(
     clock: u64,
     recorded: bool,
-    index: usize,
+    found: Found<'_>,
     pid: i32,
-    size: usize,
     row: &Row,
     bytes: &mut Vec<u8>,
 ) -> Result<(), AllocError>
     requires early { clock ≤ most_requests }
-    requires index { index < 64 }
-    requires size { recorded ≡ true → size ≡ size_of_all row.now.kinds }
-    requires small { size < 2 ^ 12 }
-    ensures ahead { OnOk result (emissions.IsAhead clock index row.now pid recorded bytes.new.items) }
-    ensures length { OnOk result (recorded ≡ true → length bytes.new.items ≡ record_size size) }
+    requires index { found.index < 64 }
+    requires fields { length found.event.now.fields ≤ 16 }
+    requires row { IsRowOf found.event.now row.now }
+    ensures ahead { OnOk result (emissions.IsAhead clock found.entry.index row.now pid recorded bytes.new.items) }
+    ensures length { OnOk result (recorded ≡ true → length bytes.new.items ≡ record_size_of found.entry.event.now) }
 {
     if !recorded {
         return Ok(());
     }
-    record(clock + 1, pid, index as u16 + 1, size, row, bytes)
+    let size = payload_size(found.event);
+    record(clock + 1, pid, found.index as u16 + 1, size, row, bytes)
 }
 
-// What an emission of the event at this index does in each instance, apart from hist triggers. Whether any instance records it.
+// What an emission does in any instance.
+#[derive(Clone, Copy)]
+struct Reached {
+    // Whether some instance records it.
+    recorded: bool,
+    // Whether some instance has a snapshot trigger that acts, or hist triggers of its event.
+    triggered: bool,
+}
+
+// What an emission of the event at this index does in each instance, apart from hist triggers, and what it does in any.
+#[inline(always)]
 fn reach_each(
     instances: &[Named],
     event: usize,
@@ -184,24 +201,59 @@ fn reach_each(
     cpu: u32,
     pid: i32,
     reaches: &mut [Reach; INSTANCES],
-) -> bool
+) -> Reached
     requires few { length instances.now ≤ 8 }
     requires enabled { All (λ n. event < length n.instance.enabled) instances.now }
     requires filters { All (λ n. event < length n.instance.filters) instances.now }
     requires triggers { All (λ n. event < length n.instance.triggers) instances.now }
-    ensures { emissions.AreReached event row.now cpu pid reaches.new result instances.now }
+    requires hists { All (λ n. event < length n.instance.hists) instances.now }
+    ensures reached { emissions.AreReached event row.now cpu pid reaches.new result.recorded instances.now }
+    ensures quiet { emissions.AreQuiet event reaches.new result.triggered instances.now }
 {
     let mut recorded = false;
+    let mut triggered = false;
     for i in 0..instances.len() {
         let reach = instances[i].instance.reach(event, row, cpu, pid);
+        let has_hists = instances[i].instance.has_hists(event);
         reaches[i] = reach;
         recorded |= reach.records;
+        triggered |= reach.fires | has_hists;
     }
-    recorded
+    Reached {
+        recorded,
+        triggered,
+    }
+}
+
+// As `reserve_each`, if some instance may have hist triggers of the event.
+#[inline(always)]
+fn reserve_if(
+    triggered: bool,
+    instances: &mut [Named],
+    event: usize,
+    row: &Row,
+    cpu: u32,
+    pid: i32,
+    passed: &mut [Passed; INSTANCES],
+) -> Result<(), AllocError>
+    requires none { triggered ≡ false → All (λ n. slice_index_or n.instance.hists event [] ≡ []) instances.old }
+    requires few { length instances.old ≤ 8 }
+    requires event { All (λ n. event < length n.instance.hists) instances.old }
+    requires agree { All (λ n. KeysAgree (slice_index_or n.instance.hists event [])) instances.old }
+    ensures alike { EachCame IsAlike instances.old instances.new }
+    ensures passed { OnOk result (ArePassed (record { values = row.now.values; cpu = cpu; pid = pid }) event passed.new instances.old) }
+    ensures counted { OnOk result (All (λ n. CanCountRow (record { values = row.now.values; cpu = cpu; pid = pid }) event n.instance) instances.new) }
+{
+    if triggered {
+        return reserve_each(instances, event, row, cpu, pid, passed);
+    }
+    *passed = [[false; MOST_TRIGGERS]; INSTANCES];
+    Ok(())
 }
 
 // Evaluates the filters of the hist triggers of the event at this index for a row, in each instance, and reserves memory to count it for those that
 // it passes.
+#[inline(always)]
 fn reserve_each(
     instances: &mut [Named],
     event: usize,

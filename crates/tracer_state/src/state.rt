@@ -123,6 +123,7 @@ impl State {
     }
 
     /// Delivers an emission to all instances. Allocates nothing.
+    #[inline(always)]
     pub fn deliver(&mut self, config: &Config, delivery: &Delivery)
         requires usable { states.IsUsable config.now self.old }
         requires ready { states.CanEmit self.old delivery.now }
@@ -132,7 +133,9 @@ impl State {
         ensures { states.IsEmitted self.old self.new delivery.now }
     {
         self.clock += 1;
-        deliver_each(&mut self.instances, delivery);
+        if delivery.wanted {
+            deliver_each(&mut self.instances, delivery);
+        }
     }
 }
 

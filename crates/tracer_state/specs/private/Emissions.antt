@@ -8,7 +8,7 @@ use Rattle.trace_instance.specs.Deliveries.{CanCountRow, row_of}
 use Rattle.trace_instance.specs.Instances.{InstanceSeen}
 use Rattle.trace_instance.specs.KeptHists.{KeysAgree}
 use Rattle.trace_instance.specs.Rows.{reach_of}
-use Rattle.tracer_state.specs.States.{AllReached, ArePassed}
+use Rattle.tracer_state.specs.States.{AllReached, ArePassed, StaysUnlessWanted}
 use Rattle.trace_instance.specs.declared.change.Delivery.{Delivery}
 use Rattle.trace_instance.specs.declared.change.Reach.{Reach}
 use Rattle.tracer_state.specs.declared.state.Named.{Named}
@@ -26,6 +26,11 @@ pub record AreReached (event : ℕ) (row : Cells) (cpu : ℕ) (pid : ℤ) (reach
   pub each : AllReached (λ reach i. reach ≡ reach_of i event row cpu pid) reaches instances
   pub none : recorded ≡ false → AllReached (λ reach i. reach.records ≡ false) reaches instances
 
+-- if no instance's triggers are said to do anything, none fires, and the event has no hist triggers in any
+abbrev pub AreQuiet : ℕ → List Reach → Bool → List Named → Type 0
+AreQuiet event reaches triggered instances =
+    triggered ≡ false → AllReached (λ reach i. (reach.fires ≡ false) × (slice_index_or i.hists event [] ≡ [])) reaches instances
+
 -- what was written ahead is the emission's record, if some instance records it
 pub record IsAhead (clock event : ℕ) (row : Cells) (pid : ℤ) (recorded : Bool) (bytes : List ℕ) : Type 0 where
   pub is : recorded ≡ true → bytes ≡ record_bytes (clock + 1) pid (event + 1) row
@@ -36,6 +41,7 @@ pub record IsAhead (clock event : ℕ) (row : Cells) (pid : ℤ) (recorded : Boo
 pub record IsReserved (clock : ℕ) (event : Definition) (old new : List Named) (d : Delivery) : Type 0 where
   pub recorded : Bool
   pub reached : AreReached d.event d.row d.cpu d.pid d.reaches recorded old
+  pub idle : AllReached (StaysUnlessWanted d) d.reaches old
   pub ahead : IsAhead clock d.event d.row d.pid recorded d.record.items
   pub sized : recorded ≡ true → length d.record.items ≡ record_size_of event
   pub passed : ArePassed (row_of d) d.event d.passed old
