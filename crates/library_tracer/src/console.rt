@@ -103,6 +103,7 @@ impl Console {
     }
 
     /// Does an emission of values, as `ask` does a command.
+    #[inline(always)]
     fn ask_values(&mut self, event: u32, cpu: u32, pid: i32, values: &[FieldValue<'_>])
         ensures { ComesTo (after_values event cpu pid values.now) self.old self.new }
     {
@@ -113,6 +114,7 @@ impl Console {
     }
 
     /// Keeps an answer.
+    #[inline(always)]
     fn keep(&mut self, answer: Result<Reply, Refusal>)
         ensures { self.new ≡ record self.old { last = outcome_of answer } }
     {

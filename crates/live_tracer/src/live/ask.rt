@@ -117,6 +117,7 @@ impl Live {
     }
 
     /// As `ask_within`, for the same.
+    #[inline(always)]
     pub fn ask_values_within(
         &mut self,
         limit: u64,
