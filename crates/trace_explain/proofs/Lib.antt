@@ -1,4 +1,3 @@
-pub mod ByteSetLemmas
 pub mod CaretLemmas
 pub mod HistLemmas
 pub mod LayoutLemmas

@@ -1,32 +1,38 @@
 -- Which byte of a script's line is a byte of what it writes.
-use Rattle.std.specs.Prelude.{ℕ, ◌+◌, ◌||◌, ◌==◌, if◌then◌else◌, List, [], ◌∷◌, ◌++◌, drop, slice_get, Option}
+use Rattle.std.specs.Prelude.{ℕ, ◌+◌, Bool, false, not, ◌||◌, ◌==◌, if◌then◌else◌, List, [], ◌∷◌, ◌++◌, drop, slice_get, Option}
 use Rattle.trace_lex.specs.Blanks.{is_blank}
 use Rattle.trace_script.specs.Tokens.{is_end, is_quote}
 use Rattle.trace_explain.specs.declared.caret.Stand.{Stand}
 use Rattle.trace_explain.specs.declared.caret.Stand.TheVariants.{Between, InWord, InQuotes}
 
--- where a byte outside quotes leads
-abbrev pub stand_after : ℕ → Stand
-stand_after b = if is_end b then Between else (if is_quote b then InQuotes b else InWord)
+-- where a byte leads
+abbrev pub next_stand : Stand → ℕ → Stand
+next_stand (InQuotes quote) b = if b == quote then InWord else InQuotes quote
+next_stand _ b = if is_end b then Between else (if is_quote b then InQuotes b else InWord)
 
--- a word that goes on with it ends after it
-abbrev pub end_after : ℕ → ℕ → ℕ → ℕ
-end_after end at b = if is_end b then end else at + 1
+-- where a word that is open then ends, if it goes on with it; it ended at `end` so far, and the byte stands at `at`
+abbrev pub next_end : Stand → ℕ → ℕ → ℕ → ℕ
+next_end (InQuotes quote) end at b = if b == quote then end else at + 1
+next_end _ end at b = if is_end b then end else at + 1
 
--- a byte outside quotes has an offset, if it is neither a blank nor a quote
-abbrev pub offset_of_byte : ℕ → ℕ → List ℕ
-offset_of_byte at b = if is_blank b || is_quote b then [] else at ∷ []
+-- a word is open and ends before it
+abbrev pub ends_at : Stand → ℕ → Bool
+ends_at InWord b = is_end b
+ends_at _ b = false
 
--- the offsets of the rest of a line, which begins at `at`; a word that is open ended at `end` so far
+-- it has an offset: in quotes each but the one that closes them, else each but blanks and quotes
+abbrev pub has_offset : Stand → ℕ → Bool
+has_offset (InQuotes quote) b = not (b == quote)
+has_offset _ b = not (is_blank b || is_quote b)
+
+abbrev pub one_if : Bool → ℕ → List ℕ
+one_if is_there at = if is_there then at ∷ [] else []
+
+-- the offsets of the rest of a line, which begins at `at`; a word that is open ended at `end` so far. The line's end is as a blank (32)
 abbrev pub offsets_from : Stand → ℕ → ℕ → List ℕ → List ℕ
-offsets_from Between end at [] = []
-offsets_from InWord end at [] = end ∷ []
-offsets_from (InQuotes quote) end at [] = []
-offsets_from Between end at (b ∷ bs) = offset_of_byte at b ++ offsets_from (stand_after b) (end_after end at b) (at + 1) bs
-offsets_from InWord end at (b ∷ bs) =
-    (if is_end b then end ∷ [] else []) ++ (offset_of_byte at b ++ offsets_from (stand_after b) (end_after end at b) (at + 1) bs)
-offsets_from (InQuotes quote) end at (b ∷ bs) =
-    if b == quote then offsets_from InWord end (at + 1) bs else at ∷ offsets_from (InQuotes quote) (at + 1) (at + 1) bs
+offsets_from stand end at [] = one_if (ends_at stand 32) end
+offsets_from stand end at (b ∷ bs) =
+    one_if (ends_at stand b) end ++ (one_if (has_offset stand b) at ++ offsets_from (next_stand stand b) (next_end stand end at b) (at + 1) bs)
 
 -- the offsets of a line: for each byte of each word where it stands, without the quotes around it, and after each word where the word ends;
 -- and where each `>` stands

@@ -1,5 +1,5 @@
 -- What a declaration may go on with, by the bytes before.
-use Rattle.std.specs.Prelude.{ℕ, Bool, ◌==◌, if◌then◌else◌, List, [], ◌∷◌, codes}
+use Rattle.std.specs.Prelude.{ℕ, not, ◌==◌, if◌then◌else◌, List, [], ◌∷◌, take, drop, codes}
 use Rattle.trace_lex.specs.Blanks.{is_blank}
 use Rattle.trace_lex.specs.Names.{is_name}
 use Rattle.trace_trigger.specs.TriggerTexts.{begins}
@@ -33,18 +33,13 @@ due_from due (b ∷ bs) = due_from (due_after due b) bs
 
 -- ---- words
 
-abbrev pub is_reserved : List ℕ → Bool
-is_reserved word = is_one_of word (codes "hitcount" ∷ codes "common_pid" ∷ codes "common_cpu" ∷ [])
-
--- a name that no further field can have
-abbrev pub taken_words : List ℕ → List ℕ
-taken_words word = if is_reserved word then codes "this name is reserved" else codes "a field has this name already"
-
 -- where the name of a field that is no string is due, and this word stands there
 abbrev pub field_words : List ℕ → List ℕ
 field_words word =
     if ends_with 44 word then codes "expected a field's name, and `;` in place of `,`"
-    else (if is_name word then taken_words word else codes "expected a field's name")
+    else (if not (is_name word) then codes "expected a field's name"
+    else (if is_one_of word (codes "hitcount" ∷ codes "common_pid" ∷ codes "common_cpu" ∷ []) then codes "this name is reserved"
+    else codes "a field has this name already"))
 
 -- where a type is due, and these bytes follow
 abbrev pub type_words : List ℕ → List ℕ
@@ -64,3 +59,7 @@ declaration_due_words CharField rest = codes "expected a new field's name and it
 declaration_due_words FieldName rest = codes "expected `;`"
 declaration_due_words Joint rest = codes "expected `;`"
 declaration_due_words _ rest = field_words (part_before 59 rest)
+
+-- where it is wrong at this offset
+abbrev pub declaration_words : List ℕ → ℕ → List ℕ
+declaration_words text at = declaration_due_words (due_from Event (take at text)) (drop at text)

@@ -1,6 +1,7 @@
 -- What a filter may go on with, by the bytes before.
 use Rattle.std.specs.Prelude.{ℕ, Bool, true, false, not, ◌||◌, ◌&&◌, ◌==◌, if◌then◌else◌, List, [], ◌∷◌, codes}
-use Rattle.trace_explain.specs.Bytes.{has_byte}
+use Rattle.std.specs.List.{list_any}
+use Rattle.trace_explain.specs.Bytes.{is_same_byte}
 use Rattle.trace_lex.specs.Blanks.{is_blank}
 use Rattle.trace_lex.specs.Decimals.{is_digit}
 use Rattle.trace_lex.specs.Names.{is_name_byte}
@@ -56,7 +57,7 @@ due_from due (b ∷ bs) = due_from (due_after due b) bs
 abbrev pub value_words : List ℕ → List ℕ
 value_words [] = codes "expected a value"
 value_words (b ∷ bs) =
-    if is_quote b && has_byte b bs then codes "expected a number, without quotes"
+    if is_quote b && list_any (is_same_byte b) bs then codes "expected a number, without quotes"
     else (if is_quote b then codes "this quote is not closed"
     else (if (b == 40 || b == 41) || (b == 38 || b == 124) then codes "expected a value"
     else (if is_digit b then codes "expected a number of 64 bits, as `10`, `0xa` or octal `012`"
@@ -67,7 +68,7 @@ abbrev pub joint_words : Bool → List ℕ → List ℕ
 joint_words is_signs [] = codes "expected `)`"
 joint_words is_signs (b ∷ bs) =
     if b == 41 then codes "no `(` is open before this `)`"
-    else (if (is_signs && not (b == 38)) && not (b == 124) then codes "expected one operator before this value" else codes "expected `&&` or `||`")
+    else (if (b == 38 || b == 124) || not is_signs then codes "expected `&&` or `||`" else codes "expected one operator before this value")
 
 -- where a filter is wrong: it stands so, and these bytes follow
 abbrev pub filter_due_words : FilterDue → List ℕ → List ℕ

@@ -10,10 +10,6 @@ use Rattle.trace_explain.specs.Bytes.{has_blank, is_one_of, part_before}
 abbrev pub last_part : List ℕ → List ℕ
 last_part front = drop (length front - prefix_len (is_not 58) (reverse front)) front
 
--- the attribute that some bytes begin with
-abbrev pub first_part : List ℕ → List ℕ
-first_part rest = part_before 58 rest
-
 abbrev pub is_byte : ℕ → Option ℕ → Bool
 is_byte byte None = false
 is_byte byte (Some b) = b == byte
@@ -31,13 +27,16 @@ is_values part = begins (codes "values=") part || (begins (codes "vals=") part |
 abbrev pub is_action : List ℕ → Bool
 is_action part = is_one_of part (codes "pause" ∷ codes "continue" ∷ codes "cont" ∷ codes "clear" ∷ [])
 
+-- an attribute with a list or a name
+abbrev pub is_list : List ℕ → Bool
+is_list part = is_keys part || (is_values part || (begins (codes "sort=") part || begins (codes "name=") part))
+
 -- what is wrong with this attribute
 unfoldable pub attribute_words : List ℕ → List ℕ
 attribute_words part =
     if begins (codes "size=") part then codes "expected one `size=` and its digits"
     else (if is_action part then codes "there is an action already"
-    else (if (is_keys part || is_values part) || (begins (codes "sort=") part || begins (codes "name=") part) then codes "this attribute is there already"
-    else codes "expected an attribute, as `keys=`"))
+    else (if is_list part then codes "this attribute is there already" else codes "expected an attribute, as `keys=`"))
 
 -- what is wrong after this beginning of an attribute, where an item is due, or another one
 unfoldable pub item_words : Bool → List ℕ → List ℕ
@@ -51,12 +50,12 @@ item_words is_more part =
     else (if begins (codes "sort=") part then codes "expected `hitcount`, a key or a value, alone or with `.ascending` or `.descending`"
     else codes "expected a table's name")))))
 
--- after these bytes, the last of which are of this attribute, and before these
+-- after these bytes of an attribute, if any, and before these
 abbrev pub part_words : List ℕ → List ℕ → List ℕ
-part_words [] rest = attribute_words (first_part rest)
-part_words (b ∷ bs) rest =
-    if ends_with 44 (b ∷ bs) then item_words true (b ∷ bs)
-    else (if ends_with 61 (b ∷ bs) then item_words false (b ∷ bs) else codes "expected `:keys=` and a field")
+part_words part rest =
+    if length part == 0 then attribute_words (part_before 58 rest)
+    else (if ends_with 44 part then item_words true part
+    else (if ends_with 61 part then item_words false part else codes "expected `:keys=` and a field"))
 
 -- where a hist trigger is wrong: after these bytes, and before these
 abbrev pub hist_due_words : List ℕ → List ℕ → List ℕ
@@ -90,12 +89,12 @@ others_after item (b ∷ bs) = if b == 44 && begins_other item bs then others_af
 
 -- how many a list has
 abbrev pub others_among : List ℕ → List ℕ → ℕ
-others_among item list = if begins_other item list then others_after item list + 1 else others_after item list
+others_among item list = (if begins_other item list then 1 else 0) + others_after item list
 
 -- how many an attribute has; 0, if it is not there
 abbrev pub others_in : Option ℕ → List ℕ → List ℕ → List ℕ → ℕ
 others_in None attribute item text = 0
-others_in (Some at) attribute item text = others_among item (first_part (drop (length attribute) (drop at text)))
+others_in (Some at) attribute item text = others_among item (part_before 58 (drop (length attribute) (drop at text)))
 
 abbrev pub others_of : List ℕ → List ℕ → List ℕ → ℕ
 others_of attribute item text = others_in (attribute_at attribute text) attribute item text

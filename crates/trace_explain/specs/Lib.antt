@@ -10,4 +10,3 @@ pub mod Places
 pub mod Layout
 pub mod Explanations
 pub mod Writes
-pub mod private

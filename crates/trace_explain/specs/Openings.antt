@@ -2,16 +2,14 @@
 use Rattle.std.specs.Prelude.{ℕ, ◌-◌, Bool, nat_lt, ◌||◌, ◌==◌, if◌then◌else◌, List, [], ◌∷◌, ◌++◌, length, take, reverse}
 use Rattle.std.specs.List.{prefix_len}
 use Rattle.trace_lex.specs.Blanks.{is_blank}
+use Rattle.trace_lex.specs.Prefixes.{is_not}
 use Rattle.trace_explain.specs.FilterDue.{due_after}
 use Rattle.trace_explain.specs.declared.filter_due.FilterDue.{FilterDue}
 use Rattle.trace_explain.specs.declared.filter_due.FilterDue.TheVariants.{Operand, Signs, Bare, Signed, Joint}
 
-abbrev pub is_bang : ℕ → Bool
-is_bang b = b == 33
-
--- of the `!` and `(` that are open, innermost last, those without the `!` at the end: what these negate begins, or has ended
+-- of the `!` and `(` that are open, innermost last, those up to the last `(` (40): what the `!` after it negate begins, or has ended
 abbrev pub without_bangs : List ℕ → List ℕ
-without_bangs opened = take (length opened - prefix_len is_bang (reverse opened)) opened
+without_bangs opened = take (length opened - prefix_len (is_not 40) (reverse opened)) opened
 
 -- without the innermost `(` and the `!` before it
 abbrev pub without_group : List ℕ → List ℕ

@@ -1,12 +1,13 @@
 -- Which byte of what is written is to blame for a refusal.
 use Rattle.std.specs.Prelude.{ℕ, ◌+◌, List, Option, Some, None, codes}
 use Rattle.std.specs.List.{prefix_len}
+use Rattle.std.specs.Option.{option_or}
 use Rattle.trace_lex.specs.Blanks.{is_blank}
 use Rattle.trace_trigger.specs.TriggerTexts.{word_of}
 use Rattle.trace_command.specs.declared.refusal.Refusal.{Refusal}
 use Rattle.trace_command.specs.declared.refusal.Refusal.TheVariants.{BadValue, EventExists, BadDefinition, TooBig, FilterSyntax, NoSuchField, WrongOperator, HistSyntax, BadSize, TriggerExists, NoSuchTrigger, TooMany, Busy}
 use Rattle.trace_explain.specs.HistDue.{attribute_at}
-use Rattle.trace_explain.specs.TriggerDue.{trigger_offset}
+use Rattle.trace_explain.specs.TriggerDue.{mark_len, trigger_due}
 use Rattle.trace_explain.specs.Wording.{subject_at}
 use Rattle.trace_explain.specs.declared.subject.Subject.{Subject}
 use Rattle.trace_explain.specs.declared.subject.Subject.TheVariants as subject
@@ -25,9 +26,9 @@ abbrev pub size_offset : Option ℕ → Option ℕ
 size_offset None = None
 size_offset (Some at) = Some (at + 1)
 
--- what is no value for its file: of a trigger what is wrong in it, else the first byte
+-- what is no value for its file: of a trigger what is wrong in it, where offsets count from after its `!`; else the first byte
 abbrev pub value_offset : Subject → List ℕ → ℕ
-value_offset subject.Trigger text = trigger_offset text
+value_offset subject.Trigger text = mark_len text + (trigger_due text).0
 value_offset _ text = prefix_len is_blank text
 
 -- by a refusal that names none
@@ -43,9 +44,5 @@ other_offset subject text Busy = Some (prefix_len is_blank text)
 other_offset subject text _ = None
 
 -- the byte that is to blame of this text, if one is, where it was to be written to the file of this path
-abbrev pub offset_or : Option ℕ → Option ℕ → Option ℕ
-offset_or None other = other
-offset_or (Some at) other = Some at
-
 abbrev pub blamed_offset : List ℕ → List ℕ → Refusal → Option ℕ
-blamed_offset path text refusal = offset_or (named_offset refusal) (other_offset (subject_at path) text refusal)
+blamed_offset path text refusal = option_or (named_offset refusal) (other_offset (subject_at path) text refusal)

@@ -1,5 +1,5 @@
 -- What is wrong, in words.
-use Rattle.std.specs.Prelude.{ℕ, ◌+◌, Bool, nat_lt, ◌||◌, ◌==◌, if◌then◌else◌, List, [], ◌∷◌, length, take, drop, codes, Option, Some}
+use Rattle.std.specs.Prelude.{ℕ, ◌+◌, Bool, true, false, not, nat_lt, ◌&&◌, ◌||◌, if◌then◌else◌, List, length, take, drop, codes, Option, Some}
 use Rattle.std.specs.List.{count_by, prefix_len}
 use Rattle.std.specs.Option.{is_some}
 use Rattle.trace_lex.specs.Blanks.{is_blank, trimmed, without_end}
@@ -14,13 +14,12 @@ use Rattle.trace_command.specs.declared.refusal.Refusal.{Refusal}
 use Rattle.trace_command.specs.declared.refusal.Refusal.TheVariants.{NoSuchFile, NotReadable, NotWritable, BadValue, NoSuchEvent, EventExists, BadDefinition, TooBig, FilterSyntax, NoSuchField, WrongOperator, HistSyntax, BadSize, TriggerExists, NoSuchTrigger, TooMany, InstanceExists, NoSuchInstance, Busy, NoSuchCpu, BadRow, HistoryFull, Memory, Worn}
 use Rattle.trace_explain.specs.Bytes.{has_blank, is_same_byte}
 use Rattle.trace_explain.specs.FilterDue.{due_from, filter_due_words}
-use Rattle.trace_explain.specs.DeclarationDue.{due_from as declared_from, declaration_due_words}
+use Rattle.trace_explain.specs.DeclarationDue.{declaration_words}
 use Rattle.trace_explain.specs.Openings.{is_deep}
-use Rattle.trace_explain.specs.TriggerDue.{trigger_due, trigger_due_words}
+use Rattle.trace_explain.specs.TriggerDue.{trigger_due}
 use Rattle.trace_explain.specs.HistDue.{ends_with, attribute_at, others_of, hist_due_words, field_words as hist_field_words}
 use Rattle.trace_explain.specs.declared.filter_due.FilterDue.{FilterDue}
 use Rattle.trace_explain.specs.declared.filter_due.FilterDue.TheVariants.{Operand}
-use Rattle.trace_explain.specs.declared.declaration_due.DeclarationDue.TheVariants.{Event}
 use Rattle.trace_explain.specs.declared.subject.Subject.{Subject}
 use Rattle.trace_explain.specs.declared.subject.Subject.TheVariants as subject
 
@@ -65,13 +64,8 @@ value_words subject.Read text = codes "only a pipe is read by `take`"
 value_words subject.Switch text = codes "expected `0` or `1`"
 value_words subject.Options text = codes "expected `overwrite` or `nooverwrite`"
 value_words subject.Number text = codes "expected a decimal number below 2^64"
-value_words subject.Trigger text = trigger_due_words (trigger_due text)
+value_words subject.Trigger text = (trigger_due text).1
 value_words _ text = codes "the file doesn't take what is written"
-
--- N5
-abbrev pub event_words : Subject → List ℕ
-event_words subject.AllFilters = codes "no event is declared"
-event_words _ = codes "no event of this name is declared"
 
 -- N9, N11: where the filter of a trigger begins: after the first word, `if` and the blanks between
 abbrev pub condition_start : List ℕ → ℕ
@@ -85,29 +79,15 @@ filter_start _ text = 0
 abbrev pub filter_due_at : Subject → List ℕ → ℕ → FilterDue
 filter_due_at subject text at = due_from Operand (drop (filter_start subject text) (take at text))
 
--- N9
-abbrev pub filter_words : Subject → List ℕ → ℕ → List ℕ
-filter_words subject text at = filter_due_words (filter_due_at subject text at) (drop at text)
-
 -- N11, in a filter
-abbrev pub operator_words : List ℕ → List ℕ
-operator_words [] = codes "a string takes no operator but `==`, `!=` and `~`"
-operator_words (b ∷ bs) = if b == 126 then codes "a number doesn't take `~`" else codes "a string takes no operator but `==`, `!=` and `~`"
+abbrev pub comparison_words : List ℕ → List ℕ
+comparison_words rest = if begins (codes "~") rest then codes "a number doesn't take `~`" else codes "a string takes no operator but `==`, `!=` and `~`"
 
 -- N11: the word of a hist trigger has no blank
-abbrev pub wrong_operator_words : Subject → List ℕ → ℕ → List ℕ
-wrong_operator_words subject.Trigger text at =
-    if has_blank (take at text) then operator_words (drop at text) else hist_field_words (take at text)
-wrong_operator_words _ text at = operator_words (drop at text)
-
--- N10: in the filter of all events none is named
-abbrev pub field_unknown_words : Subject → List ℕ
-field_unknown_words subject.AllFilters = codes "an event has no field of this name"
-field_unknown_words _ = codes "the event has no field of this name"
-
--- N7
-abbrev pub declaration_words : List ℕ → ℕ → List ℕ
-declaration_words text at = declaration_due_words (declared_from Event (take at text)) (drop at text)
+abbrev pub operator_words : Subject → List ℕ → ℕ → List ℕ
+operator_words subject.Trigger text at =
+    if not (has_blank (take at text)) then hist_field_words (take at text) else comparison_words (drop at text)
+operator_words _ text at = comparison_words (drop at text)
 
 -- N14
 abbrev pub exists_words : List ℕ → List ℕ
@@ -116,11 +96,6 @@ exists_words text =
     else (if is_some (attribute_at (codes ":name=") (first_word text)) then codes "expected a trigger that is new to the event and fits the table of its name"
     else codes "the event has this trigger already")
 
--- N15: one that goes on or is cleared is never there after `>`
-abbrev pub no_trigger_words : List ℕ → List ℕ
-no_trigger_words text =
-    if begins (codes "!") text then codes "the event has no such trigger" else codes "expected `>>` and a trigger that the event has"
-
 -- N16, of a declaration: its `;` say how many fields there are
 abbrev pub has_many_fields : List ℕ → Bool
 has_many_fields text = nat_lt (if ends_with 59 text then 16 else 15) (count_by (is_same_byte 59) text)
@@ -128,19 +103,15 @@ has_many_fields text = nat_lt (if ends_with 59 text then 16 else 15) (count_by (
 abbrev pub declaration_most_words : List ℕ → List ℕ
 declaration_most_words text = if has_many_fields (without_end text) then codes "an event has at most 16 fields" else codes "there are 64 events already"
 
--- N16, of a filter
-abbrev pub filter_most_words : List ℕ → List ℕ
-filter_most_words filter =
-    if nat_lt 1024 (length (trimmed filter)) then codes "a filter has at most 1,024 bytes" else codes "at most 16 `!` and `(` may be open"
+-- N16, of a filter, which is that of a trigger or not
+abbrev pub filter_most_words : Bool → List ℕ → List ℕ
+filter_most_words is_of_trigger filter =
+    if nat_lt 1024 (length (trimmed filter)) then codes "a filter has at most 1,024 bytes"
+    else (if is_of_trigger && not (is_deep filter) then codes "the event has four triggers already" else codes "at most 16 `!` and `(` may be open")
 
--- N16, of a trigger: a list of it, its filter, or how many there are; no item is a comma, so that none is left out
+-- N16, of a trigger: a list of it, or else its filter; no item is a comma, so that none is left out
 abbrev pub has_over : ℕ → List ℕ → List ℕ → List ℕ → Bool
 has_over most attribute item text = nat_lt most (others_of attribute item text)
-
-abbrev pub condition_most_words : List ℕ → List ℕ
-condition_most_words filter =
-    if nat_lt 1024 (length (trimmed filter)) then codes "a filter has at most 1,024 bytes"
-    else (if is_deep filter then codes "at most 16 `!` and `(` may be open" else codes "the event has four triggers already")
 
 unfoldable pub trigger_most_words : List ℕ → List ℕ
 trigger_most_words text =
@@ -150,41 +121,41 @@ trigger_most_words text =
     || has_over 3 (codes ":val=") (codes "hitcount") (first_word text))
     then codes "a hist trigger has at most three values"
     else (if has_over 2 (codes ":sort=") (codes ",") (first_word text) then codes "a hist trigger is sorted by at most two names"
-    else condition_most_words (drop (condition_start text) text)))
+    else filter_most_words true (drop (condition_start text) text)))
 
 -- N16
 unfoldable pub most_words : Subject → List ℕ → List ℕ
 most_words subject.Declaration text = declaration_most_words text
 most_words subject.Instance text = codes "there are eight instances already"
 most_words subject.Trigger text = trigger_most_words text
-most_words _ text = filter_most_words text
+most_words _ text = filter_most_words false text
 
--- N19
-unfoldable pub busy_words : Subject → List ℕ
-busy_words subject.Declaration = codes "an event is declared already; declare more by `>>`"
-busy_words _ = codes "an event of the instance has a snapshot trigger"
-
--- what is wrong with a command about this that names this path and writes this; that of a row is told by its field
+-- what is wrong with a command about this that names this path and writes this; that of a row is told by its field. N15: a trigger that goes on or is
+-- cleared is never there after `>`
 unfoldable pub refusal_words : Subject → List ℕ → List ℕ → Refusal → List ℕ
 refusal_words subject path text NoSuchFile = path_words subject path
 refusal_words subject path text NotReadable = codes "the file can't be read"
 refusal_words subject path text NotWritable = codes "the file can't be written"
 refusal_words subject path text BadValue = value_words subject text
-refusal_words subject path text NoSuchEvent = event_words subject
+refusal_words subject.AllFilters path text NoSuchEvent = codes "no event is declared"
+refusal_words _ path text NoSuchEvent = codes "no event of this name is declared"
 refusal_words subject path text EventExists = codes "an event of this name is declared already"
 refusal_words subject path text (BadDefinition at) = declaration_words text at
 refusal_words subject path text TooBig = codes "a record of the event would be longer than a page"
-refusal_words subject path text (FilterSyntax at) = filter_words subject text at
-refusal_words subject path text (NoSuchField at) = field_unknown_words subject
-refusal_words subject path text (WrongOperator at) = wrong_operator_words subject text at
+refusal_words subject path text (FilterSyntax at) = filter_due_words (filter_due_at subject text at) (drop at text)
+refusal_words subject.AllFilters path text (NoSuchField at) = codes "an event has no field of this name"
+refusal_words _ path text (NoSuchField at) = codes "the event has no field of this name"
+refusal_words subject path text (WrongOperator at) = operator_words subject text at
 refusal_words subject path text (HistSyntax at) = hist_due_words (take at text) (drop at text)
 refusal_words subject path text BadSize = codes "expected a size from 65 to 131072"
 refusal_words subject path text TriggerExists = exists_words text
-refusal_words subject path text NoSuchTrigger = no_trigger_words text
+refusal_words subject path text NoSuchTrigger =
+    if begins (codes "!") text then codes "the event has no such trigger" else codes "expected `>>` and a trigger that the event has"
 refusal_words subject path text TooMany = most_words subject text
 refusal_words subject path text InstanceExists = codes "there is an instance of this name already"
 refusal_words subject path text NoSuchInstance = codes "there is no instance of this name"
-refusal_words subject path text Busy = busy_words subject
+refusal_words subject.Declaration path text Busy = codes "an event is declared already; declare more by `>>`"
+refusal_words _ path text Busy = codes "an event of the instance has a snapshot trigger"
 refusal_words subject path text NoSuchCpu = codes "no CPU has this number"
 refusal_words subject path text (BadRow field) = codes "the pairs are no row of the event"
 refusal_words subject path text HistoryFull = codes "the history is full"

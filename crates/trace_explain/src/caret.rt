@@ -1,9 +1,8 @@
 //! Which byte of a line is a byte of what it writes, where its words begin, and where a quote begins that is not closed.
 
-ghost use Rattle.std.specs.Prelude.{◌≡◌, ◌-◌, ◌^◌, ◌<◌, if◌then◌else◌, [], ◌∷◌, ◌++◌, drop, IfOk, OnOk};
+ghost use Rattle.std.specs.Prelude.{◌≡◌, ◌-◌, ◌^◌, ◌<◌, ◌++◌, IfOk, OnOk};
 ghost use Rattle.trace_script.specs.Tokens.{is_end};
-ghost use Rattle.trace_explain.specs.Carets.{stand_after, offsets_of, written_offset};
-ghost use Rattle.trace_explain.specs.private.Steps as steps;
+ghost use Rattle.trace_explain.specs.Carets as carets;
 
 use crate::filter_due::is_quote;
 use std::alloc::{AllocError, Global};
@@ -24,39 +23,29 @@ pub(crate) enum Stand {
 }
 
 /// A byte at which a word ends.
-pub(crate) fn is_end(byte: u8) -> bool
+fn is_end(byte: u8) -> bool
     ensures { result ≡ is_end byte }
 {
     is_blank(byte) || byte == b'>'
 }
 
-/// Where a byte outside quotes leads.
-fn stand_after(byte: u8) -> Stand
-    ensures { result ≡ stand_after byte }
-{
-    if is_end(byte) {
-        Stand::Between
-    } else if is_quote(byte) {
-        Stand::InQuotes(byte)
-    } else {
-        Stand::InWord
-    }
-}
-
 /// Where a byte leads.
 pub(crate) fn next_stand(stand: Stand, byte: u8) -> Stand
-    ensures { result ≡ steps.next_stand stand byte }
+    ensures { result ≡ carets.next_stand stand byte }
 {
     match stand {
-        Stand::InQuotes(quote) => { if byte == quote { Stand::InWord } else { stand } }
-        _ => stand_after(byte),
+        Stand::InQuotes(quote) if byte == quote => Stand::InWord,
+        Stand::InQuotes(_) => stand,
+        _ if is_end(byte) => Stand::Between,
+        _ if is_quote(byte) => Stand::InQuotes(byte),
+        _ => Stand::InWord,
     }
 }
 
 /// Where the word that is open ends so far, if it goes on after a byte.
 fn next_end(stand: Stand, end: usize, at: usize, byte: u8) -> usize
     requires { at < 2 ^ 64 - 1 }
-    ensures { result ≡ steps.next_end stand end at byte }
+    ensures { result ≡ carets.next_end stand end at byte }
 {
     let stays = match stand {
         Stand::InQuotes(quote) => byte == quote,
@@ -65,9 +54,9 @@ fn next_end(stand: Stand, end: usize, at: usize, byte: u8) -> usize
     if stays { end } else { at + 1 }
 }
 
-/// Whether the word that is open ends before a byte.
-fn ends_at(stand: Stand, byte: u8) -> bool
-    ensures { result ≡ steps.ends_at stand byte }
+/// Whether a word is open and ends before a byte.
+pub(crate) fn ends_at(stand: Stand, byte: u8) -> bool
+    ensures { result ≡ carets.ends_at stand byte }
 {
     match stand {
         Stand::InWord => is_end(byte),
@@ -75,16 +64,9 @@ fn ends_at(stand: Stand, byte: u8) -> bool
     }
 }
 
-/// Whether a word is open that ends where the line does.
-fn is_open(stand: Stand) -> bool
-    ensures { result ≡ steps.is_open stand }
-{
-    matches!(stand, Stand::InWord)
-}
-
 /// Whether a byte has an offset of its own.
-fn has_offset(stand: Stand, byte: u8) -> bool
-    ensures { result ≡ steps.has_offset stand byte }
+pub(crate) fn has_offset(stand: Stand, byte: u8) -> bool
+    ensures { result ≡ carets.has_offset stand byte }
 {
     match stand {
         Stand::InQuotes(quote) => byte != quote,
@@ -94,7 +76,7 @@ fn has_offset(stand: Stand, byte: u8) -> bool
 
 /// Appends an offset, if it is there.
 fn push_if(offsets: &mut Vec<usize>, is_there: bool, at: usize) -> Result<(), AllocError>
-    ensures { OnOk result (offsets.new.items ≡ offsets.old.items ++ (if is_there then at ∷ [] else [])) }
+    ensures { OnOk result (offsets.new.items ≡ offsets.old.items ++ carets.one_if is_there at) }
 {
     if is_there {
         offsets.push(at)?;
@@ -102,10 +84,10 @@ fn push_if(offsets: &mut Vec<usize>, is_there: bool, at: usize) -> Result<(), Al
     Ok(())
 }
 
-/// The offsets of a line.
+/// The offsets of a line, whose end is as a blank.
 #[tactic(auto, unfolding(crate::specs::Carets::offsets_of))]
 fn offsets(alloc: Global, line: &[u8]) -> Result<Vec<usize>, AllocError>
-    ensures { IfOk result (λ offsets. offsets.items ≡ offsets_of line.now) }
+    ensures { IfOk result (λ offsets. offsets.items ≡ carets.offsets_of line.now) }
 {
     let mut offsets = Vec::new(alloc);
     let mut stand = Stand::Between;
@@ -116,18 +98,8 @@ fn offsets(alloc: Global, line: &[u8]) -> Result<Vec<usize>, AllocError>
         end = next_end(stand, end, at, *byte);
         stand = next_stand(stand, *byte);
     }
-    push_if(&mut offsets, is_open(stand), end)?;
+    push_if(&mut offsets, ends_at(stand, b' '), end)?;
     Ok(offsets)
-}
-
-/// The offsets of a line from what an `echo` writes on.
-fn after_echo(offsets: &[usize]) -> &[usize]
-    ensures { result.now ≡ drop 5 offsets.now }
-{
-    match offsets.get(ECHO_PLACES..) {
-        Some(rest) => rest,
-        None => &[],
-    }
 }
 
 /// Where the byte of this offset in what an `echo` writes stands in its line.
@@ -136,19 +108,11 @@ pub(crate) fn written_offset(
     line: &[u8],
     at: usize,
 ) -> Result<Option<usize>, AllocError>
-    ensures { IfOk result (λ offset. offset ≡ written_offset line.now at) }
+    ensures { IfOk result (λ offset. offset ≡ carets.written_offset line.now at) }
 {
     let offsets = offsets(alloc, line)?;
-    Ok(after_echo(&offsets).get(at).copied())
-}
-
-/// Whether a word or a redirection begins at a byte.
-fn is_start(stand: Stand, byte: u8) -> bool {
-    match stand {
-        Stand::Between => !is_blank(byte),
-        Stand::InWord => byte == b'>',
-        Stand::InQuotes(_) => false,
-    }
+    let written = offsets.get(ECHO_PLACES..).unwrap_or(&[]);
+    Ok(written.get(at).copied())
 }
 
 /// Where each word and each `>` of a line begins, from the left.
@@ -156,13 +120,18 @@ pub(crate) fn starts(alloc: Global, line: &[u8]) -> Result<Vec<usize>, AllocErro
     let mut starts = Vec::new(alloc);
     let mut stand = Stand::Between;
     for (at, byte) in line.iter().enumerate() {
-        push_if(&mut starts, is_start(stand, *byte), at)?;
+        let is_start = match stand {
+            Stand::Between => !is_blank(*byte),
+            Stand::InWord => *byte == b'>',
+            Stand::InQuotes(_) => false,
+        };
+        push_if(&mut starts, is_start, at)?;
         stand = next_stand(stand, *byte);
     }
     Ok(starts)
 }
 
-/// Where the quote stands that a line doesn't close.
+/// Where the quote stands that a line doesn't close, of a line that has one.
 pub(crate) fn open_quote(line: &[u8]) -> Option<usize> {
     let mut open = None;
     let mut stand = Stand::Between;
@@ -172,8 +141,5 @@ pub(crate) fn open_quote(line: &[u8]) -> Option<usize> {
         }
         stand = next_stand(stand, *byte);
     }
-    match stand {
-        Stand::InQuotes(_) => open,
-        _ => None,
-    }
+    open
 }

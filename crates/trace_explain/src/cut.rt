@@ -1,15 +1,15 @@
-//! Strings up to an offset, and from one on, whether or not they are as long; and what bytes they have.
+//! Strings up to an offset, from one on, and up to a byte.
 
-ghost use Rattle.std.specs.Prelude.{◌≡◌, ◌≤◌, drop, length, map, take};
-ghost use Rattle.std.specs.List.{count_by, prefix_len};
+ghost use Rattle.std.specs.Prelude.{◌≡◌, ◌≤◌, drop, length, reverse, take};
+ghost use Rattle.std.specs.List.{list_any, prefix_len};
 ghost use Rattle.std.specs.Str.{bytes_eq};
+ghost use Rattle.trace_lex.specs.Prefixes.{is_not};
 ghost use Rattle.trace_trigger.specs.Frames as frames;
 ghost use Rattle.trace_trigger.specs.TriggerTexts as texts;
 ghost use Rattle.trace_explain.specs.Bytes as bytes;
 
-use crate::byte_set::{ByteSet, first_len};
 use std::alloc::{AllocError, Global};
-use trace_lex::len_before;
+use trace_lex::{is_blank, len_before};
 
 /// As many bytes as there are up to an offset.
 pub(crate) fn up_to(at: usize, text: &[u8]) -> &[u8]
@@ -22,10 +22,7 @@ pub(crate) fn up_to(at: usize, text: &[u8]) -> &[u8]
 pub(crate) fn after(len: usize, text: &[u8]) -> &[u8]
     ensures { result.now ≡ drop len text.now }
 {
-    match text.get(len..) {
-        Some(rest) => rest,
-        None => b"",
-    }
+    text.get(len..).unwrap_or(&[])
 }
 
 /// How many bytes come before the first blank.
@@ -33,14 +30,33 @@ pub(crate) fn word_len(text: &[u8]) -> usize
     ensures value { result ≡ prefix_len frames.is_unblank text.now }
     ensures bound { result ≤ length text.now }
 {
-    first_len(ByteSet::Unblank, text)
+    text.iter().take_while(|byte| !is_blank(**byte)).count()
 }
 
-/// Whether a byte is there.
-pub(crate) fn has_byte(byte: u8, text: &[u8]) -> bool
-    ensures { result ≡ bytes.has_byte byte text.now }
+/// What comes before the first blank.
+pub(crate) fn first_word(text: &[u8]) -> &[u8]
+    ensures { result.now ≡ texts.word_of text.now }
 {
-    len_before(byte, text) < text.len()
+    &text[..word_len(text)]
+}
+
+/// What comes before the first blank, and before the first byte of this value.
+pub(crate) fn part_before(end: u8, text: &[u8]) -> &[u8]
+    ensures { result.now ≡ bytes.part_before end text.now }
+{
+    let word = first_word(text);
+    &word[..len_before(end, word)]
+}
+
+/// How many bytes follow the last one of this value.
+pub(crate) fn len_after_last(byte: u8, text: &[u8]) -> usize
+    ensures value { result ≡ prefix_len (is_not byte) (reverse text.now) }
+    ensures bound { result ≤ length text.now }
+{
+    text.iter()
+        .rev()
+        .take_while(|other| **other != byte)
+        .count()
 }
 
 /// Whether a string begins so.
@@ -57,37 +73,11 @@ pub(crate) fn has_blank(text: &[u8]) -> bool
     word_len(text) < text.len()
 }
 
-/// How often a byte is there.
-pub(crate) fn count_of(byte: u8, text: &[u8]) -> usize
-    ensures value { result ≡ count_by (bytes.is_same_byte byte) text.now }
-    ensures bound { result ≤ length text.now }
-{
-    let mut count = 0;
-    for other in text {
-        if *other == byte {
-            count += 1;
-        }
-    }
-    count
-}
-
-/// Whether a string is this word.
-pub(crate) fn is_same(word: &[u8], text: &[u8]) -> bool
-    ensures { result ≡ bytes_eq text.now word.now }
-{
-    text == word
-}
-
 /// Whether a string is one of these words.
 pub(crate) fn is_one_of(text: &[u8], words: &[&str]) -> bool
-    ensures { result ≡ bytes.is_one_of text.now (map (λ word. word.now) words.now) }
+    ensures { result ≡ list_any (λ word. bytes_eq text.now word.now) words.now }
 {
-    for word in words {
-        if is_same(word.as_bytes(), text) {
-            return true;
-        }
-    }
-    false
+    words.iter().any(|word| text == word.as_bytes())
 }
 
 /// Strings one after the other.

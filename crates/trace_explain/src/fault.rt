@@ -1,11 +1,9 @@
 //! What is wrong with a line that is no command: in words, and where.
 
-use crate::byte_set::{ByteSet, first_bytes};
-use crate::caret::{Stand, is_end, next_stand, open_quote, starts};
-use crate::cut::{after, joined, up_to};
-use crate::filter_due::is_quote;
+use crate::caret::{Stand, ends_at, has_offset, next_stand, open_quote, starts};
+use crate::cut::{after, joined, part_before, up_to};
 use std::alloc::{AllocError, Global};
-use trace_lex::{blanks_len, is_blank, rest_of, trim_end};
+use trace_lex::{blanks_len, rest_of, trim_end};
 use trace_script::{LineError, ScriptFault, prepare};
 
 /// The first word of a line, without its quotes.
@@ -13,12 +11,10 @@ pub(crate) fn name_of(alloc: Global, line: &[u8]) -> Result<Vec<u8>, AllocError>
     let mut word = Vec::new(alloc);
     let mut stand = Stand::InWord;
     for byte in rest_of(line, blanks_len(line)) {
-        let is_kept = match stand {
-            Stand::InQuotes(quote) => *byte != quote,
-            _ if is_end(*byte) => return Ok(word),
-            _ => !is_quote(*byte),
-        };
-        if is_kept {
+        if ends_at(stand, *byte) {
+            break;
+        }
+        if has_offset(stand, *byte) {
             word.push(*byte)?;
         }
         stand = next_stand(stand, *byte);
@@ -72,45 +68,34 @@ fn is_arrow(line: &[u8], at: usize) -> bool {
     matches!(after(at, line), [b'>', ..])
 }
 
-/// Where the words of a line are wrong that should be a path alone; at the end of the line, if nowhere else.
-fn path_place(line: &[u8], starts: &[usize]) -> Option<usize> {
-    match starts {
+/// Where the words of an `echo` are wrong from its redirection on, of one or of two `>`: what follows its path, or is none.
+fn arrow_place(line: &[u8], starts: &[usize]) -> Option<usize> {
+    let is_double = is_arrow(line, starts.first()?.saturating_add(1));
+    let skipped = if is_double { 2 } else { 1 };
+    match starts.get(skipped..)? {
         [path, _, ..] if is_arrow(line, *path) => Some(*path),
         [_, next, ..] => Some(*next),
         _ => None,
     }
 }
 
-/// Likewise, of those from a redirection on, of one or of two `>`.
-fn arrow_place(line: &[u8], starts: &[usize]) -> Option<usize> {
-    match starts {
-        [arrow, next, more @ ..] if is_arrow(line, *next) && next.saturating_sub(*arrow) == 1 => {
-            path_place(line, more)
-        }
-        [_, rest @ ..] => path_place(line, rest),
-        [] => None,
-    }
-}
-
-/// Likewise, of an emission: the first word in place of a pair.
+/// Of the words of an emission the first in place of a pair.
 fn pair_place(line: &[u8], starts: &[usize]) -> Option<usize> {
-    for (index, at) in starts.iter().enumerate() {
-        if index >= 4 && !first_bytes(ByteSet::Inside(b'>'), after(*at, line)).contains(&b'=') {
+    for at in starts.iter().skip(4) {
+        if !part_before(b'>', after(*at, line)).contains(&b'=') {
             return Some(*at);
         }
     }
     None
 }
 
-/// Likewise, of a line of this name: its first redirection or a word too many, or of an `echo` what follows its path, or is no path.
+/// Where the words of a line of this name are wrong, if not at its end: its first redirection, or a word too many.
 fn words_place(name: &[u8], line: &[u8], starts: &[usize]) -> Option<usize> {
-    for (index, at) in starts.iter().enumerate() {
-        if is_arrow(line, *at) {
-            return match name {
-                b"echo" => arrow_place(line, &starts[index..]),
-                _ => Some(*at),
-            };
-        }
+    if let Some(index) = starts.iter().position(|at| is_arrow(line, *at)) {
+        return match name {
+            b"echo" => arrow_place(line, &starts[index..]),
+            _ => Some(starts[index]),
+        };
     }
     match name {
         b"echo" => None,
@@ -121,15 +106,6 @@ fn words_place(name: &[u8], line: &[u8], starts: &[usize]) -> Option<usize> {
     }
 }
 
-/// Whether a line has a number that is out of its range.
-fn is_bad_number(alloc: Global, line: &[u8]) -> Result<bool, AllocError> {
-    match prepare(alloc, line) {
-        Err(LineError::Fault(ScriptFault::BadNumber)) => Ok(true),
-        Err(LineError::Memory) => Err(AllocError),
-        _ => Ok(false),
-    }
-}
-
 /// The number of a line that is wrong: of two, the second, if an emission with the first alone has no wrong one.
 fn number_place(
     alloc: Global,
@@ -137,14 +113,14 @@ fn number_place(
     line: &[u8],
     starts: &[usize],
 ) -> Result<Option<usize>, AllocError> {
-    let first = starts.get(1).copied();
-    match (name, starts.get(2)) {
-        (b"emit", Some(second)) => {
-            let text = joined(alloc, &[up_to(*second, line), b" 0 a a=1"])?;
-            let is_first = is_bad_number(alloc, &text)?;
-            Ok(if is_first { first } else { Some(*second) })
-        }
-        _ => Ok(first),
+    let (b"emit", Some(second)) = (name, starts.get(2)) else {
+        return Ok(starts.get(1).copied());
+    };
+    let text = joined(alloc, &[up_to(*second, line), b" 0 a a=1"])?;
+    match prepare(alloc, &text) {
+        Err(LineError::Fault(ScriptFault::BadNumber)) => Ok(starts.get(1).copied()),
+        Err(LineError::Memory) => Err(AllocError),
+        _ => Ok(Some(*second)),
     }
 }
 
@@ -155,23 +131,20 @@ pub(crate) fn fault_offset(
     line: &[u8],
     fault: ScriptFault,
 ) -> Result<Option<usize>, AllocError> {
-    match fault {
-        ScriptFault::LineTooLong => Ok(None),
-        ScriptFault::BadByte => Ok(
-            line.iter()
-                .position(|byte| !matches!(*byte, b'\t' | b' '..=b'~')),
-        ),
-        ScriptFault::UnclosedQuote => Ok(open_quote(line)),
-        ScriptFault::UnknownCommand | ScriptFault::BlockOutOfPlace | ScriptFault::TooManyThreads =>
-            { Ok(line.iter().position(|byte| !is_blank(*byte))) }
-        ScriptFault::WrongWords => {
-            let starts = starts(alloc, line)?;
-            let place = words_place(name, line, &starts);
-            Ok(Some(place.unwrap_or(trim_end(line).len())))
-        }
-        ScriptFault::BadNumber => {
-            let starts = starts(alloc, line)?;
-            number_place(alloc, name, line, &starts)
-        }
+    if let ScriptFault::LineTooLong = fault {
+        return Ok(None);
     }
+    let starts = starts(alloc, line)?;
+    Ok(match fault {
+        ScriptFault::BadByte => line
+            .iter()
+            .position(|byte| !matches!(*byte, b'\t' | b' '..=b'~')),
+        ScriptFault::UnclosedQuote => open_quote(line),
+        ScriptFault::WrongWords => {
+            let place = words_place(name, line, &starts);
+            Some(place.unwrap_or(trim_end(line).len()))
+        }
+        ScriptFault::BadNumber => number_place(alloc, name, line, &starts)?,
+        _ => starts.first().copied(),
+    })
 }

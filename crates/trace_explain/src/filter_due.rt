@@ -2,9 +2,8 @@
 
 ghost use Rattle.std.specs.Prelude.{◌≡◌};
 ghost use Rattle.trace_script.specs.Tokens as tokens;
-ghost use Rattle.trace_explain.specs.FilterDue.{takes_equal, is_sign, after_name, after_operator, after_value, after_bare, due_after, due_from, value_words, joint_words, filter_due_words};
+ghost use Rattle.trace_explain.specs.FilterDue.{takes_equal, is_sign, due_after, due_from, value_words, joint_words, filter_due_words};
 
-use crate::cut::has_byte;
 use trace_lex::{is_blank, is_name_byte};
 
 /// What comes next, after bytes with which a filter can begin.
@@ -52,53 +51,6 @@ fn is_sign(byte: u8) -> bool
     takes_equal(byte) || byte == b'~'
 }
 
-fn after_name(byte: u8) -> FilterDue
-    ensures { result ≡ after_name byte }
-{
-    if is_blank(byte) {
-        FilterDue::Operator
-    } else if takes_equal(byte) {
-        FilterDue::Half
-    } else {
-        FilterDue::Value
-    }
-}
-
-fn after_operator(byte: u8) -> FilterDue
-    ensures { result ≡ after_operator byte }
-{
-    if is_blank(byte) {
-        FilterDue::Value
-    } else if is_quote(byte) {
-        FilterDue::Quoted(byte)
-    } else if is_sign(byte) {
-        FilterDue::Signs
-    } else {
-        FilterDue::Bare
-    }
-}
-
-fn after_value(byte: u8) -> FilterDue
-    ensures { result ≡ after_value byte }
-{
-    if is_blank(byte) || byte == b')' {
-        FilterDue::Joint
-    } else {
-        FilterDue::Joined
-    }
-}
-
-/// After a byte of a value without quotes, or the one that ends it.
-fn after_bare(byte: u8) -> FilterDue
-    ensures { result ≡ after_bare byte }
-{
-    if is_blank(byte) || matches!(byte, b')' | b'&' | b'|') {
-        after_value(byte)
-    } else {
-        FilterDue::Bare
-    }
-}
-
 /// What comes next, after one more byte.
 pub(crate) fn due_after(due: FilterDue, byte: u8) -> FilterDue
     ensures { result ≡ due_after due byte }
@@ -107,17 +59,23 @@ pub(crate) fn due_after(due: FilterDue, byte: u8) -> FilterDue
         FilterDue::Operand if is_blank(byte) || byte == b'(' || byte == b'!' => due,
         FilterDue::Operand => FilterDue::Name,
         FilterDue::Name if is_name_byte(byte) => due,
-        FilterDue::Name | FilterDue::Operator => after_name(byte),
+        FilterDue::Name | FilterDue::Operator if is_blank(byte) => FilterDue::Operator,
+        FilterDue::Name | FilterDue::Operator if takes_equal(byte) => FilterDue::Half,
+        FilterDue::Name | FilterDue::Operator => FilterDue::Value,
         FilterDue::Half if byte == b'=' => FilterDue::Value,
-        FilterDue::Half | FilterDue::Value => after_operator(byte),
-        FilterDue::Signs if is_blank(byte) => FilterDue::Signed,
-        FilterDue::Signs if is_sign(byte) => due,
-        FilterDue::Signs | FilterDue::Bare => after_bare(byte),
+        FilterDue::Half | FilterDue::Value if is_blank(byte) => FilterDue::Value,
+        FilterDue::Half | FilterDue::Value if is_quote(byte) => FilterDue::Quoted(byte),
+        FilterDue::Half | FilterDue::Value if is_sign(byte) => FilterDue::Signs,
+        FilterDue::Half | FilterDue::Value => FilterDue::Bare,
         FilterDue::Quoted(quote) if byte == quote => FilterDue::Joint,
         FilterDue::Quoted(_) => due,
-        FilterDue::Signed if is_blank(byte) => due,
-        FilterDue::Signed | FilterDue::Joint => after_value(byte),
+        FilterDue::Signs | FilterDue::Signed if is_blank(byte) => FilterDue::Signed,
+        FilterDue::Signs if is_sign(byte) => due,
         FilterDue::Joined => FilterDue::Operand,
+        _ if is_blank(byte) || byte == b')' => FilterDue::Joint,
+        FilterDue::Signed | FilterDue::Joint => FilterDue::Joined,
+        _ if byte == b'&' || byte == b'|' => FilterDue::Joined,
+        _ => FilterDue::Bare,
     }
 }
 
@@ -137,15 +95,12 @@ fn value_words(rest: &[u8]) -> &'static str
     ensures { result.now ≡ value_words rest.now }
 {
     match rest {
-        [] => "expected a value",
-        [quote, rest @ ..] if is_quote(*quote) && has_byte(*quote, rest) => {
+        [quote, rest @ ..] if is_quote(*quote) && rest.contains(quote) => {
             "expected a number, without quotes"
         }
         [quote, ..] if is_quote(*quote) => "this quote is not closed",
-        [b'(' | b')' | b'&' | b'|', ..] => "expected a value",
-        [byte, ..] if byte.is_ascii_digit() => {
-            "expected a number of 64 bits, as `10`, `0xa` or octal `012`"
-        }
+        [] | [b'(' | b')' | b'&' | b'|', ..] => "expected a value",
+        [b'0'..=b'9', ..] => "expected a number of 64 bits, as `10`, `0xa` or octal `012`",
         [byte, ..] if is_sign(*byte) => "expected one operator and a number",
         _ => "expected a number",
     }
@@ -158,9 +113,8 @@ fn joint_words(is_signs: bool, rest: &[u8]) -> &'static str
     match rest {
         [] => "expected `)`",
         [b')', ..] => "no `(` is open before this `)`",
-        [byte, ..] if is_signs && *byte != b'&' && *byte != b'|' => {
-            "expected one operator before this value"
-        }
+        [b'&' | b'|', ..] => "expected `&&` or `||`",
+        _ if is_signs => "expected one operator before this value",
         _ => "expected `&&` or `||`",
     }
 }
@@ -174,6 +128,6 @@ pub(crate) fn filter_due_words(due: FilterDue, rest: &[u8]) -> &'static str
         FilterDue::Name | FilterDue::Operator => "expected an operator",
         FilterDue::Half | FilterDue::Value => value_words(rest),
         FilterDue::Signs | FilterDue::Signed => joint_words(true, rest),
-        FilterDue::Bare | FilterDue::Quoted(_) | FilterDue::Joint => joint_words(false, rest),
+        _ => joint_words(false, rest),
     }
 }

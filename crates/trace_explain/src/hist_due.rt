@@ -3,15 +3,14 @@
 ghost use Rattle.std.specs.Prelude.{◌≡◌, ◌≤◌, ◌<◌, IfSome, length};
 ghost use Rattle.trace_explain.specs.HistDue as due;
 
-use crate::byte_set::{ByteSet, first_bytes, last_len};
-use crate::cut::{after, begins, has_blank, is_one_of, is_same, up_to};
+use crate::cut::{after, begins, has_blank, is_one_of, len_after_last, part_before, up_to};
 use trace_lex::{len_before, rest_of};
 
 /// What follows the last `:`.
 pub(crate) fn last_part(front: &[u8]) -> &[u8]
     ensures { result.now ≡ due.last_part front.now }
 {
-    &front[front.len() - last_len(ByteSet::Except(b':'), front)..]
+    &front[front.len() - len_after_last(b':', front)..]
 }
 
 /// Whether a part ends with a byte.
@@ -42,14 +41,16 @@ fn is_action(part: &[u8]) -> bool
     is_one_of(part, &["pause", "continue", "cont", "clear"])
 }
 
+/// Whether a part begins as an attribute with a list or a name does.
+fn is_list(part: &[u8]) -> bool
+    ensures { result ≡ due.is_list part.now }
+{
+    is_keys(part) || is_values(part) || begins(b"sort=", part) || begins(b"name=", part)
+}
+
 /// Whether a part begins as an attribute does.
 pub(crate) fn is_attribute_name(part: &[u8]) -> bool {
-    begins(b"size=", part)
-        || is_action(part)
-        || is_keys(part)
-        || is_values(part)
-        || begins(b"sort=", part)
-        || begins(b"name=", part)
+    begins(b"size=", part) || is_action(part) || is_list(part)
 }
 
 /// What is wrong with an attribute.
@@ -57,14 +58,11 @@ pub(crate) fn is_attribute_name(part: &[u8]) -> bool {
 fn attribute_words(part: &[u8]) -> &'static str
     ensures { result.now ≡ due.attribute_words part.now }
 {
-    if begins(b"size=", part) {
-        "expected one `size=` and its digits"
-    } else if is_action(part) {
-        "there is an action already"
-    } else if is_keys(part) || is_values(part) || begins(b"sort=", part) || begins(b"name=", part) {
-        "this attribute is there already"
-    } else {
-        "expected an attribute, as `keys=`"
+    match part {
+        _ if begins(b"size=", part) => "expected one `size=` and its digits",
+        _ if is_action(part) => "there is an action already",
+        _ if is_list(part) => "this attribute is there already",
+        _ => "expected an attribute, as `keys=`",
     }
 }
 
@@ -90,25 +88,16 @@ fn item_words(is_more: bool, part: &[u8]) -> &'static str
     }
 }
 
-fn part_words(part: &[u8], rest: &[u8]) -> &'static str
-    ensures { result.now ≡ due.part_words part.now rest.now }
-{
-    match part {
-        [] => attribute_words(first_bytes(ByteSet::Inside(b':'), rest)),
-        _ if ends_with(b',', part) => item_words(true, part),
-        _ if ends_with(b'=', part) => item_words(false, part),
-        _ => "expected `:keys=` and a field",
-    }
-}
-
 /// What is wrong with a hist trigger after these bytes, and before these.
 pub(crate) fn hist_due_words(front: &[u8], rest: &[u8]) -> &'static str
     ensures { result.now ≡ due.hist_due_words front.now rest.now }
 {
-    if has_blank(front) {
-        "expected `if`, a blank and a filter"
-    } else {
-        part_words(last_part(front), rest)
+    match last_part(front) {
+        _ if has_blank(front) => "expected `if`, a blank and a filter",
+        part if part.is_empty() => attribute_words(part_before(b':', rest)),
+        part if ends_with(b',', part) => item_words(true, part),
+        part if ends_with(b'=', part) => item_words(false, part),
+        _ => "expected `:keys=` and a field",
     }
 }
 
@@ -149,7 +138,7 @@ pub(crate) fn attribute_at(attribute: &[u8], text: &[u8]) -> Option<usize>
 fn begins_other(item: &[u8], list: &[u8]) -> bool
     ensures { result ≡ due.begins_other item.now list.now }
 {
-    !is_same(item, up_to(len_before(b',', list), list))
+    up_to(len_before(b',', list), list) != item
 }
 
 /// How many items other than this one follow a comma.
@@ -173,13 +162,7 @@ pub(crate) fn others_of(attribute: &[u8], item: &[u8], text: &[u8]) -> usize
     let Some(at) = attribute_at(attribute, text) else {
         return 0;
     };
-    let list = first_bytes(
-        ByteSet::Inside(b':'),
-        after(attribute.len(), after(at, text)),
-    );
-    if begins_other(item, list) {
-        others_after(item, list) + 1
-    } else {
-        others_after(item, list)
-    }
+    let list = part_before(b':', after(attribute.len(), after(at, text)));
+    let first = if begins_other(item, list) { 1 } else { 0 };
+    first + others_after(item, list)
 }

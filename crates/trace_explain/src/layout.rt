@@ -5,9 +5,19 @@ ghost use Rattle.std.specs.Fmt.{decimal};
 ghost use Rattle.trace_explain.specs.Layout.{shown_byte, pad_byte, shown_bytes, shown_line, pointer, column, meant_line, shown};
 
 use crate::cut::up_to;
-use crate::script_line::ScriptLine;
 use itoa::Buffer;
 use std::alloc::{AllocError, Global};
+
+/// A line of a script, with what it goes by.
+#[derive(Clone, Copy)]
+pub struct ScriptLine<'a> {
+    /// The name of the script.
+    pub script: &'a [u8],
+    /// The line's number, from 1.
+    pub number: usize,
+    /// The line, without a newline.
+    pub text: &'a [u8],
+}
 
 /// The most bytes that the line of a command has. Of a longer one only so many bytes are shown that it fits a row of a terminal.
 const MOST_BYTES: usize = 4096;

@@ -2,7 +2,6 @@
 //! the byte where it is wrong, and what was meant, if something near is there.
 #![tactic(auto)]
 
-mod byte_set;
 mod caret;
 mod cut;
 mod declaration_due;
@@ -13,18 +12,15 @@ mod filter_due;
 mod hist_due;
 mod layout;
 mod meant;
-mod most_words;
 mod near;
-mod near_files;
 mod openings;
 mod place;
 mod refused_write;
 mod row;
-mod script_line;
 mod subject;
 mod trigger_due;
 mod wording;
 
 pub use explainer::Explainer;
+pub use layout::ScriptLine;
 pub use refused_write::{write_offset, write_words};
-pub use script_line::ScriptLine;

@@ -1,13 +1,11 @@
 //! What was meant, if something that is near is there.
 
-use crate::byte_set::{ByteSet, first_bytes};
-use crate::cut::{after, begins, has_blank, up_to};
+use crate::cut::{after, begins, has_blank, part_before, up_to};
 use crate::declaration_due::{DeclarationDue, declaration_due};
 use crate::event::{event_named, event_of, field_named};
 use crate::filter_due::FilterDue;
 use crate::hist_due::{is_attribute_name, last_part};
-use crate::near::{first_near, is_near};
-use crate::near_files::near_path;
+use crate::near::{first_near, is_near, near_path};
 use crate::subject::{Subject, command_subject, path_of, written_in};
 use crate::trigger_due::mark_len;
 use crate::wording::filter_due_at;
@@ -35,10 +33,7 @@ fn type_meant(given: &[u8]) -> &'static str {
 /// The type that was meant in a declaration.
 fn declaration_meant(text: &[u8], at: usize) -> &'static str {
     match declaration_due(up_to(at, text)) {
-        DeclarationDue::FieldType => type_meant(first_bytes(
-            ByteSet::Inside(b';'),
-            after(at, text),
-        )),
+        DeclarationDue::FieldType => type_meant(part_before(b';', after(at, text))),
         _ => "",
     }
 }
@@ -51,7 +46,7 @@ fn value_meant(subject: Subject, text: &[u8]) -> &'static str {
             b"overwrite" => "overwrite",
             given => first_near(given, &["nooverwrite", "overwrite"]),
         },
-        Subject::Trigger => match first_bytes(ByteSet::Inside(b':'), after(mark_len(text), text)) {
+        Subject::Trigger => match part_before(b':', after(mark_len(text), text)) {
             given if is_near(given, b"hist") => "hist:",
             given => first_near(given, &["snapshot"]),
         },
@@ -62,7 +57,7 @@ fn value_meant(subject: Subject, text: &[u8]) -> &'static str {
 /// The attribute that was meant in a hist trigger.
 fn attribute_meant(text: &[u8], at: usize) -> &'static str {
     let front = up_to(at, text);
-    let part = first_bytes(ByteSet::Inside(b':'), after(at, text));
+    let part = part_before(b':', after(at, text));
     if has_blank(front) || !last_part(front).is_empty() || is_attribute_name(part) {
         return "";
     }
@@ -104,10 +99,8 @@ fn operator_meant(due: FilterDue, front: &[u8], rest: &[u8]) -> &'static str {
 
 /// The event whose name is near.
 fn event_meant<'a>(events: &'a [EventDef], name: &[u8]) -> &'a [u8] {
-    match events.iter().find(|event| is_near(name, event.name())) {
-        Some(event) => event.name(),
-        None => b"",
-    }
+    let near = events.iter().find(|event| is_near(name, event.name()));
+    near.map(|event| event.name()).unwrap_or(&[])
 }
 
 /// The field of an event whose name is near, if none has it.
@@ -118,14 +111,9 @@ fn field_meant<'a>(events: &'a [EventDef], event: &[u8], name: &[u8]) -> &'a [u8
     if field_named(event.fields(), name).is_some() {
         return b"";
     }
-    let near = event
-        .fields()
-        .iter()
-        .find(|field| is_near(name, field.name.as_bytes()));
-    match near {
-        Some(field) => field.name.as_bytes(),
-        None => b"",
-    }
+    let mut fields = event.fields().iter();
+    let near = fields.find(|field| is_near(name, field.name.as_bytes()));
+    near.map(|field| field.name.as_bytes()).unwrap_or(&[])
 }
 
 /// A field of the event, or else one that each event has, by what begins with its name.

@@ -6,8 +6,8 @@ ghost use Rattle.trace_explain.specs.Explanations.{IsUnder};
 ghost use Rattle.trace_explain.specs.HistDue.{attribute_at};
 ghost use Rattle.trace_explain.specs.Places as places;
 
-use crate::byte_set::{ByteSet, first_bytes};
 use crate::caret::{starts, written_offset};
+use crate::cut::first_word;
 use crate::hist_due::attribute_at;
 use crate::row::row_fault;
 use crate::subject::{Subject, written_subject};
@@ -34,7 +34,7 @@ fn named_offset(refusal: &Refusal) -> Option<usize>
 fn size_offset(text: &[u8]) -> Option<usize>
     ensures { result ≡ places.size_offset (attribute_at (codes ":size=") (texts.word_of text.now)) }
 {
-    match attribute_at(b":size=", first_bytes(ByteSet::Unblank, text)) {
+    match attribute_at(b":size=", first_word(text)) {
         Some(at) => Some(at + 1),
         None => None,
     }

@@ -6,58 +6,8 @@ ghost use Rattle.trace_lex.specs.Decimals as decimals;
 ghost use Rattle.trace_explain.specs.TriggerDue as triggers;
 ghost use Rattle.trace_explain.specs.Wording as wording;
 
-use crate::byte_set::{ByteSet, are_all, first_bytes};
-use crate::cut::{after, begins, is_same, word_len};
-use trace_lex::{blanks_len, decimal_number, rest_of};
-
-/// What is due instead of what is written.
-#[derive(Clone, Copy)]
-pub(crate) enum TriggerDue {
-    /// `hist:` or `snapshot`, without the blank before it.
-    Unblank,
-    /// `hist:` or `snapshot`.
-    Word,
-    /// What follows `hist`: `:keys=` and a field.
-    Keys,
-    /// The end of the word, or `:` and a count.
-    Colon,
-    Count,
-    /// `if` and a filter.
-    Condition,
-    Filter,
-}
-
-/// What is due after the word and the blanks that follow it.
-fn tail_due(rest: &[u8]) -> TriggerDue
-    ensures { result ≡ triggers.tail_due rest.now }
-{
-    if begins(b"if", rest) && are_all(ByteSet::Blank, after(2, rest)) {
-        TriggerDue::Filter
-    } else {
-        TriggerDue::Condition
-    }
-}
-
-fn is_count(digits: &[u8]) -> bool
-    ensures { result ≡ triggers.is_count (decimals.up_to (2 ^ 32 - 1) (decimals.decimal_number digits.now)) }
-{
-    match decimal_number(digits, 4_294_967_295) {
-        Some(count) => count > 0,
-        None => false,
-    }
-}
-
-/// What is due by the rest of a word that begins with `snapshot`, and what follows the blanks after the word.
-fn count_due(word: &[u8], rest: &[u8]) -> TriggerDue
-    ensures { result ≡ triggers.count_due word.now rest.now }
-{
-    match word {
-        [] => tail_due(rest),
-        [b':', digits @ ..] if is_count(digits) => tail_due(rest),
-        [b':', ..] => TriggerDue::Count,
-        _ => TriggerDue::Colon,
-    }
-}
+use crate::cut::{after, begins, first_word, word_len};
+use trace_lex::{blanks_len, decimal_number, rest_of, trim_end};
 
 /// How many bytes the word and the blanks after it have.
 fn after_gap(body: &[u8]) -> usize
@@ -75,36 +25,54 @@ pub(crate) fn condition_start(text: &[u8]) -> usize
     after_gap(text) + 2
 }
 
-/// What is due by all that follows an optional `!`.
-fn body_due(body: &[u8]) -> TriggerDue
-    ensures { result ≡ triggers.body_due body.now }
+/// Where what should follow the word and its blanks is wrong, and how.
+fn tail_due(body: &[u8]) -> (usize, &'static str)
+    ensures at { result.0 ≡ (triggers.tail_due body.now).0 }
+    ensures words { result.1.now ≡ (triggers.tail_due body.now).1 }
+    ensures bound { result.0 ≤ length body.now }
 {
-    if blanks_len(body) > 0 {
-        TriggerDue::Unblank
-    } else if begins(b"snapshot", body) {
-        let tail = after(word_len(body), body);
-        count_due(
-            after(8, first_bytes(ByteSet::Unblank, body)),
-            after(blanks_len(tail), tail),
-        )
-    } else if is_same(b"hist", first_bytes(ByteSet::Unblank, body)) {
-        TriggerDue::Keys
+    let gap = after_gap(body);
+    if trim_end(rest_of(body, gap)) == b"if".as_slice() {
+        (body.len(), "expected a filter")
     } else {
-        TriggerDue::Word
+        (gap, "expected `if`, a blank and a filter")
     }
 }
 
-fn due_offset(due: TriggerDue, body: &[u8]) -> usize
-    ensures value { result ≡ triggers.due_offset due body.now }
-    ensures bound { result ≤ length body.now + 9 }
+fn is_count(digits: &[u8]) -> bool
+    ensures { result ≡ triggers.is_count (decimals.up_to (2 ^ 32 - 1) (decimals.decimal_number digits.now)) }
 {
-    match due {
-        TriggerDue::Unblank | TriggerDue::Word => 0,
-        TriggerDue::Keys => 4,
-        TriggerDue::Colon => 8,
-        TriggerDue::Count => 9,
-        TriggerDue::Condition => after_gap(body),
-        TriggerDue::Filter => body.len(),
+    match decimal_number(digits, 4_294_967_295) {
+        Some(count) => count > 0,
+        None => false,
+    }
+}
+
+/// Where it is wrong, and how, by the rest of a word that begins with `snapshot`.
+fn count_due(rest: &[u8], body: &[u8]) -> (usize, &'static str)
+    ensures at { result.0 ≡ (triggers.count_due rest.now body.now).0 }
+    ensures words { result.1.now ≡ (triggers.count_due rest.now body.now).1 }
+    ensures bound { result.0 ≤ length body.now + 9 }
+{
+    match rest {
+        [] => tail_due(body),
+        [b':', digits @ ..] if is_count(digits) => tail_due(body),
+        [b':', ..] => (9, "expected a count from 1 to 4,294,967,295"),
+        _ => (8, "expected a blank, or `:` and a count"),
+    }
+}
+
+/// Where all that follows an optional `!` is wrong, and how.
+fn body_due(body: &[u8]) -> (usize, &'static str)
+    ensures at { result.0 ≡ (triggers.body_due body.now).0 }
+    ensures words { result.1.now ≡ (triggers.body_due body.now).1 }
+    ensures bound { result.0 ≤ length body.now + 9 }
+{
+    match first_word(body) {
+        _ if blanks_len(body) > 0 => (0, "no blank may come before `hist:` or `snapshot`"),
+        word if begins(b"snapshot", body) => count_due(after(8, word), body),
+        word if word == b"hist".as_slice() => (4, "expected `:keys=` and a field"),
+        _ => (0, "expected `hist:` or `snapshot`"),
     }
 }
 
@@ -115,35 +83,19 @@ pub(crate) fn mark_len(text: &[u8]) -> usize
     if begins(b"!", text) { 1 } else { 0 }
 }
 
-/// Where it is due.
-#[tactic(auto, unfolding(crate::specs::TriggerDue::trigger_offset))]
+/// Where a text is wrong that is no trigger.
+#[tactic(auto, unfolding(crate::specs::TriggerDue::trigger_due))]
 pub(crate) fn trigger_offset(text: &[u8]) -> usize
-    ensures { result ≡ triggers.trigger_offset text.now }
+    ensures { result ≡ triggers.mark_len text.now + (triggers.trigger_due text.now).0 }
 {
     let len = mark_len(text);
-    let body = after(len, text);
-    len + due_offset(body_due(body), body)
+    len + body_due(after(len, text)).0
 }
 
-#[tactic(auto, unfolding(crate::specs::TriggerDue::trigger_due_words))]
-fn due_words(due: TriggerDue) -> &'static str
-    ensures { result.now ≡ triggers.trigger_due_words due }
-{
-    match due {
-        TriggerDue::Unblank => "no blank may come before `hist:` or `snapshot`",
-        TriggerDue::Word => "expected `hist:` or `snapshot`",
-        TriggerDue::Keys => "expected `:keys=` and a field",
-        TriggerDue::Colon => "expected a blank, or `:` and a count",
-        TriggerDue::Count => "expected a count from 1 to 4,294,967,295",
-        TriggerDue::Condition => "expected `if`, a blank and a filter",
-        TriggerDue::Filter => "expected a filter",
-    }
-}
-
-/// What is wrong with a text that is no trigger.
+/// What is wrong with it.
 #[tactic(auto, unfolding(crate::specs::TriggerDue::trigger_due))]
 pub(crate) fn trigger_due_words(text: &[u8]) -> &'static str
-    ensures { result.now ≡ triggers.trigger_due_words (triggers.trigger_due text.now) }
+    ensures { result.now ≡ (triggers.trigger_due text.now).1 }
 {
-    due_words(body_due(after(mark_len(text), text)))
+    body_due(after(mark_len(text), text)).1
 }

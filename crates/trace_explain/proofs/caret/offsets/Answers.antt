@@ -1,7 +1,7 @@
 use Rattle.std.proofs.Common.{ℕ, Bool, List, ◌++◌, ap, ◌∙◌}
-use Rattle.trace_explain.specs.Carets.{offsets_from, offsets_of}
+use Rattle.trace_explain.specs.Carets.{one_if, offsets_from, offsets_of}
 use Rattle.trace_explain.specs.declared.caret.Stand.TheVariants.{Between}
-use Rattle.trace_explain.proofs.CaretLemmas.{one_if, offsets_end, offsets_more}
+use Rattle.trace_explain.proofs.CaretLemmas.{offsets_end, offsets_more}
 use Rattle.trace_explain.proofs.caret.offsets.Goals as goal
 
 pub loop-at-init : goal.loop-at-init
@@ -20,5 +20,5 @@ pub returns : goal.returns
 returns c =
     let loop = c.loop-at in
     offsets_end loop.offsets.items _ c.args.line.now loop.stand loop.end loop.at c.loop-at-test.false
-    (c.in_ok-push_if-3.ensures ∙ ap (λ (is_there : Bool). loop.offsets.items ++ one_if is_there loop.end) c.is_open.ensures)
+    (c.in_ok-push_if-3.ensures ∙ ap (λ (is_there : Bool). loop.offsets.items ++ one_if is_there loop.end) c.ends_at-2.ensures)
     ∙ loop.invariant
