@@ -7,17 +7,16 @@ ghost use Rattle.trace_explain.specs.Explanations.{IsExplained, IsExplanation};
 ghost use Rattle.trace_explain.specs.Places.{named_offset};
 
 use crate::cut::joined;
-use crate::event::{command_of, declared};
 use crate::fault::{fault_offset, fault_words, name_of};
 use crate::layout::{ScriptLine, shown};
 use crate::meant::{command_meant, line_meant};
 use crate::place::refusal_offset;
 use crate::row::row_fault;
-use crate::subject::{command_subject, path_of, written_in};
+use crate::subject::{command_of, command_subject, declared, path_of, written_in};
 use crate::wording::refusal_words;
 use std::alloc::{AllocError, Global};
 use trace_command::{Command, Refusal};
-use trace_format::{EventDef, Text};
+use trace_format::EventDef;
 use trace_script::{Outcome, ScriptFault};
 
 /// Tells people what is wrong with the lines of a script, and remembers for that the events that were declared, and the number of the last line
@@ -29,10 +28,6 @@ pub struct Explainer {
     last: usize,
 }
 
-fn at_field<'a>(alloc: Global, field: &'a [u8], words: &'a [u8]) -> Result<Vec<u8>, AllocError> {
-    joined(alloc, &[field, b": ", words])
-}
-
 /// What is wrong with a refused command; of an emission's row, at a field.
 fn command_words(
     alloc: Global,
@@ -41,12 +36,10 @@ fn command_words(
     refusal: &Refusal,
 ) -> Result<Vec<u8>, AllocError> {
     if let Refusal::BadRow { field } = refusal {
-        let Command::Emit { event, pairs, .. } = command else {
-            return Ok(Vec::new(alloc));
-        };
-        let field = field.as_bytes();
-        let fault = row_fault(events, event.as_bytes(), pairs.as_slice(), field);
-        return at_field(alloc, field, fault.words.as_bytes());
+        let fault = row_fault(events, command, field.as_bytes());
+        let mut words = joined(alloc, &[field.as_bytes(), b": "])?;
+        words.extend_from_slice(fault.0.as_bytes())?;
+        return Ok(words);
     }
     let subject = command_subject(command);
     let words = refusal_words(subject, path_of(command), written_in(command), refusal);
@@ -63,25 +56,6 @@ impl Explainer {
         }
     }
 
-    /// The event that a line declared, if it is done and declared one.
-    fn declared_by(
-        &self,
-        line: &[u8],
-        outcome: &Option<Outcome>,
-    ) -> Result<Option<EventDef>, AllocError> {
-        let Some(Outcome::Replied(_)) = outcome else {
-            return Ok(None);
-        };
-        match command_of(self.alloc, line)? {
-            Some(command) => {
-                let event = declared(self.alloc, &command);
-                drop(command);
-                event
-            }
-            None => Ok(None),
-        }
-    }
-
     /// Hears what became of the line of a number, if anything did, and remembers the event, if it declared one. Out of memory it remembers
     /// nothing of the line.
     pub fn hear(
@@ -90,8 +64,11 @@ impl Explainer {
         line: &[u8],
         outcome: &Option<Outcome>,
     ) -> Result<(), AllocError> {
-        if let Some(event) = self.declared_by(line, outcome)? {
-            self.events.push(event)?;
+        if let Some(Outcome::Replied(_)) = outcome {
+            let command = command_of(self.alloc, line)?;
+            if let Some(event) = declared(self.alloc, &command)? {
+                self.events.push(event)?;
+            }
         }
         self.last = number;
         Ok(())
@@ -104,16 +81,9 @@ impl Explainer {
         let is_next = line.number.saturating_sub(1) == self.last;
         let name = name_of(self.alloc, line.text)?;
         let caret = fault_offset(self.alloc, &name, line.text, fault)?;
-        let words = fault_words(is_next, &name, fault);
-        let meant = line_meant(&name, fault);
-        let text = shown(
-            self.alloc,
-            line,
-            caret,
-            fault.name(),
-            words.as_bytes(),
-            meant.as_bytes(),
-        )?;
+        let words = fault_words(is_next, &name, fault).as_bytes();
+        let meant = line_meant(&name, fault).as_bytes();
+        let text = shown(self.alloc, line, caret, fault.name(), words, meant)?;
         Ok(text)
     }
 
@@ -134,24 +104,6 @@ impl Explainer {
         Ok(text)
     }
 
-    /// What is told of a refused line. Such a line asks for a command.
-    fn told_of_refusal(
-        &self,
-        line: ScriptLine<'_>,
-        refusal: &Refusal,
-    ) -> Result<Vec<u8>, AllocError>
-        ensures { IfOk result (λ text. IsExplained line.entry.script.now line.entry.number line.entry.text.now (named_offset refusal.now)
-            (refusal_name refusal.now) text.items) }
-    {
-        let command = match command_of(self.alloc, line.text)? {
-            Some(command) => command,
-            None => Command::Mkdir(Text::new(self.alloc)),
-        };
-        let told = self.told_of_command(line, &command, refusal);
-        drop(command);
-        told
-    }
-
     /// What is told of a line: where it is, what is wrong with it, the line with a caret under the byte where it is wrong, if there is one, and
     /// what was meant, if something is near. Nothing is told of a line that is done.
     pub fn explain(&self, line: ScriptLine<'_>, outcome: &Outcome) -> Result<Vec<u8>, AllocError>
@@ -160,7 +112,10 @@ impl Explainer {
         match outcome {
             Outcome::Replied(_) => Ok(Vec::new(self.alloc)),
             Outcome::Fault(fault) => self.told_of_fault(line, *fault),
-            Outcome::Refused(refusal) => self.told_of_refusal(line, refusal),
+            Outcome::Refused(refusal) => {
+                let command = command_of(self.alloc, line.text)?;
+                self.told_of_command(line, &command, refusal)
+            }
         }
     }
 }

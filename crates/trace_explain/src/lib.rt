@@ -5,7 +5,6 @@
 mod caret;
 mod cut;
 mod declaration_due;
-mod event;
 mod explainer;
 mod fault;
 mod filter_due;
@@ -15,7 +14,6 @@ mod meant;
 mod near;
 mod openings;
 mod place;
-mod refused_write;
 mod row;
 mod subject;
 mod trigger_due;
@@ -23,4 +21,5 @@ mod wording;
 
 pub use explainer::Explainer;
 pub use layout::ScriptLine;
-pub use refused_write::{write_offset, write_words};
+pub use place::write_offset;
+pub use wording::write_words;

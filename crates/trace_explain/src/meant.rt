@@ -2,11 +2,12 @@
 
 use crate::cut::{after, begins, has_blank, part_before, up_to};
 use crate::declaration_due::{DeclarationDue, declaration_due};
-use crate::event::{event_named, event_of, field_named};
 use crate::filter_due::FilterDue;
 use crate::hist_due::{is_attribute_name, last_part};
 use crate::near::{first_near, is_near, near_path};
-use crate::subject::{Subject, command_subject, path_of, written_in};
+use crate::subject::{
+    Subject, command_subject, event_named, event_of, field_named, path_of, written_in,
+};
 use crate::trigger_due::mark_len;
 use crate::wording::filter_due_at;
 use std::alloc::{AllocError, Global};

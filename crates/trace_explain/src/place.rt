@@ -1,10 +1,9 @@
-//! Where in a line it is wrong.
+//! Where in a line, or in what was to be written, it is wrong.
 
-ghost use Rattle.std.specs.Prelude.{◌≡◌, IfOk, codes};
-ghost use Rattle.trace_trigger.specs.TriggerTexts as texts;
+ghost use Rattle.std.specs.Prelude.{◌≡◌, IfOk};
 ghost use Rattle.trace_explain.specs.Explanations.{IsUnder};
-ghost use Rattle.trace_explain.specs.HistDue.{attribute_at};
 ghost use Rattle.trace_explain.specs.Places as places;
+ghost use Rattle.trace_explain.specs.Writes as writes;
 
 use crate::caret::{starts, written_offset};
 use crate::cut::first_word;
@@ -31,32 +30,19 @@ fn named_offset(refusal: &Refusal) -> Option<usize>
     }
 }
 
-fn size_offset(text: &[u8]) -> Option<usize>
-    ensures { result ≡ places.size_offset (attribute_at (codes ":size=") (texts.word_of text.now)) }
-{
-    match attribute_at(b":size=", first_word(text)) {
-        Some(at) => Some(at + 1),
-        None => None,
-    }
-}
-
-/// Where what is written is no value for its file.
-fn value_offset(subject: Subject, text: &[u8]) -> usize
-    ensures { result ≡ places.value_offset subject text.now }
-{
-    match subject {
-        Subject::Trigger => trigger_offset(text),
-        _ => blanks_len(text),
-    }
-}
-
 /// The byte of what is written that is to blame, if one is, though the refusal names none.
 fn other_offset(subject: Subject, text: &[u8], refusal: &Refusal) -> Option<usize>
     ensures { result ≡ places.other_offset subject text.now refusal.now }
 {
     match refusal {
-        Refusal::BadSize => size_offset(text),
-        Refusal::BadValue => Some(value_offset(subject, text)),
+        Refusal::BadSize => match attribute_at(b":size=", first_word(text)) {
+            Some(at) => Some(at + 1),
+            None => None,
+        },
+        Refusal::BadValue => match subject {
+            Subject::Trigger => Some(trigger_offset(text)),
+            _ => Some(blanks_len(text)),
+        },
         Refusal::EventExists
         | Refusal::TooBig
         | Refusal::TriggerExists
@@ -67,37 +53,32 @@ fn other_offset(subject: Subject, text: &[u8], refusal: &Refusal) -> Option<usiz
     }
 }
 
-/// The byte that is to blame of this text, if one is, where it was to be written to the file of this path.
-pub(crate) fn blamed_offset(path: &[u8], text: &[u8], refusal: &Refusal) -> Option<usize>
-    ensures { result ≡ places.blamed_offset path.now text.now refusal.now }
+/// The offset of the byte of a text that is to blame for the refusal of its write to the file of this path; 0, if none is.
+pub fn write_offset(path: &[u8], text: &[u8], refusal: &Refusal) -> usize
+    ensures { result ≡ writes.write_offset path.now text.now refusal.now }
 {
-    match named_offset(refusal) {
-        Some(at) => Some(at),
-        None => other_offset(written_subject(path), text, refusal),
-    }
+    let other = other_offset(written_subject(path), text, refusal);
+    named_offset(refusal).or(other).unwrap_or(0)
 }
 
-/// The index of the word of a line that is to blame, of so many: of a row the pair, or else the event; of other commands the path, which comes last.
+/// Where the word of a line begins that is to blame, if one is: of a row the pair, or else the event; of other commands the path, which comes last.
 fn blamed_word(
     events: &[EventDef],
     command: &Command,
     refusal: &Refusal,
-    count: usize,
+    starts: &[usize],
 ) -> Option<usize> {
-    let Command::Emit { event, pairs, .. } = command else {
-        return count.checked_sub(1);
+    let index = match (command, refusal) {
+        (_, Refusal::HistoryFull | Refusal::Memory | Refusal::Worn) => return None,
+        (_, Refusal::BadRow { field }) => match row_fault(events, command, field.as_bytes()).1 {
+            Some(index) => index.saturating_add(4),
+            None => 3,
+        },
+        (Command::Emit { .. }, Refusal::NoSuchCpu) => 1,
+        (Command::Emit { .. }, _) => 3,
+        _ => return starts.last().copied(),
     };
-    match refusal {
-        Refusal::BadRow { field } => {
-            let event = event.as_bytes();
-            match row_fault(events, event, pairs.as_slice(), field.as_bytes()).pair {
-                Some(index) => Some(index.saturating_add(4)),
-                None => Some(3),
-            }
-        }
-        Refusal::NoSuchCpu => Some(1),
-        _ => Some(3),
-    }
+    starts.get(index).copied()
 }
 
 /// Where in a line it is wrong, if its refusal names no offset.
@@ -114,17 +95,8 @@ fn other_place(
             return written_offset(alloc, line, at);
         }
     }
-    if matches!(
-        refusal,
-        Refusal::HistoryFull | Refusal::Memory | Refusal::Worn
-    ) {
-        return Ok(None);
-    }
     let starts = starts(alloc, line)?;
-    Ok(match blamed_word(events, command, refusal, starts.len()) {
-        Some(index) => starts.get(index).copied(),
-        None => None,
-    })
+    Ok(blamed_word(events, command, refusal, &starts))
 }
 
 /// The offset in a line of the byte that is to blame for a refusal of its command.

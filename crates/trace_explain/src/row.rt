@@ -1,25 +1,9 @@
 //! Why the pairs of an emission are no row.
 
-use crate::event::{event_named, field_named};
+use crate::subject::{event_named, field_named};
+use trace_command::Command;
 use trace_format::{EventDef, Kind, Pair};
 use trace_lex::number;
-
-/// What is wrong with a row at a field: in words, and which pair is, if one is.
-#[derive(Clone, Copy)]
-pub(crate) struct RowFault {
-    pub words: &'static str,
-    pub pair: Option<usize>,
-}
-
-fn text_misfit(len: usize, text: &[u8]) -> Option<&'static str> {
-    if !text.iter().all(|byte| matches!(*byte, b' '..=b'~')) {
-        Some("its value has a byte that is not from 0x20 to 0x7e")
-    } else if text.len() < len {
-        None
-    } else {
-        Some("its value is too long")
-    }
-}
 
 /// Why a string is no value of a type, if it is none.
 fn misfit(kind: Kind, text: &[u8]) -> Option<&'static str> {
@@ -29,22 +13,12 @@ fn misfit(kind: Kind, text: &[u8]) -> Option<&'static str> {
             Some(_) => Some("its value is out of the range of its type"),
             None => Some("its value is no number from -2^63 to 2^64 - 1"),
         },
-        Kind::Char(len) => text_misfit(usize::from(len), text),
-    }
-}
-
-/// The index of a pair of a name, after so many others of that name.
-fn pair_of(before: usize, pairs: &[Pair], name: &[u8]) -> Option<usize> {
-    let mut left = before;
-    for (at, pair) in pairs.iter().enumerate() {
-        if pair.name.as_bytes() == name {
-            if left == 0 {
-                return Some(at);
-            }
-            left -= 1;
+        Kind::Char(_) if !text.iter().all(|byte| matches!(*byte, b' '..=b'~')) => {
+            Some("its value has a byte that is not from 0x20 to 0x7e")
         }
+        Kind::Char(len) if text.len() < usize::from(len) => None,
+        Kind::Char(_) => Some("its value is too long"),
     }
-    None
 }
 
 /// What is wrong with the value at a name, or with the name itself; none, if it is only that another pair has it too.
@@ -58,27 +32,25 @@ fn value_misfit(events: &[EventDef], event: &[u8], pair: &Pair) -> Option<&'stat
     }
 }
 
-/// What is wrong with the pairs at the name at which they are refused.
+/// What is wrong with the pairs of an emission at the name at which they are refused, in words, and which pair is, if one is.
 pub(crate) fn row_fault(
     events: &[EventDef],
-    event: &[u8],
-    pairs: &[Pair],
+    command: &Command,
     name: &[u8],
-) -> RowFault {
-    let Some(pair) = pairs.iter().find(|pair| pair.name.as_bytes() == name) else {
-        return RowFault {
-            words: "the field is missing",
-            pair: None,
-        };
+) -> (&'static str, Option<usize>) {
+    let Command::Emit { event, pairs, .. } = command else {
+        return ("", None);
     };
-    match value_misfit(events, event, pair) {
-        Some(words) => RowFault {
-            words,
-            pair: pair_of(0, pairs, name),
-        },
-        None => RowFault {
-            words: "the field is repeated",
-            pair: pair_of(1, pairs, name),
-        },
+    let mut same = pairs
+        .as_slice()
+        .iter()
+        .enumerate()
+        .filter(|pair| pair.1.name.as_bytes() == name);
+    let Some((first, pair)) = same.next() else {
+        return ("the field is missing", None);
+    };
+    match value_misfit(events, event.as_bytes(), pair) {
+        Some(words) => (words, Some(first)),
+        None => ("the field is repeated", same.next().map(|pair| pair.0)),
     }
 }

@@ -2,13 +2,14 @@
 
 ghost use Rattle.std.specs.Prelude.{◌≡◌};
 ghost use Rattle.trace_explain.specs.Wording as wording;
+ghost use Rattle.trace_explain.specs.Writes as writes;
 
 use crate::cut::{after, begins, first_word, has_blank, up_to};
 use crate::declaration_due::declaration_words;
 use crate::filter_due::{FilterDue, filter_due, filter_due_words};
 use crate::hist_due::{attribute_at, ends_with, hist_due_words, hist_field_words, others_of};
 use crate::openings::is_deep;
-use crate::subject::Subject;
+use crate::subject::{Subject, written_subject};
 use crate::trigger_due::{condition_start, trigger_due_words};
 use trace_command::Refusal;
 use trace_lex::{trim, trim_end};
@@ -195,4 +196,11 @@ pub(crate) fn refusal_words(
         (Refusal::Memory, _) => "out of memory",
         (Refusal::Worn, _) => "all tickets are drawn",
     }
+}
+
+/// What is wrong, in one sentence, with the write of this text to the file of this path, which was refused so.
+pub fn write_words(path: &[u8], text: &[u8], refusal: &Refusal) -> &'static str
+    ensures { result.now ≡ writes.write_words path.now text.now refusal.now }
+{
+    refusal_words(written_subject(path), path, text, refusal)
 }

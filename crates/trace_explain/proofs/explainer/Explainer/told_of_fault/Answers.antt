@@ -5,8 +5,8 @@ use Rattle.trace_explain.proofs.explainer.Explainer.told_of_fault.Goals as goal
 
 pub returns : goal.returns
 returns c =
-    let words : List ℕ = c.as_bytes.result.now in
-    let meant : List ℕ = c.as_bytes-2.result.now in
+    let words : List ℕ = c.as_bytes-words.result.now in
+    let meant : List ℕ = c.as_bytes-meant.result.now in
     record {
       caret = c.in_ok-caret.caret;
       under = tt;
