@@ -4,10 +4,12 @@ use Rattle.std.specs.List.{list_any, slice_get}
 use Rattle.trace_format.specs.declared.pair.Pair.{Pair}
 use Rattle.trace_script.specs.Lines.{line_of}
 use Rattle.trace_script.specs.PlainEmissions.{emission_said, line_in, IsPlainEmission}
+use Rattle.trace_script.specs.PlainReads.{read_said}
 use Rattle.trace_script.specs.declared.emission.EmissionHead.{EmissionHead}
 use Rattle.trace_script.specs.declared.fault.ScriptFault.{ScriptFault}
 use Rattle.trace_script.specs.declared.line.Line.{Line}
 use Rattle.trace_script.specs.declared.line.Line.TheVariants.{Blank, Ask, Parallel, Thread, End}
+use Rattle.trace_script.specs.declared.read.PlainRead.{PlainRead}
 use Rattle.script_reader.specs.Items.{Item, Single, is_end, part_of, before_end, after_end, Taken, begun, taken_at, item_at, items_from}
 use Rattle.script_reader.specs.NextItems.{begins_with}
 use Rattle.script_reader.specs.PartReads.{IsPartRead, IsLineAt, HasItsLine}
@@ -131,6 +133,11 @@ part_left number line all lines item count rest is part =
 pub emission_next : (number : ℕ) (line : List ℕ) (all lines : List (List ℕ)) (head : EmissionHead) (pairs : List Pair) → all ≡ line ∷ lines
     → line_of line ≡ emission_said head pairs → items_from number 0 all ≡ Single number line ∷ items_from (number + 1) 0 lines
 emission_next number line all lines head pairs is says = line_next number line all lines (emission_said head pairs) is (sym says) refl
+
+-- a read, which begins none either
+pub read_next : (number : ℕ) (line : List ℕ) (all lines : List (List ℕ)) (read : PlainRead) → all ≡ line ∷ lines → read_said read ≡ line_of line
+    → items_from number 0 all ≡ Single number line ∷ items_from (number + 1) 0 lines
+read_next number line all lines read is says = line_next number line all lines (read_said read) is says refl
 
 -- a text's first line is the one that it begins with
 pub plain_first : (text line : List ℕ) (lines : List (List ℕ)) → lines_of text ≡ line ∷ lines → IsPlainEmission line → IsPlainEmission (line_in text)

@@ -1,7 +1,6 @@
 -- What the code that reads the next item of a script promises.
 use Rattle.std.specs.Prelude.{◌≡◌, ℕ, Bool, true, false, List, Result, Ok}
 use Rattle.trace_script.specs.Lines.{line_of}
-use Rattle.trace_script.specs.PlainReads.{read_said}
 use Rattle.trace_script.specs.declared.fault.ScriptFault.{ScriptFault}
 use Rattle.trace_script.specs.declared.line.Line.{Line}
 use Rattle.trace_script.specs.declared.line.Line.TheVariants.{Parallel}
@@ -9,8 +8,6 @@ use Rattle.script_reader.specs.Items.{Item, Single, Threads, Faulty}
 use Rattle.script_reader.specs.PartReads.{commands_in, IsLineAt}
 use Rattle.script_reader.specs.declared.item.ItemRead.TheVariants as reads
 use Rattle.script_reader.specs.declared.item.ItemRead.{ItemRead}
-use Rattle.script_reader.specs.declared.item.Said.{Said}
-use Rattle.script_reader.specs.declared.item.Said.TheVariants as says
 
 -- the item that was read, whose first line has this number
 abbrev pub item_read : ℕ → ItemRead → Item
@@ -18,14 +15,9 @@ item_read number (reads.Line line said) = Single number line.now
 item_read number (reads.Threads text threads) = Threads (commands_in threads.items)
 item_read number (reads.Fault at line) = Faulty at
 
--- what a line by itself says
-abbrev pub said_of : Said → Result Line ScriptFault
-said_of (says.Read read) = read_said read
-said_of (says.Other said) = said
-
 -- a line by itself comes with what it says
 abbrev pub IsSaid : ItemRead → Type 0
-IsSaid (reads.Line line said) = said_of said ≡ line_of line.now
+IsSaid (reads.Line line said) = said ≡ line_of line.now
 IsSaid _ = Unit {0}
 
 -- the fault of a part comes with its line, which is one of these lines, numbered from `first` on

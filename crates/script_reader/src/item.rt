@@ -5,7 +5,7 @@ ghost use Rattle.std.specs.Option.{option_copied};
 ghost use Rattle.trace_script.specs.Lines.{line_of};
 ghost use Rattle.trace_script.specs.declared.line.Line.TheVariants.{Parallel};
 ghost use Rattle.script_reader.specs.Items.{items_from};
-ghost use Rattle.script_reader.specs.NextItems.{item_read, begins_with, said_of, IsSaid, HasFaultLine, HasItsText};
+ghost use Rattle.script_reader.specs.NextItems.{item_read, begins_with, IsSaid, HasFaultLine, HasItsText};
 ghost use Rattle.script_reader.specs.PartReads.{item_of, HasItsLine};
 ghost use Rattle.script_reader.specs.ScriptLines.{lines_of, lines_left, bytes_left};
 
@@ -13,16 +13,7 @@ use crate::part::{FaultAt, Part, read_line, read_part};
 use crate::part_line::PartLine;
 use crate::script::first_line;
 use std::alloc::{AllocError, Global};
-use trace_script::{Line, PlainRead, ScriptFault, plain_read};
-
-/// What a line by itself asks for, or its fault.
-#[derive(Drop)]
-pub enum Said<'a> {
-    /// A read whose words lie in the line.
-    Read(PlainRead<'a>),
-    /// What any other line says.
-    Other(Result<Line, ScriptFault>),
-}
+use trace_script::{Line, ScriptFault};
 
 /// An item that was read.
 #[derive(Drop)]
@@ -30,7 +21,7 @@ pub enum ItemRead<'a> {
     /// A line by itself, and what it asks for or its fault.
     Line {
         line: &'a [u8],
-        said: Said<'a>,
+        said: Result<Line, ScriptFault>,
     },
     /// A part: the string that begins with its lines, and the lines of the commands of each of its threads.
     Threads {
@@ -68,23 +59,10 @@ fn part_item<'a>(text: &'a [u8], part: Part<'a>) -> ItemRead<'a>
 }
 
 /// Whether a line begins a part, if an `end` follows it.
-fn begins(said: &Said<'_>) -> bool
-    ensures { result ≡ begins_with (said_of said.now) }
+fn begins(said: &Result<Line, ScriptFault>) -> bool
+    ensures { result ≡ begins_with said.now }
 {
-    matches!(said, Said::Other(Ok(Line::Parallel)))
-}
-
-/// What a line says. Reads are looked for first, since most lines that are no emissions are reads.
-fn said_in(alloc: Global, line: &[u8]) -> Result<Said<'_>, AllocError>
-    ensures { IfOk result (λ said. said_of said ≡ line_of line.now) }
-{
-    if let Some(read) = plain_read(line) {
-        return Ok(Said::Read(read));
-    }
-    match read_line(alloc, line) {
-        Ok(said) => Ok(Said::Other(said)),
-        Err(error) => Err(error),
-    }
+    matches!(said, Ok(Line::Parallel))
 }
 
 /// Reads on at a line `parallel`: the part that it begins, if a line `end` follows it; else that line by itself. It is kept out of line, so
@@ -121,7 +99,7 @@ fn part_or_line<'a>(
         None => Ok(NextItem {
             item: ItemRead::Line {
                 line,
-                said: Said::Other(Ok(Line::Parallel)),
+                said: Ok(Line::Parallel),
             },
             number: number + 1,
             rest: after,
@@ -151,7 +129,7 @@ pub fn next_item<'a>(
     ensures room { IfOk result (λ next. next.number + bytes_left (option_copied next.rest) ≤ number + length text.now + 1) }
 {
     let (line, after) = first_line(text);
-    let Ok(said) = said_in(alloc, line) else {
+    let Ok(said) = read_line(alloc, line) else {
         return Err(AllocError);
     };
     if begins(&said) {

@@ -52,8 +52,7 @@ pub struct PartRead<'a> {
 /// The most threads that a part may have.
 const MOST_THREADS: usize = 8;
 
-/// What a line asks for, or its fault. It is kept out of line, so that a plain read doesn't take its room.
-#[inline(never)]
+/// What a line asks for, or its fault.
 pub(crate) fn read_line(alloc: Global, line: &[u8]) -> Result<Result<Line, ScriptFault>, AllocError>
     ensures read { IfOk result (λ read. read ≡ line_of line.now) }
 {

@@ -1,21 +1,17 @@
 -- Reads read where they lie: their words are cut, and a limit is read.
-use Rattle.std.proofs.Common.{◌≡◌, ℕ, ◌-◌, ◌^◌, ◌≤◌, nat_lt, true, false, List, [], ◌∷◌, ◌++◌, length, take, drop, Option, Some, None, Result, Ok, IfSome, codes, refl, ap, sym, ◌∙◌, arith}
+use Rattle.std.proofs.Common.{◌≡◌, ℕ, ◌-◌, ◌^◌, ◌≤◌, nat_lt, true, false, List, [], ◌∷◌, ◌++◌, length, take, drop, Option, Some, None, Result, Ok, codes, refl, ap, sym, ◌∙◌, arith}
 use Rattle.std.proofs.lemmas.Bool.Decides.{nat_tests}
 use Rattle.std.proofs.lemmas.List.{take-append-drop}
 use Rattle.std.proofs.lemmas.Slice.Eq.{bytes_eq-Decides}
 use Rattle.std.specs.Str.{bytes_eq}
-use Rattle.trace_command.specs.declared.command.Command.{Command}
 use Rattle.trace_command.specs.declared.command.Command.TheVariants.{Read}
 use Rattle.trace_script.specs.Lines.{number_up_to, read_of, take_of, named_command, named_line, asked_of, says_nothing, spoken, line_of}
 use Rattle.trace_script.specs.Outcomes.{or_fault, ◌>>=◌}
-use Rattle.trace_script.specs.PlainReads.{read_said}
 use Rattle.trace_script.specs.Tokens.{behind, tokens_of}
 use Rattle.trace_script.specs.private.Bytes.{highest_rank}
 use Rattle.trace_script.specs.private.Reads.{cat_in, take_in}
-use Rattle.trace_script.specs.declared.fault.ScriptFault.{ScriptFault}
 use Rattle.trace_script.specs.declared.fault.ScriptFault.TheVariants.{UnclosedQuote}
 use Rattle.trace_script.specs.declared.line.Line.TheVariants.{Ask}
-use Rattle.trace_script.specs.declared.read.PlainRead.{PlainRead}
 use Rattle.trace_script.specs.declared.token.Token.{Token}
 use Rattle.trace_script.specs.declared.token.Token.TheVariants.{Word}
 use Rattle.trace_script.proofs.ByteLemmas.{lawful}
@@ -97,9 +93,3 @@ module _ (line rest : List ℕ) (is : line ≡ codes "take " ++ rest) where
   take_bare bare =
       let same : highest_rank line ≡ highest_rank (codes "take " ++ rest) = ap highest_rank is in
       omega (arith, bare, same)
-
--- a read that was found is what its line asks for
-pub found_read : (found : Option PlainRead) (line : List ℕ) (asked : Result Command ScriptFault) → line_of line ≡ (asked >>= λ command. Ok (Ask command))
-    → IfSome found (λ read. asked ≡ Ok (Read read.path.now read.limit)) → IfSome found (λ read. line_of line ≡ read_said read)
-found_read None line asked said is = tt
-found_read (Some read) line asked said is = said ∙ ap (λ (r : Result Command ScriptFault). r >>= λ command. Ok (Ask command)) is

@@ -18,6 +18,7 @@ pub mod BareEmissions
 pub mod BareReads
 pub mod MarkLemmas
 pub mod FirstLines
+pub mod FirstReads
 pub mod OnePair
 pub mod FaultOrder
 pub mod NumberLemmas

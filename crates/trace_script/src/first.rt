@@ -63,7 +63,7 @@ fn marked_emission<'a>(
 /// How many bytes of a line are left at the front of a string, if all of them are of words without quotes, or blanks.
 #[inline(always)]
 #[tactic(auto, using(crate::proofs::FirstLines::bare_taken, crate::proofs::FirstLines::ends_with_text, crate::proofs::FirstLines::ends_at_newline, crate::proofs::FirstLines::goes_on_rare))]
-fn bare_line_len(text: &[u8]) -> Option<usize>
+pub(crate) fn bare_line_len(text: &[u8]) -> Option<usize>
     ensures within { IfSome result (λ len. len ≤ length text.now) }
     ensures len { IfSome result (λ len. len ≡ line_len text.now) }
     ensures bare { IfSome result (λ len. highest_rank (take len text.now) ≡ 0) }

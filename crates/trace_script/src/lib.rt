@@ -25,5 +25,5 @@ pub use line::{
     Line, commands_are_as_written, faults_come_in_order, lines_are_as_written, may_end, prepare,
 };
 pub use outcome::{Outcome, render};
-pub use read::{PlainRead, plain_read};
+pub use read::{FirstRead, PlainRead, first_read};
 pub use token::tokens_are_as_written;

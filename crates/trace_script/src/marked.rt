@@ -139,6 +139,17 @@ pub(crate) fn marked_word<'a>(line: &Marked<'a>) -> Option<(&'a [u8], Marked<'a>
     Some((word, without(line, len + 1)))
 }
 
+/// Whether a line is one word.
+#[inline(always)]
+#[tactic(auto, using(crate::proofs::BareLines::single_word))]
+pub(crate) fn is_marked_word(line: &Marked<'_>) -> bool
+    requires bare { highest_rank line.now.text.now ≡ 0 }
+    requires marked { IsMarked line.now }
+    ensures { result ≡ true → tokens_of line.now.text.now ≡ Some (IsWord line.now.text.now ∷ []) }
+{
+    !line.text.is_empty() && word_len(line) == line.text.len()
+}
+
 /// The pair that a line begins with, and how many bytes its word has; nothing, if its first word is no pair or it begins with a blank.
 #[inline(always)]
 pub(crate) fn marked_pair<'a>(line: &Marked<'a>) -> Option<(BorrowedPair<'a>, usize)>

@@ -1,18 +1,21 @@
-//! Reads whose words are read where they lie in their line.
+//! Reads whose words are read where they lie in the first line of a string.
 //!
-//! As an emission's (`emission.rt`), the words of `cat PATH` and of `take N PATH` are slices of a line that has neither quotes nor `>` and one blank
-//! between each two words. Another line is left to be read by its tokens, which would give the same for these.
+//! As an emission's (`first.rt`), the words of `cat PATH` and of `take N PATH` are slices of a line that has neither quotes nor `>` and one blank
+//! between each two words, and one look finds its end. Another line is left to be read by its tokens, which would give the same for these.
 
-ghost use Rattle.std.specs.Prelude.{◌≡◌, ◌++◌, Ok, IfSome, codes};
+ghost use Rattle.std.specs.Prelude.{◌≡◌, ◌+◌, ◌≤◌, ◌++◌, length, Ok, IfSome, codes};
 ghost use Rattle.trace_command.specs.declared.command.Command.TheVariants.{Read};
 ghost use Rattle.trace_script.specs.Lines.{line_of};
+ghost use Rattle.trace_script.specs.PlainEmissions.{line_len, line_in};
 ghost use Rattle.trace_script.specs.PlainReads.{read_said};
 ghost use Rattle.trace_script.specs.private.Bytes.{highest_rank};
+ghost use Rattle.trace_script.specs.private.Marks.{IsMarked};
 ghost use Rattle.trace_script.specs.private.Reads.{cat_in, take_in};
 
-use crate::bytes::is_bare;
 use crate::emission::{cut_word, is_word};
+use crate::first::bare_line_len;
 use crate::line::MOST_BYTES;
+use crate::marked::{Marked, is_marked_word, marked_line, marked_word};
 use trace_lex::decimal_number;
 
 /// How many bytes `cat` and a space are.
@@ -26,6 +29,14 @@ const TAKE_BYTES: usize = 5;
 pub struct PlainRead<'a> {
     pub path: &'a [u8],
     pub limit: Option<u64>,
+}
+
+/// A read that a string begins with.
+#[derive(Clone, Copy)]
+pub struct FirstRead<'a> {
+    pub read: PlainRead<'a>,
+    /// How many bytes its line has.
+    pub len: usize,
 }
 
 /// What follows `cat` and a space at the front of a line.
@@ -92,25 +103,111 @@ fn take_of(words: &[u8]) -> Option<PlainRead<'_>>
     })
 }
 
-/// The read that a line is, if it has no quotes and no `>` and one blank between each two words. Every other line, and one that has a fault, is left to
-/// [`crate::prepare`].
-pub fn plain_read(line: &[u8]) -> Option<PlainRead<'_>>
-    ensures { IfSome result (λ read. line_of line.now ≡ read_said read) }
+/// As `cat_of`, of marked words.
+fn marked_cat<'a>(words: &Marked<'a>) -> Option<PlainRead<'a>>
+    requires bare { highest_rank words.now.text.now ≡ 0 }
+    requires marked { IsMarked words.now }
+    ensures { IfSome result (λ read. cat_in words.now.text.now ≡ Ok (Read read.path.now read.limit)) }
 {
-    if line.len() > MOST_BYTES {
+    if !is_marked_word(words) {
         return None;
     }
-    if let Some(words) = after_cat(line) {
-        if !is_bare(line) {
-            return None;
-        }
-        return cat_of(words);
+    Some(PlainRead {
+        path: words.text,
+        limit: None,
+    })
+}
+
+/// As `take_of`, of marked words.
+fn marked_take<'a>(words: &Marked<'a>) -> Option<PlainRead<'a>>
+    requires bare { highest_rank words.now.text.now ≡ 0 }
+    requires marked { IsMarked words.now }
+    ensures { IfSome result (λ read. take_in words.now.text.now ≡ Ok (Read read.path.now read.limit)) }
+{
+    let Some((count, path)) = marked_word(words) else {
+        return None;
+    };
+    let limit = decimal_number(count, u64::MAX)?;
+    if !is_marked_word(&path) {
+        return None;
     }
-    if let Some(words) = after_take(line) {
-        if !is_bare(line) {
-            return None;
-        }
-        return take_of(words);
+    Some(PlainRead {
+        path: path.text,
+        limit: Some(limit),
+    })
+}
+
+/// The words that a line has after a name of so many bytes, of which the string goes on after the name. Nothing, if they have quotes or a `>`, or the
+/// line is too long.
+#[inline(always)]
+fn bare_words(rest: &[u8], name: usize) -> Option<&[u8]>
+    requires { name ≤ MOST_BYTES }
+    ensures words { IfSome result (λ words. words.now ≡ line_in rest.now) }
+    ensures bare { IfSome result (λ words. highest_rank words.now ≡ 0) }
+    ensures short { IfSome result (λ words. name + length words.now ≤ MOST_BYTES) }
+{
+    let len = bare_line_len(rest)?;
+    if len > MOST_BYTES - name {
+        return None;
+    }
+    let (words, _) = rest.split_at(len);
+    Some(words)
+}
+
+/// The read that a `cat` is whose words a string begins with, and those words.
+#[inline(always)]
+fn cat_in_front(rest: &[u8]) -> Option<(PlainRead<'_>, &[u8])>
+    ensures words { IfSome result (λ found. found.1.now ≡ line_in rest.now) }
+    ensures bare { IfSome result (λ found. highest_rank found.1.now ≡ 0) }
+    ensures short { IfSome result (λ found. CAT_BYTES + length found.1.now ≤ MOST_BYTES) }
+    ensures read { IfSome result (λ found. cat_in found.1.now ≡ Ok (Read found.0.path.now found.0.limit)) }
+{
+    if let Some(line) = marked_line(rest) {
+        let read = marked_cat(&line)?;
+        return Some((read, line.text));
+    }
+    let words = bare_words(rest, CAT_BYTES)?;
+    let read = cat_of(words)?;
+    Some((read, words))
+}
+
+/// Likewise for a `take`.
+#[inline(always)]
+fn take_in_front(rest: &[u8]) -> Option<(PlainRead<'_>, &[u8])>
+    ensures words { IfSome result (λ found. found.1.now ≡ line_in rest.now) }
+    ensures bare { IfSome result (λ found. highest_rank found.1.now ≡ 0) }
+    ensures short { IfSome result (λ found. TAKE_BYTES + length found.1.now ≤ MOST_BYTES) }
+    ensures read { IfSome result (λ found. take_in found.1.now ≡ Ok (Read found.0.path.now found.0.limit)) }
+{
+    if let Some(line) = marked_line(rest) {
+        let read = marked_take(&line)?;
+        return Some((read, line.text));
+    }
+    let words = bare_words(rest, TAKE_BYTES)?;
+    let read = take_of(words)?;
+    Some((read, words))
+}
+
+/// The read that the first line of a string is, if that has no quotes and no `>` and one blank between each two words. Every other line, and one that
+/// has a fault, is left to [`crate::prepare`].
+#[inline(always)]
+pub fn first_read(text: &[u8]) -> Option<FirstRead<'_>>
+    ensures read { IfSome result (λ first. line_of (line_in text.now) ≡ read_said first.read) }
+    ensures len { IfSome result (λ first. first.len ≡ line_len text.now) }
+{
+    if let Some(rest) = after_cat(text) {
+        let (read, words) = cat_in_front(rest)?;
+        return Some(FirstRead {
+            read,
+            len: CAT_BYTES + words.len(),
+        });
+    }
+    if let Some(rest) = after_take(text) {
+        let (read, words) = take_in_front(rest)?;
+        return Some(FirstRead {
+            read,
+            len: TAKE_BYTES + words.len(),
+        });
     }
     None
 }

@@ -1,25 +1,24 @@
 //! A single line, run through the lock.
 
-ghost use Rattle.std.specs.Prelude.{◌≡◌, ◌≢◌, ◌⊎◌, ℕ, List, Option, Ok, Err, IfOk, IfErr, OnErr, IsErrOf};
-ghost use Rattle.script_reader.specs.NextItems.{said_of};
+ghost use Rattle.std.specs.Prelude.{◌≡◌, ◌≢◌, ◌⊎◌, ℕ, List, Option, false, Ok, Err, IfOk, IfErr, OnErr, IsErrOf};
 ghost use Rattle.ticket_lock.specs.Calls.{view_of, IsOf, IsWorn};
 ghost use Rattle.trace_command.specs.declared.command.Config.{Config};
 ghost use Rattle.trace_command.specs.declared.refusal.Refusal.TheVariants as refusal;
 ghost use Rattle.trace_history.specs.History.{answer_to};
 ghost use Rattle.trace_script.specs.Lines.{line_of};
 ghost use Rattle.trace_script.specs.PlainEmissions.{emission_said};
+ghost use Rattle.trace_script.specs.PlainReads.{read_said};
 ghost use Rattle.trace_session.specs.Passes.{IsSessionPass, IsRefusedEarly, progress_of};
 ghost use Rattle.trace_session.specs.private.AnswersTold.{IsTold};
-ghost use Rattle.trace_session.specs.Sessions.{Progress, answered, turn_of};
+ghost use Rattle.trace_session.specs.Sessions.{Progress, answered, is_fault, turn_of};
 
 use script_reader::Stop;
-use script_reader::item::Said;
 use std::sync::Wait;
 use ticket_lock::{Pass, TicketLock};
 use trace_book::Book;
 use trace_command::{BorrowedEmission, Command, Refusal, Reply};
 use trace_format::BorrowedPair;
-use trace_script::{EmissionHead, Line, Outcome, ScriptFault};
+use trace_script::{EmissionHead, Line, Outcome, PlainRead, ScriptFault};
 use trace_workers::{ask, ask_emission, ask_read};
 
 /// The outcome of a line that is no command.
@@ -53,29 +52,21 @@ pub(crate) fn ask_line<R: Wait>(
     rt: &R,
     lock: &TicketLock<Book>,
     pass: Pass<Book>,
-    said: Said<'_>,
+    said: Result<Line, ScriptFault>,
 ) -> (Pass<Book>, Result<Option<Outcome>, Stop>)
     requires { IsOf lock.now pass }
     ensures of { IsOf lock.now result.0 }
     ensures session { (g : Config) → IsSessionPass g (view_of pass) → IsSessionPass g (view_of result.0) }
-    ensures turn { IfOk result.1 (λ outcome. (g : Config) (text : List ℕ) → IsSessionPass g (view_of pass) → said_of said.entry ≡ line_of text
+    ensures turn { IfOk result.1 (λ outcome. (g : Config) (text : List ℕ) → IsSessionPass g (view_of pass) → said ≡ line_of text
         → turn_of g (progress_of (view_of pass)) text
         ≡ record { outcome = outcome; progress = progress_of (view_of result.0) }) }
     ensures early { IsErrOf result.1 Stop.Memory → (g : Config) (command : Command) → IsSessionPass g (view_of pass)
-        → said_of said.entry ≡ Ok (Line.Ask command) → IsRefusedEarly g (view_of pass) command → IsWorn (view_of pass) (view_of result.0) }
+        → said ≡ Ok (Line.Ask command) → IsRefusedEarly g (view_of pass) command → IsWorn (view_of pass) (view_of result.0) }
     ensures device { IsErrOf result.1 Stop.Device → ⊥ }
     ensures stopped { IsErrOf result.1 Stop.Stopped → ⊥ }
 {
     match said {
-        Said::Read(read) => {
-            let (pass, answer) = ask_read(rt, lock, pass, read.path, read.limit);
-            match answer {
-                Ok(reply) => (pass, Ok(Some(Outcome::Replied(reply)))),
-                Err(Refusal::Worn | Refusal::Memory) => (pass, Err(Stop::Memory)),
-                Err(refusal) => (pass, Ok(Some(Outcome::Refused(refusal)))),
-            }
-        }
-        Said::Other(Ok(Line::Ask(command))) => {
+        Ok(Line::Ask(command)) => {
             let (pass, answer) = ask(rt, lock, pass, command);
             match answer {
                 Ok(reply) => (pass, Ok(Some(Outcome::Replied(reply)))),
@@ -83,7 +74,7 @@ pub(crate) fn ask_line<R: Wait>(
                 Err(refusal) => (pass, Ok(Some(Outcome::Refused(refusal)))),
             }
         }
-        Said::Other(said) => (pass, Ok(unasked(said))),
+        said => (pass, Ok(unasked(said))),
     }
 }
 
@@ -126,4 +117,35 @@ pub(crate) fn ask_emission_line<R: Wait>(
 {
     let emission = BorrowedEmission::new(head.event, head.cpu, head.pid, pairs);
     ask_emission(rt, lock, pass, &emission)
+}
+
+/// As `ask_line`, for this read. It builds no command.
+#[inline(always)]
+#[tactic(auto, using(crate::proofs::EarlyRefusals::memory_is_late, crate::proofs::EarlyRefusals::all_drawn), unfolding(crate::specs::Sessions::turn_of))]
+pub(crate) fn ask_read_line<R: Wait>(
+    rt: &R,
+    lock: &TicketLock<Book>,
+    pass: Pass<Book>,
+    read: PlainRead<'_>,
+) -> (Pass<Book>, Result<Option<Outcome>, Stop>)
+    requires { IsOf lock.now pass }
+    ensures of { IsOf lock.now result.0 }
+    ensures session { (g : Config) → IsSessionPass g (view_of pass) → IsSessionPass g (view_of result.0) }
+    ensures turn { IfOk result.1 (λ outcome. (g : Config) (text : List ℕ) → IsSessionPass g (view_of pass)
+        → read_said read.entry ≡ line_of text
+        → turn_of g (progress_of (view_of pass)) text
+        ≡ record { outcome = outcome; progress = progress_of (view_of result.0) }) }
+    ensures faultless { IfOk result.1 (λ outcome. is_fault outcome ≡ false) }
+    ensures early { IsErrOf result.1 Stop.Memory → (g : Config) (command : Command) → IsSessionPass g (view_of pass)
+        → read_said read.entry ≡ Ok (Line.Ask command) → IsRefusedEarly g (view_of pass) command
+        → IsWorn (view_of pass) (view_of result.0) }
+    ensures device { IsErrOf result.1 Stop.Device → ⊥ }
+    ensures stopped { IsErrOf result.1 Stop.Stopped → ⊥ }
+{
+    let (pass, answer) = ask_read(rt, lock, pass, read.path, read.limit);
+    match answer {
+        Ok(reply) => (pass, Ok(Some(Outcome::Replied(reply)))),
+        Err(Refusal::Worn | Refusal::Memory) => (pass, Err(Stop::Memory)),
+        Err(refusal) => (pass, Ok(Some(Outcome::Refused(refusal)))),
+    }
 }

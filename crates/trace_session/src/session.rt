@@ -16,9 +16,9 @@ use crate::device::Sink;
 use crate::environment::Environment;
 use crate::replies::Replies;
 use crate::status::Status;
-use crate::step::{do_emission, do_item};
+use crate::step::{do_emission, do_item, do_read};
 use script_reader::item::next_item;
-use script_reader::plain::plain_item;
+use script_reader::plain::{plain_item, read_item};
 use script_reader::{MOST_SCRIPT_BYTES, Source, Stop, read_script};
 use std::alloc::Global;
 use std::sync::Wait;
@@ -94,6 +94,14 @@ fn do_items<R: Threads + Wait + Sync, W: Sink, G: Gate + Sync>(
             status = with_item(status, done?);
             number += 1;
             rest = plain.rest;
+            continue;
+        }
+        if let Some(read) = read_item(text) {
+            let (back, ran) = do_read(env, pass, number, &read, replies, writer);
+            pass = back;
+            status = with_item(status, ran?);
+            number += 1;
+            rest = read.rest;
             continue;
         }
         let Ok(next) = next_item(env.alloc, number, text) else {

@@ -5,13 +5,14 @@ ghost use Rattle.ticket_lock.specs.Calls.{view_of, IsOf};
 ghost use Rattle.trace_command.specs.declared.command.Config.{Config};
 ghost use Rattle.script_reader.specs.declared.item.ItemRead.TheVariants as reads;
 ghost use Rattle.script_reader.specs.Items.{Single, Threads, Faulty};
-ghost use Rattle.script_reader.specs.NextItems.{item_read, said_of, IsSaid};
+ghost use Rattle.script_reader.specs.NextItems.{item_read, IsSaid};
 ghost use Rattle.script_reader.specs.FewThreads.{HasFewThreads};
 ghost use Rattle.script_reader.specs.PartReads.{commands_in};
 ghost use Rattle.script_reader.specs.ScriptLines.{lines_of};
 ghost use Rattle.script_reader.specs.Sources.{HasRisen};
 ghost use Rattle.trace_script.specs.Lines.{line_of};
 ghost use Rattle.trace_script.specs.PlainEmissions.{emission_said};
+ghost use Rattle.trace_script.specs.PlainReads.{read_said};
 ghost use Rattle.trace_session.specs.Devices.{Passes};
 ghost use Rattle.trace_session.specs.private.StepFronts.{PassesItem, GivesItem, AppendsItem};
 ghost use Rattle.trace_session.specs.Gated.{LetsPass, Stops, commands_asked};
@@ -23,16 +24,16 @@ ghost use Rattle.trace_workers.specs.Gates.{LetsAllPass, StopsOne};
 
 use crate::device::Sink;
 use crate::environment::Environment;
-use crate::line::{ask_emission_line, ask_line, outcome_of};
+use crate::line::{ask_emission_line, ask_line, ask_read_line, outcome_of};
 use crate::part_run::run_part;
 use crate::replies::Replies;
 use crate::status::Status;
 use crate::told::{give, give_part};
 use script_reader::Stop;
-use script_reader::item::{ItemRead, Said};
+use script_reader::item::ItemRead;
 use script_reader::part::FaultAt;
 use script_reader::part_line::PartLine;
-use script_reader::plain::PlainItem;
+use script_reader::plain::{PlainItem, ReadItem};
 use std::alloc::Global;
 use std::sync::Wait;
 use std::thread;
@@ -40,7 +41,7 @@ use ticket_lock::Pass;
 use trace_book::Book;
 use trace_command::{Refusal, Reply};
 use trace_format::BorrowedPair;
-use trace_script::Outcome;
+use trace_script::{Line, Outcome, ScriptFault};
 use trace_workers::Gate;
 
 /// Whether a command was done and has nothing to show, and the writer hears nothing.
@@ -101,19 +102,63 @@ pub(crate) fn do_emission<R: Wait, W: Sink, G>(
     }
 }
 
+/// Runs a read whose words lie in its line, and writes its output. It is kept out of line, so that emissions don't take its room.
+#[inline(never)]
+#[tactic(auto, using(crate::proofs::Stepping::no_fault))]
+pub(crate) fn do_read<R: Wait, W: Sink, G>(
+    env: &Environment<'_, R, G>,
+    pass: Pass<Book>,
+    number: usize,
+    item: &ReadItem<'_>,
+    replies: &mut Replies,
+    writer: &mut W,
+) -> (Pass<Book>, Result<Status, Stop>)
+    requires of { IsOf env.now.lock.now pass }
+    requires session { (g : Config) × IsSessionPass g (view_of pass) }
+    requires says { read_said item.now.read ≡ line_of item.now.line.now }
+    ensures of { IsOf env.now.lock.now result.0 }
+    ensures session { (g : Config) → IsSessionPass g (view_of pass) → IsSessionPass g (view_of result.0) }
+    ensures done { IfOk result.1 (λ status. (g : Config) → IsSessionPass g (view_of pass)
+        → PassesItem g (Single number item.now.line.now) (progress_of (view_of pass)) (progress_of (view_of result.0)) status
+        (W.contents writer.old) replies.old (W.contents writer.new) replies.new) }
+    ensures faultless { IfOk result.1 (λ status. status ≢ Status.Fault) }
+    ensures failures { OnOk result.1 (W.failures writer.new ≡ W.failures writer.old) }
+    ensures memory { IsErrOf result.1 Stop.Memory
+        → Passes (W.contents writer.old) replies.old (W.contents writer.new) replies.new [] }
+    ensures unfailed { IsErrOf result.1 Stop.Memory → W.failures writer.new ≡ W.failures writer.old }
+    ensures stopped { IsErrOf result.1 Stop.Stopped → ⊥ }
+    ensures risen { IsErrOf result.1 Stop.Device → HasRisen (W.failures writer.old) (W.failures writer.new) }
+    ensures device { IsErrOf result.1 Stop.Device → (g : Config) → IsSessionPass g (view_of pass)
+        → AppendsItem g (Single number item.now.line.now) (progress_of (view_of pass)) (progress_of (view_of result.0))
+        (W.contents writer.old) replies.old (W.contents writer.new) }
+    ensures flushed { IfOk result.1 (λ status. IsSome (W.heard writer.old) → IsWrittenFirst W.wants_first status → replies.new ≡ []) }
+    ensures unheard { OnErr result.1 (W.heard writer.new ≡ W.heard writer.old) }
+    ensures heard { (g : Config) → IsSessionPass g (view_of pass) → OnOk result.1 (Hears (W.heard writer.old) (W.heard writer.new)
+        (heard_of number item.now.line.now (turn_of g (progress_of (view_of pass)) item.now.line.now).outcome (W.contents writer.new) ∷ [])) }
+{
+    let (pass, asked) = ask_read_line(env.rt, env.lock, pass, item.read);
+    match asked {
+        Ok(outcome) => (
+            pass,
+            give(env.alloc, number, item.line, &outcome, replies, writer),
+        ),
+        Err(stop) => (pass, Err(stop)),
+    }
+}
+
 /// Runs a single line, and writes its output.
 fn do_line<R: Wait, W: Sink, G>(
     env: &Environment<'_, R, G>,
     pass: Pass<Book>,
     number: usize,
     line: &[u8],
-    said: Said<'_>,
+    said: Result<Line, ScriptFault>,
     replies: &mut Replies,
     writer: &mut W,
 ) -> (Pass<Book>, Result<Status, Stop>)
     requires of { IsOf env.now.lock.now pass }
     requires session { (g : Config) × IsSessionPass g (view_of pass) }
-    requires says { said_of said ≡ line_of line.now }
+    requires says { said ≡ line_of line.now }
     ensures of { IsOf env.now.lock.now result.0 }
     ensures session { (g : Config) → IsSessionPass g (view_of pass) → IsSessionPass g (view_of result.0) }
     ensures done { IfOk result.1 (λ status. (g : Config) → IsSessionPass g (view_of pass)
