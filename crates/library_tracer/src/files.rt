@@ -4,11 +4,11 @@ ghost use Rattle.std.specs.Prelude.{◌≡◌, ◌++◌, List, IfOk, OnOk};
 ghost use Rattle.trace_command.specs.Requests.{Request};
 ghost use Rattle.library_tracer.specs.ListedFiles.{event_names, files_after, names_of};
 ghost use Rattle.trace_history.specs.Settings.{instance_names};
-ghost use Rattle.live_tracer.specs.Lives.{IsLive};
+ghost use Rattle.tracer_without_history.specs.Lives.{IsLive};
 
 use file_list::Names;
-use live_tracer::Live;
 use std::alloc::{AllocError, Global};
+use tracer_without_history::Live;
 
 /// How many events there can be.
 const MOST_EVENTS: usize = 64;

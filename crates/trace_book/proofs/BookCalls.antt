@@ -10,9 +10,9 @@ use Rattle.trace_command.specs.declared.refusal.Refusal.TheVariants.{Memory}
 use Rattle.trace_history.specs.History.{answer, answer_with_room, past_of, IsEntry, IsLegal}
 use Rattle.trace_history.specs.LateMemory.{TakesMemoryLate}
 use Rattle.tracer_state.proofs.Histories.{IsLegal-push, length-past_of}
-use Rattle.live_tracer.specs.Lives.{limited_answer}
-use Rattle.live_tracer.proofs.BookAnswers.{book-answer}
-use Rattle.live_tracer.proofs.Limits.{limited-done, limited-late}
+use Rattle.tracer_without_history.specs.Lives.{limited_answer}
+use Rattle.tracer_without_history.proofs.BookAnswers.{book-answer}
+use Rattle.tracer_without_history.proofs.Limits.{limited-done, limited-late}
 use Rattle.trace_book.specs.BookSeen.{BookSeen}
 use Rattle.trace_book.specs.private.BookCalls.{IsBookCall}
 

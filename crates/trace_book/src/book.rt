@@ -1,6 +1,6 @@
 //! The book: a history of commands, and the tracer that they led to.
 //!
-//! A command runs in the tracer's two phases (`Live`, live_tracer), and between them its entry is written ahead:
+//! A command runs in the tracer's two phases (`Live`, tracer_without_history), and between them its entry is written ahead:
 //!
 //! ```text
 //!   prepare   looks      what can be refused is found, HistoryFull last; the memory of the change is allocated
@@ -26,13 +26,13 @@ ghost use Rattle.trace_command.specs.declared.refusal.Refusal.TheVariants as ref
 ghost use Rattle.trace_book.specs.private.BookCalls.{IsBookCall};
 
 use command_log::{Entries, History};
-use live_tracer::{Live, let_go, let_go_change, single};
 use std::alloc::Global;
 use std::marker::Model;
 use std::slice;
 use trace_command::{BorrowedEmission, Command, Config, Refusal, Reply};
 use trace_format::{EventDef, Pair, borrowed};
 use trace_instance::Instance;
+use tracer_without_history::{Live, let_go, let_go_change, single};
 
 /// A tracer and the history of the commands done. Commands name files as in ftrace.rst and run one at a time.
 pub struct Book {

@@ -8,10 +8,10 @@ ghost use Rattle.trace_book.specs.Asks.{GoesOn, IsDone, IsRefused};
 ghost use Rattle.trace_command.specs.declared.command.Config.{Config};
 
 use crate::book::Book;
-use live_tracer::let_go;
 use std::sync::Wait;
 use ticket_lock::{Pass, TicketLock, Worn};
 use trace_command::{BorrowedEmission, Command, Refusal, Reply};
+use tracer_without_history::let_go;
 
 /// The answer if no ticket is left. Out of line, so that other calls don't pay for dropping the command.
 #[cold]

@@ -8,10 +8,10 @@ ghost use Rattle.trace_history.specs.History.{answer_to, IsLegal};
 ghost use Rattle.trace_history.specs.LateMemory.{TakesMemoryLate};
 
 use crate::book::Book;
-use live_tracer::let_go;
 use std::alloc::Global;
 use std::marker::Model;
 use trace_command::{BorrowedEmission, Command, Config, Refusal, Reply};
+use tracer_without_history::let_go;
 
 /// The caller's number in the history.
 const CALLER: u32 = 0;

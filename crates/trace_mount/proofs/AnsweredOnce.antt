@@ -27,11 +27,11 @@ use Rattle.mount_tree.specs.declared.node.Node.TheVariants as nodes
 use Rattle.mount_tree.specs.declared.node.Owner.{Owner}
 use Rattle.mount_tree.specs.declared.node.Owner.TheVariants.{Top, Made}
 use Rattle.trace_command.specs.declared.command.Config.{Config}
-use Rattle.trace_cmd_files.specs.ToolTexts.{tool_text}
-use Rattle.trace_cmd_files.specs.ToolWrites.{tool_write}
-use Rattle.trace_cmd_files.specs.declared.write.ToolWrite.{ToolWrite}
-use Rattle.trace_cmd_files.specs.declared.write.ToolWrite.TheVariants.{Missing, Same, Switch}
-use Rattle.trace_cmd_files.specs.declared.write.ToolWrite.TheVariants as writes
+use Rattle.mount_stub_files.specs.ToolTexts.{tool_text}
+use Rattle.mount_stub_files.specs.ToolWrites.{tool_write}
+use Rattle.mount_stub_files.specs.declared.write.ToolWrite.{ToolWrite}
+use Rattle.mount_stub_files.specs.declared.write.ToolWrite.TheVariants.{Missing, Same, Switch}
+use Rattle.mount_stub_files.specs.declared.write.ToolWrite.TheVariants as writes
 use Rattle.trace_mount.specs.Injections.{first_line, injection, line_size, pairs_of_line}
 use Rattle.trace_mount.specs.Mounted.{AreServed, Does, IsExchanged, Right, TellsOwed, Unframed, Wrong}
 use Rattle.trace_mount.specs.Owed.{Owed, ReplyAt, WakeupAt, owed, step_of_parked}

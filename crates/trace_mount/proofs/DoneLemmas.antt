@@ -11,7 +11,7 @@ use Rattle.trace_history.proofs.EventLists.{AreEvents-push}
 use Rattle.trace_history.specs.History.{answer_with_room, unless_full}
 use Rattle.trace_history.specs.Pasts.{AreDone}
 use Rattle.trace_history.specs.Settings.{declared_events, declares}
-use Rattle.live_tracer.specs.Lives.{limited_answer, live_answer, most_done}
+use Rattle.tracer_without_history.specs.Lives.{limited_answer, live_answer, most_done}
 use Rattle.trace_mount.proofs.NewEvents.{declared-new}
 use Rattle.trace_mount.specs.Mounted.{AreServed, Right, Wrong, Unframed, Does, IsAnswered, IsExchanged, Serves, TellsOwed, past_after}
 use Rattle.trace_mount.specs.Owed.{Owed, ReplyAt, WakeupAt, owed}

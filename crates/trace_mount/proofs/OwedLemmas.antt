@@ -14,7 +14,7 @@ use Rattle.trace_command.specs.Requests.{Request}
 use Rattle.trace_command.specs.declared.command.Reply.{Reply as Answer}
 use Rattle.trace_command.specs.declared.refusal.Refusal.{Refusal}
 use Rattle.error_log.specs.Logs.{log_text}
-use Rattle.trace_cmd_files.specs.ToolTexts.{tool_text}
+use Rattle.mount_stub_files.specs.ToolTexts.{tool_text}
 use Rattle.trace_mount.specs.Mounted.{bytes_of_reply, Does, HasLedTo, IsMounted, IsOwedCalled, IsReplying, IsTold, IsWaking, MountSeen, service_of, terms_of}
 use Rattle.trace_mount.specs.Owed.{first_owed, is_due, is_ready, owed, step_of_parked}
 use Rattle.trace_mount.specs.Pipes.{ends, is_dry, is_used_up, waits_at, would_wait}

@@ -11,7 +11,7 @@ use Rattle.trace_command.specs.declared.refusal.Refusal.{Refusal}
 use Rattle.error_log.specs.Logs.{log_text}
 use Rattle.mount_tree.specs.declared.file.File.{File}
 use Rattle.mount_tree.specs.declared.node.Owner.{Owner}
-use Rattle.trace_cmd_files.specs.ToolTexts.{tool_text}
+use Rattle.mount_stub_files.specs.ToolTexts.{tool_text}
 use Rattle.trace_mount.specs.Mounted.{HasLedTo, IsAsked, IsStep, IsTold, MountSeen, service_of, terms_of}
 use Rattle.trace_mount.specs.Served.{Asks, Outcome, Takes, given_tool, makes_text, part_of, read_log, read_shown, read_tool, taking, told}
 use Rattle.trace_mount.specs.Services.{OpenSeen, file_at, text_at, with_text}

@@ -11,7 +11,7 @@ use Rattle.trace_command.specs.declared.refusal.Refusal.TheVariants.{Memory}
 use Rattle.trace_format.specs.Definitions.{Definition}
 use Rattle.trace_history.specs.Settings.{now_of}
 use Rattle.error_log.specs.Errors.{ErrorSeen, begun, refused}
-use Rattle.trace_explain.specs.Writes.{write_offset, write_words}
+use Rattle.refusal_explanations.specs.Writes.{write_offset, write_words}
 use Rattle.mount_tree.specs.FileKinds.{kind_of_file}
 use Rattle.mount_tree.specs.declared.file.File.{File}
 use Rattle.mount_tree.specs.declared.file.File.TheVariants as files

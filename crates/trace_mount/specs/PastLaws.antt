@@ -15,7 +15,7 @@ use Rattle.trace_history.specs.FileTexts.{cpu_stats_text}
 use Rattle.trace_history.specs.History.{text_of}
 use Rattle.trace_history.specs.Pasts.{AreDone}
 use Rattle.trace_history.specs.Settings.{now_of}
-use Rattle.live_tracer.specs.Lives.{live_answer, most_done}
+use Rattle.tracer_without_history.specs.Lives.{live_answer, most_done}
 use Rattle.error_log.specs.Errors.{begun}
 use Rattle.mount_tree.specs.Children.{is_there}
 use Rattle.mount_tree.specs.FileKinds.{kind_of_file}

@@ -17,7 +17,7 @@ use Rattle.trace_command.specs.declared.command.Config.{Config}
 use Rattle.trace_command.specs.declared.file_name.TopFile.TheVariants as top_files
 use Rattle.trace_command.specs.declared.refusal.Refusal.{Refusal}
 use Rattle.trace_command.specs.declared.refusal.Refusal.TheVariants.{Memory}
-use Rattle.trace_explain.specs.Writes.{write_offset, write_words}
+use Rattle.refusal_explanations.specs.Writes.{write_offset, write_words}
 use Rattle.trace_format.specs.Definitions.{Definition}
 use Rattle.trace_history.specs.Settings.{declared_events, now_of}
 use Rattle.error_log.specs.Errors.{ErrorSeen, begun, refused}
@@ -36,10 +36,10 @@ use Rattle.mount_tree.specs.declared.node.Node.TheVariants as nodes
 use Rattle.mount_tree.specs.declared.node.Owner.TheVariants.{Top, Made}
 use Rattle.mount_tree.specs.declared.node.Owner.{Owner}
 use Rattle.mount_tree.specs.declared.tool.ToolFile.TheVariants as tools
-use Rattle.trace_cmd_files.specs.ToolTexts.{tool_text}
-use Rattle.trace_cmd_files.specs.ToolWrites.{tool_write}
-use Rattle.trace_cmd_files.specs.declared.write.ToolWrite.{ToolWrite}
-use Rattle.trace_cmd_files.specs.declared.write.ToolWrite.TheVariants.{Missing, Wrong, Same, Switch}
+use Rattle.mount_stub_files.specs.ToolTexts.{tool_text}
+use Rattle.mount_stub_files.specs.ToolWrites.{tool_write}
+use Rattle.mount_stub_files.specs.declared.write.ToolWrite.{ToolWrite}
+use Rattle.mount_stub_files.specs.declared.write.ToolWrite.TheVariants.{Missing, Wrong, Same, Switch}
 use Rattle.trace_mount.specs.Errnos.{errno_of, errno_of_other}
 use Rattle.trace_mount.specs.Injections.{first_line, injection, line_size, pairs_of_line}
 use Rattle.trace_mount.specs.Pipes.{ends, is_dry, is_used_up, would_wait}

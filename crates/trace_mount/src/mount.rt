@@ -16,11 +16,11 @@ use crate::telling::{tell_short, tell_wrong};
 use crate::told::agree;
 use error_log::ErrorLog;
 use fuse_wire::{DecodeError, Errno, Operation, Reply, Request, decode};
-use live_tracer::Live;
 use mount_tree::{Node, Scene};
 use std::alloc::Global;
 use std::marker::Model;
 use trace_command::{Config, Refusal};
+use tracer_without_history::Live;
 
 /// A mounted tracer: the tracer, which folders and files it has, the open files, the reads that wait, the writes that were refused, whether something has
 /// to be told before the next request is answered, and whose the files are.

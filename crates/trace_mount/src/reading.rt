@@ -8,7 +8,7 @@ ghost use Rattle.mount_tree.specs.declared.node.Node.TheVariants as nodes;
 ghost use Rattle.mount_tree.specs.NodePaths.{owner_name};
 ghost use Rattle.trace_history.specs.Settings.{is_tracing};
 ghost use Rattle.error_log.specs.Logs.{log_text};
-ghost use Rattle.trace_cmd_files.specs.ToolTexts.{tool_text};
+ghost use Rattle.mount_stub_files.specs.ToolTexts.{tool_text};
 ghost use Rattle.trace_mount.specs.Mounted.{HasLedTo, IsTold, TellsBy, most_reply, service_of, terms_of};
 ghost use Rattle.trace_mount.specs.Served.{Parks, Plain, given_records, given_tool, is_nonblocking as nonblocking, part_of, read_anew as anew, read_dry as dry_step, read_file, read_log as log_step, read_pipe as pipe_step, read_records as taking, read_text as text_step, read_tool as tool_step, records_for as records, text_in as text_of};
 ghost use Rattle.trace_mount.specs.Services.{OpenSeen, file_at, text_at};
@@ -146,7 +146,7 @@ impl Mount {
             (given_tool handle offset size self.old.files (tool_text self.old.live.config past owner file)) unique out.new.items }
         ensures capacity { vec_capacity out.old ≤ vec_capacity out.new }
     {
-        match trace_cmd_files::text_of(self.alloc, &self.live, &self.scene, owner, file) {
+        match mount_stub_files::text_of(self.alloc, &self.live, &self.scene, owner, file) {
             Ok(Some(text)) => {
                 tell_part(unique, text.as_bytes(), offset, size, out);
                 self.files.keep_text(handle, text);

@@ -6,7 +6,7 @@ ghost use Rattle.trace_history.specs.Settings.{now_of};
 ghost use Rattle.error_log.specs.Errors.{ErrorSeen};
 ghost use Rattle.mount_tree.specs.FileKinds.{kind_of_file};
 ghost use Rattle.mount_tree.specs.declared.node.Node.TheVariants as nodes;
-ghost use Rattle.trace_cmd_files.specs.ToolWrites.{tool_write};
+ghost use Rattle.mount_stub_files.specs.ToolWrites.{tool_write};
 ghost use Rattle.trace_mount.specs.Errnos.{errno_of as errno_is};
 ghost use Rattle.trace_mount.specs.Mounted.{HasLedTo, IsStep, StepsBy, service_of, terms_of};
 ghost use Rattle.trace_mount.specs.Served.{errors_after, forgotten, make_folder as making, make_instance as making_instance, noted_refusal, remove_folder as removing, remove_instance, switch_text as text_of_switch, without_newline, write_file, write_log as log_step, write_other as other_step, write_same, write_switch as switch_step, write_text as text_step, write_tool as tool_step};
@@ -18,10 +18,10 @@ use crate::errno::errno_of;
 use crate::mount::Mount;
 use error_log::ErrorLog;
 use fuse_wire::{Errno, Reply};
+use mount_stub_files::{ToolWrite, write_of};
 use mount_tree::{File, FileKind, Folder, Node, Owner};
-use trace_cmd_files::{ToolWrite, write_of};
+use refusal_explanations::{write_offset, write_words};
 use trace_command::Refusal;
-use trace_explain::{write_offset, write_words};
 
 /// What is written, without a last newline.
 fn without_newline(bytes: &[u8]) -> &[u8]

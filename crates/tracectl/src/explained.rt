@@ -2,12 +2,12 @@
 
 ghost use Rattle.std.specs.Prelude.{◌≡◌, ℕ, List, false, None, OnOk};
 ghost use Rattle.std.specs.Io.KnownBytes.{Appends};
-ghost use Rattle.trace_explain.specs.Explanations.{IsExplanation};
+ghost use Rattle.refusal_explanations.specs.Explanations.{IsExplanation};
 
+use refusal_explanations::{Explainer, ScriptLine};
 use std::alloc::Global;
 use std::io;
 use std::io::Write;
-use trace_explain::{Explainer, ScriptLine};
 use trace_script::Outcome;
 use trace_session::Sink;
 

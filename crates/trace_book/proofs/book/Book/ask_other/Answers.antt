@@ -7,7 +7,7 @@ use Rattle.trace_history.specs.History.{past_of}
 use Rattle.command_log.specs.HistorySeen.{HistorySeen}
 use Rattle.tracer_state.specs.States.{IsPrepared}
 use Rattle.tracer_state.proofs.Histories.{length-past_of, past_of-push}
-use Rattle.live_tracer.specs.Lives.{limited_answer}
+use Rattle.tracer_without_history.specs.Lives.{limited_answer}
 use Rattle.trace_book.specs.BookSeen.{BookSeen}
 use Rattle.trace_book.specs.Books.{seen}
 use Rattle.trace_book.specs.private.BookCalls.{IsBookCall}

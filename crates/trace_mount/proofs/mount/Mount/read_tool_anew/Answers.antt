@@ -1,5 +1,5 @@
 use Rattle.std.proofs.Common.{sym, ◌∙◌}
-use Rattle.trace_cmd_files.specs.ToolTexts.{tool_text}
+use Rattle.mount_stub_files.specs.ToolTexts.{tool_text}
 use Rattle.trace_mount.specs.contracts.mount.Mount.{the_view}
 use Rattle.trace_mount.proofs.ToolLemmas.{tool-made, tool-missing, tool-refused}
 use Rattle.trace_mount.proofs.mount.Mount.read_tool_anew.Goals as goal

@@ -1,0 +1,90 @@
+//! Strings up to an offset, from one on, and up to a byte.
+
+ghost use Rattle.std.specs.Prelude.{◌≡◌, ◌≤◌, drop, length, reverse, take};
+ghost use Rattle.std.specs.List.{list_any, prefix_len};
+ghost use Rattle.std.specs.Str.{bytes_eq};
+ghost use Rattle.trace_lex.specs.Prefixes.{is_not};
+ghost use Rattle.trace_trigger.specs.Frames as frames;
+ghost use Rattle.trace_trigger.specs.TriggerTexts as texts;
+ghost use Rattle.refusal_explanations.specs.Bytes as bytes;
+
+use std::alloc::{AllocError, Global};
+use trace_lex::{is_blank, len_before};
+
+/// As many bytes as there are up to an offset.
+pub(crate) fn up_to(at: usize, text: &[u8]) -> &[u8]
+    ensures { result.now ≡ take at text.now }
+{
+    text.get(..at).unwrap_or(text)
+}
+
+/// What follows so many bytes.
+pub(crate) fn after(len: usize, text: &[u8]) -> &[u8]
+    ensures { result.now ≡ drop len text.now }
+{
+    text.get(len..).unwrap_or(&[])
+}
+
+/// How many bytes come before the first blank.
+pub(crate) fn word_len(text: &[u8]) -> usize
+    ensures value { result ≡ prefix_len frames.is_unblank text.now }
+    ensures bound { result ≤ length text.now }
+{
+    text.iter().take_while(|byte| !is_blank(**byte)).count()
+}
+
+/// What comes before the first blank.
+pub(crate) fn first_word(text: &[u8]) -> &[u8]
+    ensures { result.now ≡ texts.word_of text.now }
+{
+    &text[..word_len(text)]
+}
+
+/// What comes before the first blank, and before the first byte of this value.
+pub(crate) fn part_before(end: u8, text: &[u8]) -> &[u8]
+    ensures { result.now ≡ bytes.part_before end text.now }
+{
+    let word = first_word(text);
+    &word[..len_before(end, word)]
+}
+
+/// How many bytes follow the last one of this value.
+pub(crate) fn len_after_last(byte: u8, text: &[u8]) -> usize
+    ensures value { result ≡ prefix_len (is_not byte) (reverse text.now) }
+    ensures bound { result ≤ length text.now }
+{
+    text.iter()
+        .rev()
+        .take_while(|other| **other != byte)
+        .count()
+}
+
+/// Whether a string begins so.
+pub(crate) fn begins(beginning: &[u8], text: &[u8]) -> bool
+    ensures { result ≡ texts.begins beginning.now text.now }
+{
+    text.starts_with(beginning)
+}
+
+/// Whether a blank is there.
+pub(crate) fn has_blank(text: &[u8]) -> bool
+    ensures { result ≡ bytes.has_blank text.now }
+{
+    word_len(text) < text.len()
+}
+
+/// Whether a string is one of these words.
+pub(crate) fn is_one_of(text: &[u8], words: &[&str]) -> bool
+    ensures { result ≡ list_any (λ word. bytes_eq text.now word.now) words.now }
+{
+    words.iter().any(|word| text == word.as_bytes())
+}
+
+/// Strings one after the other.
+pub(crate) fn joined(alloc: Global, parts: &[&[u8]]) -> Result<Vec<u8>, AllocError> {
+    let mut text = Vec::new(alloc);
+    for part in parts {
+        text.extend_from_slice(part)?;
+    }
+    Ok(text)
+}

@@ -1,0 +1,121 @@
+//! What is told of the lines of a script, one after the other.
+
+ghost use Rattle.std.specs.Prelude.{IfOk, None};
+ghost use Rattle.trace_command.specs.Refusals.{name_of as refusal_name};
+ghost use Rattle.trace_script.specs.Rendering.{fault_name};
+ghost use Rattle.refusal_explanations.specs.Explanations.{IsExplained, IsExplanation};
+ghost use Rattle.refusal_explanations.specs.Places.{named_offset};
+
+use crate::cut::joined;
+use crate::fault::{fault_offset, fault_words, name_of};
+use crate::layout::{ScriptLine, shown};
+use crate::meant::{command_meant, line_meant};
+use crate::place::refusal_offset;
+use crate::row::row_fault;
+use crate::subject::{command_of, command_subject, declared, path_of, written_in};
+use crate::wording::refusal_words;
+use std::alloc::{AllocError, Global};
+use trace_command::{Command, Refusal};
+use trace_format::EventDef;
+use trace_script::{Outcome, ScriptFault};
+
+/// Tells people what is wrong with the lines of a script, and remembers for that the events that were declared, and the number of the last line
+/// that was heard.
+#[derive(Drop)]
+pub struct Explainer {
+    alloc: Global,
+    events: Vec<EventDef>,
+    last: usize,
+}
+
+/// What is wrong with a refused command; of an emission's row, at a field.
+fn command_words(
+    alloc: Global,
+    events: &[EventDef],
+    command: &Command,
+    refusal: &Refusal,
+) -> Result<Vec<u8>, AllocError> {
+    if let Refusal::BadRow { field } = refusal {
+        let fault = row_fault(events, command, field.as_bytes());
+        let mut words = joined(alloc, &[field.as_bytes(), b": "])?;
+        words.extend_from_slice(fault.0.as_bytes())?;
+        return Ok(words);
+    }
+    let subject = command_subject(command);
+    let words = refusal_words(subject, path_of(command), written_in(command), refusal);
+    Vec::from_slice(alloc, words.as_bytes())
+}
+
+impl Explainer {
+    /// One that has heard no line.
+    pub fn new(alloc: Global) -> Explainer {
+        Explainer {
+            alloc,
+            events: Vec::new(alloc),
+            last: 0,
+        }
+    }
+
+    /// Hears what became of the line of a number, if anything did, and remembers the event, if it declared one. Out of memory it remembers
+    /// nothing of the line.
+    pub fn hear(
+        &mut self,
+        number: usize,
+        line: &[u8],
+        outcome: &Option<Outcome>,
+    ) -> Result<(), AllocError> {
+        if let Some(Outcome::Replied(_)) = outcome {
+            let command = command_of(self.alloc, line)?;
+            if let Some(event) = declared(self.alloc, &command)? {
+                self.events.push(event)?;
+            }
+        }
+        self.last = number;
+        Ok(())
+    }
+
+    /// What is told of a line that is no command.
+    fn told_of_fault(&self, line: ScriptLine<'_>, fault: ScriptFault) -> Result<Vec<u8>, AllocError>
+        ensures { IfOk result (λ text. IsExplained line.entry.script.now line.entry.number line.entry.text.now None (fault_name fault) text.items) }
+    {
+        let is_next = line.number.saturating_sub(1) == self.last;
+        let name = name_of(self.alloc, line.text)?;
+        let caret = fault_offset(self.alloc, &name, line.text, fault)?;
+        let words = fault_words(is_next, &name, fault).as_bytes();
+        let meant = line_meant(&name, fault).as_bytes();
+        let text = shown(self.alloc, line, caret, fault.name(), words, meant)?;
+        Ok(text)
+    }
+
+    /// What is told of a refused command.
+    fn told_of_command(
+        &self,
+        line: ScriptLine<'_>,
+        command: &Command,
+        refusal: &Refusal,
+    ) -> Result<Vec<u8>, AllocError>
+        ensures { IfOk result (λ text. IsExplained line.entry.script.now line.entry.number line.entry.text.now (named_offset refusal.now)
+            (refusal_name refusal.now) text.items) }
+    {
+        let caret = refusal_offset(self.alloc, &self.events, line.text, command, refusal)?;
+        let words = command_words(self.alloc, &self.events, command, refusal)?;
+        let meant = command_meant(self.alloc, &self.events, command, refusal)?;
+        let text = shown(self.alloc, line, caret, refusal.name(), &words, &meant)?;
+        Ok(text)
+    }
+
+    /// What is told of a line: where it is, what is wrong with it, the line with a caret under the byte where it is wrong, if there is one, and
+    /// what was meant, if something is near. Nothing is told of a line that is done.
+    pub fn explain(&self, line: ScriptLine<'_>, outcome: &Outcome) -> Result<Vec<u8>, AllocError>
+        ensures { IfOk result (λ text. IsExplanation line.entry.script.now line.entry.number line.entry.text.now outcome.now text.items) }
+    {
+        match outcome {
+            Outcome::Replied(_) => Ok(Vec::new(self.alloc)),
+            Outcome::Fault(fault) => self.told_of_fault(line, *fault),
+            Outcome::Refused(refusal) => {
+                let command = command_of(self.alloc, line.text)?;
+                self.told_of_command(line, &command, refusal)
+            }
+        }
+    }
+}

@@ -1,6 +1,0 @@
-use Rattle.std.proofs.Common.{Some, ap}
-use Rattle.trace_cmd_files.proofs.text.text_there.Goals as goal
-
-pub returns-in_ok-top_tool_text-in-OfTop : goal.returns-in_ok-top_tool_text-in-OfTop
-returns-in_ok-top_tool_text-in-OfTop c past lives is there =
-    rw c.in-OfTop.is (ap Some (c.in_ok-top_tool_text-in-OfTop.ensures c.args.live.now.config.cpus past is))

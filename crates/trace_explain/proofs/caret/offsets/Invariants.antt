@@ -1,6 +1,0 @@
-use Rattle.std.proofs.Common.{◌≡◌, ◌++◌, drop}
-use Rattle.trace_explain.specs.Carets.{offsets_from, offsets_of}
-use Rattle.trace_explain.proofs.caret.offsets.Given as goal
-
-abbrev pub invariant-loop-at : goal.invariant-loop-at
-invariant-loop-at l = l.offsets.items ++ offsets_from l.stand l.end l.at (drop l.at l.line) ≡ offsets_of l.line

@@ -1,6 +1,0 @@
-use Rattle.std.proofs.Common.{◌≡◌, ◌++◌, map, take}
-use Rattle.trace_explain.specs.Layout.{pad_byte}
-use Rattle.trace_explain.proofs.layout.push_padding.Given as goal
-
-abbrev pub invariant-loop-byte : goal.invariant-loop-byte
-invariant-loop-byte l = l.out.items ≡ l.fn.out.items ++ map pad_byte (take l.byte-index l.above)
