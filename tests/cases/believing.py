@@ -13,7 +13,7 @@ from cases.running import TOP, Case
 
 CRATES = TOP / "crates"
 PAGE = TOP / "docs" / "BELIEVE.md"
-HEADLINE = (("trace_session", "session.rt", "run_session"), ("trace_workers", "history.rt", "history_of"))
+HEADLINE = (("trace_session", "session.rt", "run_session"), ("thread_history", "history.rt", "history_of"))
 MOUNT = (("mount_service", "service.rt", "serve_tracer"),)
 MOST = 3000  # lines of definitions, without comments, that the headline may rest on
 
@@ -204,8 +204,14 @@ def seen_in(library, crate, home, text):
     for path in sorted(home.rglob("*.rt")):
         source = library.file(crate, path)
         for name in re.findall(r"^pub (?:struct|enum|trait) (\w+)", source.text, re.M):
-            if re.search(r"\b%s\b" % name, text):
+            if re.search(r"\b%s\b" % name, text) and not only_bounds(name, text):
                 yield source.model(name) or source.of_source(name)
+
+
+def only_bounds(name, text):
+    """Whether a head has this name only as the bound of a type of which no clause speaks: then its clauses hold whatever the trait says."""
+    bounded = re.findall(r"\b(\w+): %s\b" % name, text)
+    return len(bounded) == len(re.findall(r"\b%s\b" % name, text)) and not any(re.search(r"\b%s\." % each, text) for each in bounded)
 
 
 def without_fields(text, kept):

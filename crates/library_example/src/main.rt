@@ -8,8 +8,9 @@ use std::alloc::{AllocError, Global};
 use std::process::ExitCode;
 use std::sync::Wait;
 use std::thread::Threads;
+use thread_history::history_of;
 use trace_book::{Book, Command, CommandRef, Config, EntryRef, Pairs, Refusal, Reply, Tracer};
-use trace_workers::{BlockFault, OpenGate, Part, history_of};
+use trace_workers::{BlockFault, OpenGate, Part};
 
 const CONFIG: Config = Config {
     cpus: 1,

@@ -8,6 +8,7 @@ ghost use Rattle.session_laws.specs.HeardSessions.{HasHeard, heard_in};
 
 use crate::heard_lines::{HeardLine, HeardLines};
 use script_reader::{Source, Told};
+use shared_book::SharedBook;
 use std::alloc::Global;
 use std::io;
 use std::snapshot::Snapshot;
@@ -72,7 +73,7 @@ impl Sink for Listener {
 
 /// Runs a session whose bytes go nowhere, and which no gate stops. If memory is there and the reader doesn't fail, the listener has heard of each item
 /// of the script what became of its lines. It waits for turns and threads, so it is not promised that it returns.
-pub fn hear_session<T: Threads + Wait + Sync, R: Source>(
+pub fn hear_session<B: SharedBook + Send, T: Threads + Wait + Sync, R: Source>(
     rt: &T,
     alloc: Global,
     config: Config,
@@ -83,6 +84,6 @@ pub fn hear_session<T: Threads + Wait + Sync, R: Source>(
         (λ script. HasHeard config script result.0 result.1.written.bytes (map heard_in result.1.heard.lines)) }
 {
     let mut listener = Listener::new();
-    let status = run_session(rt, alloc, config, reader, &mut listener, &OpenGate);
+    let status = run_session::<B, _, _, _, _>(rt, alloc, config, reader, &mut listener, &OpenGate);
     (status, listener)
 }

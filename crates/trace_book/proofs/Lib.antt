@@ -1,3 +1,1 @@
-pub mod SameBases
-pub mod Asking
 pub mod BookCalls

@@ -1,5 +1,3 @@
 pub mod BookSeen
 pub mod Books
-pub mod Bases
-pub mod Asks
 pub mod private

@@ -1,15 +1,14 @@
-//! The book: it runs a tracer's commands, and keeps their history and the state that it leads to; and a call, by which one of several threads that
-//! share a book through a lock has it run a command.
+//! The book: it runs a tracer's commands, and keeps their history and the state that it leads to. Callers can share it through a lock (shared_book).
 #![tactic(auto)]
 
 mod book;
-mod call;
 mod logged;
+mod shared;
 mod tracer;
 
 pub use book::Book;
-pub use call::{ask, ask_emission, ask_read};
 pub use command_log::{CommandRef, Entries, EntryRef, PairRefs};
+pub use shared_book::{ask, ask_emission, ask_read};
 pub use trace_command::{BorrowedEmission, Command, Config, Entry, Pairs, Refusal, Reply};
 pub use trace_format::{BorrowedPair, Pair};
 pub use trace_history::laws;

@@ -1,6 +1,6 @@
 //! What a lock sees of a book.
 
-ghost use Rattle.trace_book.specs.Bases.{numbers_of};
+ghost use Rattle.shared_book.specs.Bases.{numbers_of};
 
 use crate::book::Book;
 use ticket_lock::Logged;

@@ -12,7 +12,7 @@ use Rattle.trace_command.specs.declared.refusal.Refusal.TheVariants.{Memory, Wor
 use Rattle.trace_history.specs.History.{answer_to}
 use Rattle.trace_history.proofs.Unworn.{memory_is_no_answer}
 use Rattle.trace_session.specs.Passes.{IsSessionPass, IsRefusedEarly}
-use Rattle.trace_book.specs.Asks.{IsRefused}
+use Rattle.shared_book.specs.Asks.{IsRefused}
 
 -- no refusal is given that says of itself that memory was refused
 not_memory : (g : Config) (entries : List Entry) (command : Command) → IsErr (answer_to g entries command)

@@ -1,7 +1,7 @@
 -- The turn of a line whose command was answered, as the pass of a session tells it.
 use Rattle.std.proofs.Common.{◌≡◌, ◌≢◌, ◌∙◌, ◌+◌, ℕ, Bool, false, List, [], ◌∷◌, ◌++◌, Option, Some, Result, Ok, Err, IfOk, IfErr, refl, ap, sym, subst, append-nil, arith}
 use Rattle.ticket_lock.specs.declared.views.View.{View}
-use Rattle.trace_book.specs.Asks.{IsDone, IsRefused}
+use Rattle.shared_book.specs.Asks.{IsDone, IsRefused}
 use Rattle.trace_command.specs.declared.command.Command.{Command}
 use Rattle.trace_command.specs.declared.command.Config.{Config}
 use Rattle.trace_command.specs.declared.command.Entry.{Entry}

@@ -3,8 +3,9 @@ use Rattle.std.proofs.Common.{◌≡◌, ℕ, Bool, Vec, List, [], ◌∷◌, �
 use Rattle.std.proofs.lemmas.List.{length-map}
 use Rattle.std.proofs.lemmas.List.Elements.{All-head, All-tail}
 use Rattle.std.specs.declared.alloc.Global.{Global}
+use Rattle.shared_book.specs.Bases.{numbers_of}
 use Rattle.ticket_lock.specs.declared.views.View.{View}
-use Rattle.trace_history.specs.Blocks.{Trail, IsUnworn, StandsIn}
+use Rattle.trace_history.specs.Blocks.{Trail, IsBlock, IsUnworn, StandsIn}
 use Rattle.trace_history.specs.History.{IsLegal}
 use Rattle.trace_history.specs.Trails.{IsTrail}
 use Rattle.trace_command.specs.declared.command.Command.{Command}
@@ -22,9 +23,18 @@ use Rattle.trace_session.specs.Sessions.{status_of}
 use Rattle.thread_output.specs.declared.outcome_at.OutcomeAt.{OutcomeAt}
 use Rattle.trace_session.specs.declared.status.Status.{Status}
 use Rattle.trace_session.proofs.PartWriting.{numbered_is, are_outcomes}
-use Rattle.trace_workers.proofs.Blocking.{is_block}
 use Rattle.trace_workers.specs.BlockRuns.{trails_of, commands_of as commands_asked, IsAfterBlock}
 use Rattle.trace_workers.specs.declared.part.Part.{Part}
+
+-- what was done after a legal history is a block
+is_block : (g : Config) (v w : View Entry) (trails : List Trail) (after : IsAfterBlock v w trails) → numbers_of g ≡ v.base → IsLegal g v.seen
+    → IsBlock g v.seen after.after trails
+is_block g v w trails after is legal = record {
+  each = after.each g is;
+  distinct = after.distinct;
+  callers = after.callers g is;
+  legal = after.legal g is legal;
+}
 
 abbrev Answer : Type 0
 Answer = Result Reply Refusal

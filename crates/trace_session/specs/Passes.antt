@@ -2,7 +2,7 @@
 use Rattle.std.specs.Prelude.{◌≡◌, ◌<◌, ◌⊎◌, All, IsErr}
 use Rattle.ticket_lock.specs.Views.{HasAllNames}
 use Rattle.ticket_lock.specs.declared.views.View.{View}
-use Rattle.trace_book.specs.Bases.{numbers_of}
+use Rattle.shared_book.specs.Bases.{numbers_of}
 use Rattle.trace_command.specs.Refusals.{IsFoundEarly}
 use Rattle.trace_command.specs.Requests.{request_of}
 use Rattle.trace_command.specs.declared.command.Command.{Command}

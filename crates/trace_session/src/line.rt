@@ -13,9 +13,9 @@ ghost use Rattle.trace_session.specs.private.AnswersTold.{IsTold};
 ghost use Rattle.trace_session.specs.Sessions.{Progress, answered, is_fault, turn_of};
 
 use script_reader::Stop;
+use shared_book::SharedBook;
 use std::sync::Wait;
 use ticket_lock::{Pass, TicketLock};
-use trace_book::Book;
 use trace_command::{BorrowedEmission, Command, Refusal, Reply};
 use trace_format::BorrowedPair;
 use trace_script::{EmissionHead, Line, Outcome, PlainRead, ScriptFault};
@@ -48,12 +48,12 @@ fn unasked(said: Result<Line, ScriptFault>) -> Option<Outcome>
 /// Runs a line. A command's ticket is the number of commands before it, refused ones included. If all tickets are drawn, which no script can reach,
 /// the session stops as if out of memory. A refusal found before anything is allocated is the outcome even if memory is refused.
 #[tactic(auto, using(crate::proofs::EarlyRefusals::memory_is_late, crate::proofs::EarlyRefusals::all_drawn), unfolding(crate::specs::Sessions::turn_of))]
-pub(crate) fn ask_line<R: Wait>(
+pub(crate) fn ask_line<B: SharedBook, R: Wait>(
     rt: &R,
-    lock: &TicketLock<Book>,
-    pass: Pass<Book>,
+    lock: &TicketLock<B>,
+    pass: Pass<B>,
     said: Result<Line, ScriptFault>,
-) -> (Pass<Book>, Result<Option<Outcome>, Stop>)
+) -> (Pass<B>, Result<Option<Outcome>, Stop>)
     requires { IsOf lock.now pass }
     ensures of { IsOf lock.now result.0 }
     ensures session { (g : Config) → IsSessionPass g (view_of pass) → IsSessionPass g (view_of result.0) }
@@ -97,13 +97,13 @@ pub(crate) fn outcome_of(answer: Result<Reply, Refusal>) -> Result<Option<Outcom
 /// inlined, so that its answer is not moved.
 #[inline(always)]
 #[tactic(auto, using(crate::proofs::EarlyRefusals::memory_is_late, crate::proofs::EarlyRefusals::all_drawn))]
-pub(crate) fn ask_emission_line<R: Wait>(
+pub(crate) fn ask_emission_line<B: SharedBook, R: Wait>(
     rt: &R,
-    lock: &TicketLock<Book>,
-    pass: Pass<Book>,
+    lock: &TicketLock<B>,
+    pass: Pass<B>,
     head: EmissionHead<'_>,
     pairs: &[BorrowedPair<'_>],
-) -> (Pass<Book>, Result<Reply, Refusal>)
+) -> (Pass<B>, Result<Reply, Refusal>)
     requires { IsOf lock.now pass }
     ensures of { IsOf lock.now result.0 }
     ensures session { (g : Config) → IsSessionPass g (view_of pass) → IsSessionPass g (view_of result.0) }
@@ -122,12 +122,12 @@ pub(crate) fn ask_emission_line<R: Wait>(
 /// As `ask_line`, for this read. It builds no command.
 #[inline(always)]
 #[tactic(auto, using(crate::proofs::EarlyRefusals::memory_is_late, crate::proofs::EarlyRefusals::all_drawn), unfolding(crate::specs::Sessions::turn_of))]
-pub(crate) fn ask_read_line<R: Wait>(
+pub(crate) fn ask_read_line<B: SharedBook, R: Wait>(
     rt: &R,
-    lock: &TicketLock<Book>,
-    pass: Pass<Book>,
+    lock: &TicketLock<B>,
+    pass: Pass<B>,
     read: PlainRead<'_>,
-) -> (Pass<Book>, Result<Option<Outcome>, Stop>)
+) -> (Pass<B>, Result<Option<Outcome>, Stop>)
     requires { IsOf lock.now pass }
     ensures of { IsOf lock.now result.0 }
     ensures session { (g : Config) → IsSessionPass g (view_of pass) → IsSessionPass g (view_of result.0) }

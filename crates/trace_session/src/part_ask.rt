@@ -8,9 +8,9 @@ ghost use Rattle.trace_session.specs.PartTexts.{asked_command};
 ghost use Rattle.trace_workers.specs.Readies.{command_of};
 
 use crate::part_line::AskedLine;
+use shared_book::SharedBook;
 use std::alloc::{AllocError, Global};
 use ticket_lock::Pass;
-use trace_book::Book;
 use trace_script::{Line, plain_emission, prepare};
 use trace_workers::{Asked, Ready};
 
@@ -29,7 +29,11 @@ impl<'a> Asked for AskedLine<'a> {
     ghost command = { asked_command };
 
     #[tactic(auto, using(crate::proofs::PartAsking::same_command))]
-    fn read<'r>(self, alloc: Global, _pass: &Pass<Book>) -> Result<Ready<'r>, AllocError>
+    fn read<'r, B: SharedBook>(
+        self,
+        alloc: Global,
+        _pass: &Pass<B>,
+    ) -> Result<Ready<'r>, AllocError>
     where
         Self: 'r,
     {

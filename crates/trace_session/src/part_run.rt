@@ -18,22 +18,22 @@ use crate::part_split::split_threads;
 use crate::part_text::{PartOutput, write_threads};
 use script_reader::Stop;
 use script_reader::part_line::PartLine;
+use shared_book::SharedBook;
 use std::sync::Wait;
 use std::thread::Threads;
 use ticket_lock::Pass;
-use trace_book::Book;
 use trace_workers::{BlockFault, Gate, run_block_of};
 
 /// Runs the threads of a part concurrently, and returns the output and, if somebody is told, each command's outcome.
 ///
 /// `Memory` if it was refused, if a thread could not be started, or if all tickets are drawn, which no script can reach. After a fault nothing is to
 /// be written for the part, though some of its commands may have been done: the pass has seen them.
-pub fn run_part<R: Threads + Wait + Sync, G: Gate + Sync>(
-    env: &Environment<'_, R, G>,
-    pass: Pass<Book>,
+pub fn run_part<B: SharedBook + Send, R: Threads + Wait + Sync, G: Gate + Sync>(
+    env: &Environment<'_, B, R, G>,
+    pass: Pass<B>,
     threads: Vec<Vec<PartLine<'_>>>,
     is_told: bool,
-) -> (Pass<Book>, Result<PartOutput, Stop>)
+) -> (Pass<B>, Result<PartOutput, Stop>)
     requires of { IsOf env.now.lock.now pass }
     requires session { (g : Config) × IsSessionPass g (view_of pass) }
     requires few { vec_len threads ≤ 8 }

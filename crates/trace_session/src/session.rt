@@ -20,11 +20,11 @@ use crate::step::{do_emission, do_item, do_read};
 use script_reader::item::next_item;
 use script_reader::plain::{plain_item, read_item};
 use script_reader::{MOST_SCRIPT_BYTES, Source, Stop, read_script};
+use shared_book::SharedBook;
 use std::alloc::Global;
 use std::sync::Wait;
 use std::thread::Threads;
 use ticket_lock::{Pass, TicketLock};
-use trace_book::Book;
 use trace_command::Config;
 use trace_workers::Gate;
 
@@ -40,9 +40,9 @@ fn with_item(status: Status, item: Status) -> Status
 }
 
 /// Runs the items of a script in order, up to its end or the first fault, and appends their output to the replies.
-fn do_items<R: Threads + Wait + Sync, W: Sink, G: Gate + Sync>(
-    env: &Environment<'_, R, G>,
-    pass: Pass<Book>,
+fn do_items<B: SharedBook + Send, R: Threads + Wait + Sync, W: Sink, G: Gate + Sync>(
+    env: &Environment<'_, B, R, G>,
+    pass: Pass<B>,
     script: &[u8],
     replies: &mut Replies,
     writer: &mut W,
@@ -121,9 +121,9 @@ fn do_items<R: Threads + Wait + Sync, W: Sink, G: Gate + Sync>(
 
 /// Runs the items of a script in order, up to its end or the first fault, and writes their output. Nothing is left in the buffer unless a device
 /// failed.
-fn do_script<R: Threads + Wait + Sync, W: Sink, G: Gate + Sync>(
-    env: &Environment<'_, R, G>,
-    pass: Pass<Book>,
+fn do_script<B: SharedBook + Send, R: Threads + Wait + Sync, W: Sink, G: Gate + Sync>(
+    env: &Environment<'_, B, R, G>,
+    pass: Pass<B>,
     script: &[u8],
     writer: &mut W,
 ) -> Result<Status, Stop>
@@ -161,7 +161,7 @@ fn do_script<R: Threads + Wait + Sync, W: Sink, G: Gate + Sync>(
 }
 
 /// A new book under a lock whose first ticket is 0, and its root pass.
-fn new_book(alloc: Global, config: Config) -> Result<(TicketLock<Book>, Pass<Book>), Stop>
+fn new_book<B: SharedBook>(alloc: Global, config: Config) -> Result<(TicketLock<B>, Pass<B>), Stop>
     requires { IsInRange config }
     ensures of { IfOk result (λ made. IsOf made.0 made.1) }
     ensures session { IfOk result (λ made. IsSessionPass config (view_of made.1)) }
@@ -170,7 +170,7 @@ fn new_book(alloc: Global, config: Config) -> Result<(TicketLock<Book>, Pass<Boo
     ensures stopped { IsErrOf result Stop.Stopped → ⊥ }
 {
     // The configuration is in range, so a book is refused only if out of memory.
-    let Ok(book) = Book::new(alloc, config) else {
+    let Ok(book) = B::start(alloc, config) else {
         return Err(Stop::Memory);
     };
     let made = TicketLock::starting_at(alloc, 0, book)?;
@@ -178,7 +178,7 @@ fn new_book(alloc: Global, config: Config) -> Result<(TicketLock<Book>, Pass<Boo
 }
 
 /// The session, or why it stopped.
-fn attempt<T: Threads + Wait + Sync, R: Source, W: Sink, G: Gate + Sync>(
+fn attempt<B: SharedBook + Send, T: Threads + Wait + Sync, R: Source, W: Sink, G: Gate + Sync>(
     rt: &T,
     alloc: Global,
     config: Config,
@@ -231,7 +231,7 @@ fn attempt<T: Threads + Wait + Sync, R: Source, W: Sink, G: Gate + Sync>(
         ⊎ HasRisen (W.failures writer.old) (W.failures writer.new)
         ⊎ GivesMore MOST_SCRIPT_BYTES (R.given reader.old) (R.given reader.new) (R.remaining reader.old) }
 {
-    let (lock, root) = new_book(alloc, config)?;
+    let (lock, root) = new_book::<B>(alloc, config)?;
     let script = read_script(alloc, reader)?;
     let env = Environment {
         rt,
@@ -242,7 +242,7 @@ fn attempt<T: Threads + Wait + Sync, R: Source, W: Sink, G: Gate + Sync>(
     do_script(&env, root, &script, writer)
 }
 
-/// Runs a session: reads a script to its end, runs its lines and parallel parts in order on a new book, and writes their output. A part's threads run
+/// Runs a session: reads a script to its end, runs its lines and parallel parts in order on a new book of type `B`, and writes their output. A part's threads run
 /// concurrently; its output is written once all have ended.
 ///
 /// With `Done`, `Refused` and `Fault`, output and status are those of a lawful session of the script (`IsSession`); without parallel parts there is
@@ -257,14 +257,13 @@ fn attempt<T: Threads + Wait + Sync, R: Source, W: Sink, G: Gate + Sync>(
 /// it stopped. A writer that states what it heard has heard of each item written, in order, and of no other (`HearsAll`); with `Device`, of the first.
 ///
 /// It waits for turns and threads, so it is not promised that it returns.
-pub fn run_session<T: Threads + Wait + Sync, R: Source, W: Sink, G: Gate + Sync>(
-    rt: &T,
-    alloc: Global,
-    config: Config,
-    reader: &mut R,
-    writer: &mut W,
-    gate: &G,
-) -> Status
+pub fn run_session<
+    B: SharedBook + Send,
+    T: Threads + Wait + Sync,
+    R: Source,
+    W: Sink,
+    G: Gate + Sync,
+>(rt: &T, alloc: Global, config: Config, reader: &mut R, writer: &mut W, gate: &G) -> Status
     requires { IsInRange config }
 
     // With memory and without failures: a lawful session of the bytes read, whose parts the gate let pass, and of which the writer has heard.
@@ -314,7 +313,7 @@ pub fn run_session<T: Threads + Wait + Sync, R: Source, W: Sink, G: Gate + Sync>
         ⊎ HasRisen (W.failures writer.old) (W.failures writer.new)
         ⊎ GivesMore MOST_SCRIPT_BYTES (R.given reader.old) (R.given reader.new) (R.remaining reader.old) }
 {
-    match attempt(rt, alloc, config, reader, writer, gate) {
+    match attempt::<B, _, _, _, _>(rt, alloc, config, reader, writer, gate) {
         Ok(status) => status,
         Err(Stop::Memory) => Status::Memory,
         Err(Stop::Device) => Status::Device,

@@ -34,11 +34,11 @@ use script_reader::item::ItemRead;
 use script_reader::part::FaultAt;
 use script_reader::part_line::PartLine;
 use script_reader::plain::{PlainItem, ReadItem};
+use shared_book::SharedBook;
 use std::alloc::Global;
 use std::sync::Wait;
 use std::thread;
 use ticket_lock::Pass;
-use trace_book::Book;
 use trace_command::{Refusal, Reply};
 use trace_format::BorrowedPair;
 use trace_script::{Line, Outcome, ScriptFault};
@@ -57,15 +57,15 @@ fn is_silent<W: Sink>(answer: &Result<Reply, Refusal>, writer: &W) -> bool
 /// of it. It is inlined, so that neither its words nor its answer are moved.
 #[inline(always)]
 #[tactic(auto, using(crate::proofs::Stepping::done_unheard, crate::proofs::Stepping::no_fault, crate::proofs::Stepping::untold_flushed, crate::proofs::EmissionTurns::told_faultless))]
-pub(crate) fn do_emission<R: Wait, W: Sink, G>(
-    env: &Environment<'_, R, G>,
-    pass: Pass<Book>,
+pub(crate) fn do_emission<B: SharedBook, R: Wait, W: Sink, G>(
+    env: &Environment<'_, B, R, G>,
+    pass: Pass<B>,
     number: usize,
     plain: &PlainItem<'_>,
     pairs: &[BorrowedPair<'_>],
     replies: &mut Replies,
     writer: &mut W,
-) -> (Pass<Book>, Result<Status, Stop>)
+) -> (Pass<B>, Result<Status, Stop>)
     requires of { IsOf env.now.lock.now pass }
     requires session { (g : Config) × IsSessionPass g (view_of pass) }
     requires says { line_of plain.now.line.now ≡ emission_said plain.now.head pairs.now }
@@ -105,14 +105,14 @@ pub(crate) fn do_emission<R: Wait, W: Sink, G>(
 /// Runs a read whose words lie in its line, and writes its output. It is kept out of line, so that emissions don't take its room.
 #[inline(never)]
 #[tactic(auto, using(crate::proofs::Stepping::no_fault))]
-pub(crate) fn do_read<R: Wait, W: Sink, G>(
-    env: &Environment<'_, R, G>,
-    pass: Pass<Book>,
+pub(crate) fn do_read<B: SharedBook, R: Wait, W: Sink, G>(
+    env: &Environment<'_, B, R, G>,
+    pass: Pass<B>,
     number: usize,
     item: &ReadItem<'_>,
     replies: &mut Replies,
     writer: &mut W,
-) -> (Pass<Book>, Result<Status, Stop>)
+) -> (Pass<B>, Result<Status, Stop>)
     requires of { IsOf env.now.lock.now pass }
     requires session { (g : Config) × IsSessionPass g (view_of pass) }
     requires says { read_said item.now.read ≡ line_of item.now.line.now }
@@ -147,15 +147,15 @@ pub(crate) fn do_read<R: Wait, W: Sink, G>(
 }
 
 /// Runs a single line, and writes its output.
-fn do_line<R: Wait, W: Sink, G>(
-    env: &Environment<'_, R, G>,
-    pass: Pass<Book>,
+fn do_line<B: SharedBook, R: Wait, W: Sink, G>(
+    env: &Environment<'_, B, R, G>,
+    pass: Pass<B>,
     number: usize,
     line: &[u8],
     said: Result<Line, ScriptFault>,
     replies: &mut Replies,
     writer: &mut W,
-) -> (Pass<Book>, Result<Status, Stop>)
+) -> (Pass<B>, Result<Status, Stop>)
     requires of { IsOf env.now.lock.now pass }
     requires session { (g : Config) × IsSessionPass g (view_of pass) }
     requires says { said ≡ line_of line.now }
@@ -190,15 +190,15 @@ fn do_line<R: Wait, W: Sink, G>(
 
 /// Runs a part, and writes its output once all its commands have run. The string begins with the part's first line, which has this number.
 #[tactic(auto, using(crate::proofs::Hearing::told_in_order))]
-fn do_part<R: thread::Threads + Wait + Sync, W: Sink, G: Gate + Sync>(
-    env: &Environment<'_, R, G>,
-    pass: Pass<Book>,
+fn do_part<B: SharedBook + Send, R: thread::Threads + Wait + Sync, W: Sink, G: Gate + Sync>(
+    env: &Environment<'_, B, R, G>,
+    pass: Pass<B>,
     number: usize,
     text: &[u8],
     threads: Vec<Vec<PartLine<'_>>>,
     replies: &mut Replies,
     writer: &mut W,
-) -> (Pass<Book>, Result<Status, Stop>)
+) -> (Pass<B>, Result<Status, Stop>)
     requires of { IsOf env.now.lock.now pass }
     requires session { (g : Config) × IsSessionPass g (view_of pass) }
     requires few { vec_len threads ≤ 8 }
@@ -265,14 +265,19 @@ fn do_fault<W: Sink>(
 /// all its commands have run. A writer that hears is told of each single line, of a fault with its line, and of each command of a part. It is kept
 /// out of line, so that emissions, which are run before, don't take its room.
 #[inline(never)]
-pub(crate) fn do_item<R: thread::Threads + Wait + Sync, W: Sink, G: Gate + Sync>(
-    env: &Environment<'_, R, G>,
-    pass: Pass<Book>,
+pub(crate) fn do_item<
+    B: SharedBook + Send,
+    R: thread::Threads + Wait + Sync,
+    W: Sink,
+    G: Gate + Sync,
+>(
+    env: &Environment<'_, B, R, G>,
+    pass: Pass<B>,
     number: usize,
     item: ItemRead<'_>,
     replies: &mut Replies,
     writer: &mut W,
-) -> (Pass<Book>, Result<Status, Stop>)
+) -> (Pass<B>, Result<Status, Stop>)
     requires of { IsOf env.now.lock.now pass }
     requires session { (g : Config) × IsSessionPass g (view_of pass) }
     requires said { IsSaid item }

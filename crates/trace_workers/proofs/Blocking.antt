@@ -10,8 +10,7 @@ use Rattle.ticket_lock.specs.Moves.{middle_of}
 use Rattle.ticket_lock.specs.Views.{HasAllNames}
 use Rattle.ticket_lock.specs.declared.views.View.{View}
 use Rattle.trace_history.specs.History.{IsLegal}
-use Rattle.trace_history.specs.Blocks.{Trail, StandsIn, IsBlock, IsUnworn}
-use Rattle.trace_book.specs.Bases.{numbers_of}
+use Rattle.trace_history.specs.Blocks.{Trail, StandsIn, IsUnworn}
 use Rattle.trace_workers.specs.BlockRuns.{trails_of, commands_of, Begins, IsAfterBlock}
 use Rattle.trace_workers.specs.Ends.{EndAs, told_fault, reported}
 use Rattle.trace_workers.specs.Gates.{HasReply, LetsBegunPass}
@@ -126,29 +125,6 @@ comes v w trails names callers bounded runs = record {
   legal = λ g is legal. subst (λ (es : List Entry). IsLegal g es) runs.seen (runs.legal g is legal);
   unworn = λ left. runs.unworn (omega (arith, bounded, left));
 }
-
--- what was done after a legal history is a block
-pub is_block : (g : Config) (v w : View Entry) (trails : List Trail) (after : IsAfterBlock v w trails) → numbers_of g ≡ v.base → IsLegal g v.seen
-    → IsBlock g v.seen after.after trails
-is_block g v w trails after is legal = record {
-  each = after.each g is;
-  distinct = after.distinct;
-  callers = after.callers g is;
-  legal = after.legal g is legal;
-}
-
--- and of a history that was empty before it is all
-pub is_history : (g : Config) (v w : View Entry) (trails : List Trail) (entries : List Entry) → v.seen ≡ [] → v.base ≡ numbers_of g → entries ≡ w.seen
-    → IsAfterBlock v w trails → IsLegal g entries → IsBlock g [] entries trails
-is_history g v w trails entries none base all after legal =
-    let is : entries ≡ after.after = all ∙ after.seen ∙ ap (λ (es : List Entry). es ++ after.after) none in
-    record {
-      each = subst (λ (es : List Entry). All (StandsIn g [] es) trails) (sym is)
-          (subst (λ (es : List Entry). All (StandsIn g es after.after) trails) none (after.each g (sym base)));
-      distinct = after.distinct;
-      callers = subst (λ (es : List Entry). All (λ (entry : Entry). Any (λ (trail : Trail). trail.by ≡ entry.by) trails) es) (sym is) (after.callers g (sym base));
-      legal = legal;
-    }
 
 -- ---- a block that was not begun_trail
 

@@ -7,10 +7,10 @@ use Rattle.ticket_lock.specs.declared.views.View.{View}
 use Rattle.ticket_lock.specs.Entries.{is_under, entries_under}
 use Rattle.ticket_lock.specs.Moves.{after_look}
 use Rattle.trace_history.specs.History.{IsLegal}
-use Rattle.trace_book.specs.Bases.{numbers_of}
+use Rattle.shared_book.specs.Bases.{numbers_of}
 use Rattle.trace_history.specs.Trails.{IsTrail, IsWithout, IsRefusedAfter}
 use Rattle.trace_history.specs.Blocks.{Trail, StandsIn, IsUnworn}
-use Rattle.trace_book.specs.Asks.{GoesOn, IsDone, IsRefused, IsUndone, AreOthers}
+use Rattle.shared_book.specs.Asks.{GoesOn, IsDone, IsRefused, IsUndone, AreOthers}
 use Rattle.trace_workers.specs.PartRuns.{IsNameOf, HasRun, begun_trail, HasAsked}
 use Rattle.trace_command.specs.declared.command.Command.{Command}
 use Rattle.trace_command.specs.declared.command.Config.{Config}

@@ -5,8 +5,8 @@ use Rattle.ticket_lock.specs.Views.{HasAllNames}
 use Rattle.ticket_lock.specs.declared.views.View.{View}
 use Rattle.trace_history.specs.History.{IsLegal}
 use Rattle.trace_history.specs.Blocks.{Trail, StandsIn, IsUnworn}
-use Rattle.trace_book.specs.Bases.{numbers_of}
-use Rattle.trace_book.specs.Asks.{IsAhead}
+use Rattle.shared_book.specs.Bases.{numbers_of}
+use Rattle.shared_book.specs.Asks.{IsAhead}
 use Rattle.trace_workers.specs.declared.part.Part.{Part}
 use Rattle.trace_command.specs.declared.command.Command.{Command}
 use Rattle.trace_command.specs.declared.command.Config.{Config}

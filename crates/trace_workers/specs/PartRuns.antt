@@ -4,8 +4,8 @@ use Rattle.std.specs.Prelude.{◌≡◌, ◌≢◌, ℕ, ◌+◌, ◌≤◌, ◌
 use Rattle.ticket_lock.specs.declared.views.View.{View}
 use Rattle.trace_history.specs.History.{IsLegal}
 use Rattle.trace_history.specs.Blocks.{Trail, StandsIn, IsUnworn}
-use Rattle.trace_book.specs.Bases.{numbers_of}
-use Rattle.trace_book.specs.Asks.{GoesOn}
+use Rattle.shared_book.specs.Bases.{numbers_of}
+use Rattle.shared_book.specs.Asks.{GoesOn}
 use Rattle.trace_workers.specs.Ends.{StopsHere, IsShort}
 use Rattle.trace_workers.specs.declared.fault.BlockFault.{BlockFault}
 use Rattle.trace_workers.specs.declared.fault.BlockFault.TheVariants.{Memory, Stopped, NoThread}

@@ -4,9 +4,9 @@ ghost use Rattle.std.specs.Prelude.{◌≡◌, IfOk};
 ghost use Rattle.trace_command.specs.declared.command.Command.{Command};
 ghost use Rattle.trace_workers.specs.Readies.{command_of};
 
+use shared_book::SharedBook;
 use std::alloc::{AllocError, Global};
 use ticket_lock::Pass;
-use trace_book::Book;
 use trace_command::Command;
 use trace_format::BorrowedPair;
 
@@ -33,7 +33,7 @@ pub trait Asked {
     ghost command: { Self → Command };
 
     /// The command, ready to be asked. It fails only if memory is refused.
-    fn read<'r>(self, alloc: Global, pass: &Pass<Book>) -> Result<Ready<'r>, AllocError>
+    fn read<'r, B: SharedBook>(self, alloc: Global, pass: &Pass<B>) -> Result<Ready<'r>, AllocError>
     where
         Self: 'r,
         ensures { IfOk result (λ ready. command_of ready ≡ command self) };
@@ -42,7 +42,11 @@ pub trait Asked {
 impl Asked for Command {
     ghost command = { λ command. command };
 
-    fn read<'r>(self, _alloc: Global, _pass: &Pass<Book>) -> Result<Ready<'r>, AllocError>
+    fn read<'r, B: SharedBook>(
+        self,
+        _alloc: Global,
+        _pass: &Pass<B>,
+    ) -> Result<Ready<'r>, AllocError>
     where
         Self: 'r,
     {

@@ -29,6 +29,7 @@ use crate::gate::Gate;
 use crate::part::Part;
 use crate::thread::{Given, Returned, run_part};
 use core::thread::Stack;
+use shared_book::{SharedBook, join};
 use std::alloc::{AllocError, Global};
 use std::snapshot::Snapshot;
 use std::sync::Wait;
@@ -36,7 +37,6 @@ use std::sync::atomic::{AtomicBool, Ordering};
 use std::thread;
 use std::thread::{Scope, Threads};
 use ticket_lock::{Pass, TicketLock};
-use trace_book::Book;
 use trace_command::Command;
 
 /// The bytes of a thread's stack. Eight parts need 4 MiB, whatever the system's settings. In a trial a part used less than a tenth of its stack.
@@ -44,25 +44,32 @@ const STACK_BYTES: usize = 512 * 1024;
 
 // The result of some parts: their passes joined, what each of them ran, and the fault to report.
 #[derive(Drop)]
-struct Ended {
-    pass: Pass<Book>,
+struct Ended<B: SharedBook> {
+    pass: Pass<B>,
     done: Vec<Part>,
     fault: Option<BlockFault>,
 }
 
 // Runs the last part on a thread of its own under the upper half of the names, and the parts before it under the lower half. `done` has room for
 // their results. If a thread can't be started, `missed` is set, and the part, called here, only returns its pass, with the fault `NoThread`.
-fn run_parts<'s, E, R: Threads + Wait + Sync, G: Gate + Sync, C: Asked + Send + Drop + 's>(
+fn run_parts<
+    's,
+    B: SharedBook + Send + 's,
+    E,
+    R: Threads + Wait + Sync,
+    G: Gate + Sync,
+    C: Asked + Send + Drop + 's,
+>(
     scope: &Scope<'s, E>,
     rt: &'s R,
     alloc: Global,
-    lock: &'s TicketLock<Book>,
-    pass: Pass<Book>,
+    lock: &'s TicketLock<B>,
+    pass: Pass<B>,
     mut parts: Vec<Vec<C>>,
     done: Vec<Part>,
     gate: &'s G,
     missed: &'s AtomicBool,
-) -> Ended
+) -> Ended<B>
     requires of { IsOf lock.now pass }
     requires names { 2 ^ vec_len parts ≤ (view_of pass).end - (view_of pass).low }
     requires few { vec_len parts ≤ 8 }
@@ -102,7 +109,7 @@ fn run_parts<'s, E, R: Threads + Wait + Sync, G: Gate + Sync, C: Asked + Send + 
     let started = Stack::new().stack_size(STACK_BYTES).spawn_scoped_with(
         scope,
         given,
-        move || -> Returned
+        move || -> Returned<B>
             requires { IsOf lock.now upper × ((view_of upper).low < (view_of upper).end) }
             ensures { IsOf lock.entry.now result.pass × (result.part.by ≡ (view_of upper).low)
                 × HasAsked (view_of upper) (view_of result.pass) (map C.command commands.items) result.part.replies.items result.fault
@@ -130,7 +137,7 @@ fn run_parts<'s, E, R: Threads + Wait + Sync, G: Gate + Sync, C: Asked + Send + 
     } = returned;
     done.push_reserved(part);
     Ended {
-        pass: lock.join(lower, upper),
+        pass: join(lock, lower, upper),
         done,
         fault: first_of(before, fault),
     }
@@ -150,14 +157,19 @@ fn room_for_results(alloc: Global, parts: usize) -> Result<Vec<Part>, AllocError
 
 /// Runs a block as [`run_block`] does, whose parts keep their commands in a form of their own: what is said there of the commands is said here of
 /// the commands that the parts ask for.
-pub fn run_block_of<R: Threads + Wait + Sync, G: Gate + Sync, C: Asked + Send + Drop>(
+pub fn run_block_of<
+    B: SharedBook + Send,
+    R: Threads + Wait + Sync,
+    G: Gate + Sync,
+    C: Asked + Send + Drop,
+>(
     rt: &R,
     alloc: Global,
-    lock: &TicketLock<Book>,
+    lock: &TicketLock<B>,
     gate: &G,
-    root: Pass<Book>,
+    root: Pass<B>,
     parts: Vec<Vec<C>>,
-) -> (Pass<Book>, Result<Vec<Part>, BlockFault>)
+) -> (Pass<B>, Result<Vec<Part>, BlockFault>)
     requires of { IsOf lock.now root }
     requires names { HasAllNames (view_of root) }
     requires few { vec_len parts ≤ 8 }
@@ -181,7 +193,7 @@ pub fn run_block_of<R: Threads + Wait + Sync, G: Gate + Sync, C: Asked + Send + 
     let ended = thread::scope(
         thread::scope_env(),
         rt,
-        |scope| -> Ended
+        |scope| -> Ended<B>
             requires { IsOf lock.now root × HasAllNames (view_of root) × (vec_len parts ≤ 8) × (done.items ≡ [])
                 × (vec_len done + vec_len parts ≤ vec_capacity done) }
             ensures { IsOf lock.entry.now result.pass
@@ -213,14 +225,14 @@ pub fn run_block_of<R: Threads + Wait + Sync, G: Gate + Sync, C: Asked + Send + 
 /// started, the result is a fault without replies, but the pass still has all names and has seen what was done.
 ///
 /// It waits for turns and threads, so neither that it returns nor the order of turns is promised.
-pub fn run_block<R: Threads + Wait + Sync, G: Gate + Sync>(
+pub fn run_block<B: SharedBook + Send, R: Threads + Wait + Sync, G: Gate + Sync>(
     rt: &R,
     alloc: Global,
-    lock: &TicketLock<Book>,
-    root: Pass<Book>,
+    lock: &TicketLock<B>,
+    root: Pass<B>,
     parts: Vec<Vec<Command>>,
     gate: &G,
-) -> (Pass<Book>, Result<Vec<Part>, BlockFault>)
+) -> (Pass<B>, Result<Vec<Part>, BlockFault>)
     requires of { IsOf lock.now root }
     requires names { HasAllNames (view_of root) }
     requires few { vec_len parts ≤ 8 }

@@ -3,26 +3,26 @@
 ghost use Rattle.std.specs.Prelude.{◌≡◌, ◌≢◌, Err, IfOk, IfErr};
 ghost use Rattle.ticket_lock.specs.Calls.{view_of, IsOf};
 ghost use Rattle.trace_history.specs.History.{IsLegal};
-ghost use Rattle.trace_book.specs.Bases.{numbers_of};
-ghost use Rattle.trace_book.specs.Asks.{GoesOn, IsDone, IsRefused, IsUndone};
+ghost use Rattle.shared_book.specs.Bases.{numbers_of};
+ghost use Rattle.shared_book.specs.Asks.{GoesOn, IsDone, IsRefused, IsUndone};
 ghost use Rattle.trace_command.specs.declared.command.Config.{Config};
 ghost use Rattle.trace_command.specs.declared.refusal.Refusal.TheVariants.{Memory};
 ghost use Rattle.trace_workers.specs.Readies.{command_of};
 
 use crate::asked::{Asked, Ready};
+use shared_book::{SharedBook, ask, ask_emission};
 use std::alloc::Global;
 use std::sync::Wait;
 use ticket_lock::{Pass, TicketLock};
-use trace_book::{Book, ask, ask_emission};
 use trace_command::{BorrowedEmission, Refusal, Reply};
 
 // Asks the book for a command that was read, as `ask` does.
-fn ask_ready<R: Wait>(
+fn ask_ready<B: SharedBook, R: Wait>(
     rt: &R,
-    lock: &TicketLock<Book>,
-    pass: Pass<Book>,
+    lock: &TicketLock<B>,
+    pass: Pass<B>,
     ready: Ready<'_>,
-) -> (Pass<Book>, Result<Reply, Refusal>)
+) -> (Pass<B>, Result<Reply, Refusal>)
     requires { IsOf lock.now pass }
     ensures of { IsOf lock.now result.0 }
     ensures goes_on { GoesOn (view_of pass) (view_of result.0) }
@@ -47,13 +47,13 @@ fn ask_ready<R: Wait>(
 /// Reads what asks for a command, and then asks the book for it, as [`ask`] does. Memory may be refused before the book is asked; then no ticket
 /// needs to be drawn. The lock is not held as it reads.
 #[tactic(auto, using(crate::proofs::Working::refused_unless_memory, crate::proofs::Working::undone, crate::proofs::Asking::stays, crate::proofs::Asking::idle, crate::proofs::Asking::done_as, crate::proofs::Asking::refused_as))]
-pub fn ask_in<R: Wait, C: Asked>(
+pub fn ask_in<B: SharedBook, R: Wait, C: Asked>(
     rt: &R,
     alloc: Global,
-    lock: &TicketLock<Book>,
-    pass: Pass<Book>,
+    lock: &TicketLock<B>,
+    pass: Pass<B>,
     asked: C,
-) -> (Pass<Book>, Result<Reply, Refusal>)
+) -> (Pass<B>, Result<Reply, Refusal>)
     requires { IsOf lock.now pass }
     ensures of { IsOf lock.now result.0 }
     ensures goes_on { GoesOn (view_of pass) (view_of result.0) }

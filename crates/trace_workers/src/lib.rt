@@ -1,4 +1,4 @@
-//! Threads that share one book through a lock: a block of parts on threads of their own, and a whole run over a new book.
+//! Threads that share one book through a lock: a block of parts, each on a thread of its own.
 #![tactic(auto)]
 
 mod asked;
@@ -6,7 +6,6 @@ mod block;
 mod call;
 mod fault;
 mod gate;
-mod history;
 mod part;
 mod thread;
 mod worker;
@@ -15,6 +14,5 @@ pub use asked::{Asked, Ready};
 pub use block::{run_block, run_block_of};
 pub use fault::BlockFault;
 pub use gate::{Gate, OpenGate, Point};
-pub use history::history_of;
 pub use part::Part;
-pub use trace_book::{ask, ask_emission, ask_read};
+pub use shared_book::{ask, ask_emission, ask_read};

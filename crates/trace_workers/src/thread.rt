@@ -10,33 +10,33 @@ use crate::fault::BlockFault;
 use crate::gate::Gate;
 use crate::part::Part;
 use crate::worker::{Worker, ask_part};
+use shared_book::SharedBook;
 use std::alloc::Global;
 use std::snapshot::Snapshot;
 use std::sync::Wait;
 use std::sync::atomic::{AtomicBool, Ordering};
 use std::thread::Promise;
 use ticket_lock::{Pass, TicketLock};
-use trace_book::Book;
 use trace_command::{Refusal, Reply};
 
 /// What a part's thread returns: the pass, the replies so far, and why it stopped early, if it did.
 #[derive(Drop)]
-pub struct Returned {
-    pub pass: Pass<Book>,
+pub struct Returned<B: SharedBook> {
+    pub pass: Pass<B>,
     pub part: Part,
     pub fault: Option<BlockFault>,
 }
 
 /// A thread's arguments, as its contract names them. Takes no memory.
-pub struct Given<G, C> {
-    pub lock: Snapshot<TicketLock<Book>>,
-    pub pass: Snapshot<Pass<Book>>,
+pub struct Given<B: SharedBook, G, C> {
+    pub lock: Snapshot<TicketLock<B>>,
+    pub pass: Snapshot<Pass<B>>,
     pub commands: Snapshot<Vec<C>>,
     pub thread: Snapshot<u32>,
     pub gate: Snapshot<G>,
 }
 
-impl<G, C> Drop for Given<G, C> {
+impl<B: SharedBook, G, C> Drop for Given<B, G, C> {
     fn drop(self) {
         let Given {
             lock: _,
@@ -48,7 +48,7 @@ impl<G, C> Drop for Given<G, C> {
     }
 }
 
-impl<G: Gate, C: Asked> Promise<Returned> for Given<G, C> {
+impl<B: SharedBook, G: Gate, C: Asked> Promise<Returned<B>> for Given<B, G, C> {
     ghost kept_by = { λ given result. IsOf given.lock.value result.pass
         × (result.part.by ≡ (view_of given.pass.value).low)
         × HasAsked (view_of given.pass.value) (view_of result.pass) (map C.command given.commands.value.items) result.part.replies.items result.fault
@@ -75,16 +75,16 @@ fn room_for(
 }
 
 /// Runs the commands of a part. If the block has failed to start a thread, it runs none and returns the pass, so that no names are lost.
-pub fn run_part<R: Wait, G: Gate, C: Asked + Drop>(
+pub fn run_part<B: SharedBook, R: Wait, G: Gate, C: Asked + Drop>(
     rt: &R,
     alloc: Global,
-    lock: &TicketLock<Book>,
-    pass: Pass<Book>,
+    lock: &TicketLock<B>,
+    pass: Pass<B>,
     commands: Vec<C>,
     thread: u32,
     gate: &G,
     missed: &AtomicBool,
-) -> Returned
+) -> Returned<B>
     requires of { IsOf lock.now pass }
     requires named { (view_of pass).low < (view_of pass).end }
     ensures of { IsOf lock.now result.pass }

@@ -13,16 +13,16 @@ use crate::asked::Asked;
 use crate::call::ask_in;
 use crate::fault::BlockFault;
 use crate::gate::{Gate, Point};
+use shared_book::SharedBook;
 use std::alloc::Global;
 use std::sync::Wait;
 use ticket_lock::{Pass, TicketLock};
-use trace_book::Book;
 use trace_command::{Refusal, Reply};
 
 /// A worker between two calls: its pass, and the replies so far.
 #[derive(Drop)]
-pub struct Worker {
-    pub pass: Pass<Book>,
+pub struct Worker<B: SharedBook> {
+    pub pass: Pass<B>,
     pub replies: Vec<Result<Reply, Refusal>>,
 }
 
@@ -37,15 +37,15 @@ fn is_memory(answer: &Result<Reply, Refusal>) -> bool
 }
 
 // Runs one command of a part. The gate is asked before and after it, never while the lock is held. Nor is it held as the command is read.
-fn take_turn<R: Wait, G: Gate, C: Asked + Drop>(
+fn take_turn<B: SharedBook, R: Wait, G: Gate, C: Asked + Drop>(
     rt: &R,
     alloc: Global,
-    lock: &TicketLock<Book>,
-    worker: Worker,
+    lock: &TicketLock<B>,
+    worker: Worker<B>,
     command: C,
     thread: u32,
     gate: &G,
-) -> (Worker, Option<BlockFault>)
+) -> (Worker<B>, Option<BlockFault>)
     requires of { IsOf lock.now worker.pass }
     requires named { (view_of worker.pass).low < (view_of worker.pass).end }
     requires room { vec_len worker.replies < vec_capacity worker.replies }
@@ -80,15 +80,15 @@ fn take_turn<R: Wait, G: Gate, C: Asked + Drop>(
 }
 
 /// Runs the commands of a part in order, and stops at the first fault. The replies have room reserved.
-pub fn ask_part<R: Wait, G: Gate, C: Asked + Drop>(
+pub fn ask_part<B: SharedBook, R: Wait, G: Gate, C: Asked + Drop>(
     rt: &R,
     alloc: Global,
-    lock: &TicketLock<Book>,
-    worker: Worker,
+    lock: &TicketLock<B>,
+    worker: Worker<B>,
     commands: Vec<C>,
     thread: u32,
     gate: &G,
-) -> (Worker, Option<BlockFault>)
+) -> (Worker<B>, Option<BlockFault>)
     requires of { IsOf lock.now worker.pass }
     requires named { (view_of worker.pass).low < (view_of worker.pass).end }
     requires empty { worker.replies.items ≡ [] }

@@ -19,6 +19,7 @@ use std::process::ExitCode;
 use std::sync::Wait;
 use std::thread::Threads;
 use stop::tell;
+use trace_book::Book;
 use trace_command::Config;
 use trace_session::{Input, OpenGate, Output, Sink, Status, run_session};
 
@@ -35,7 +36,7 @@ fn session_to<R: Read + Drop, W: Sink + Drop>(
 {
     let mut input = Input::new(script);
     let mut output = Listed::new(rt.alloc(), output, lists);
-    let status = run_session(
+    let status = run_session::<Book, _, _, _, _>(
         threads,
         rt.alloc(),
         config,

@@ -7,7 +7,7 @@ use Rattle.ticket_lock.specs.declared.views.View.{View}
 use Rattle.trace_history.specs.History.{answer_to}
 use Rattle.trace_history.specs.LateMemory.{TakesMemoryLate}
 use Rattle.trace_history.specs.Trails.{IsDoneAfter, IsRefusedAfter}
-use Rattle.trace_book.specs.Bases.{numbers_of}
+use Rattle.shared_book.specs.Bases.{numbers_of}
 use Rattle.trace_command.specs.Refusals.{IsFoundEarly}
 use Rattle.trace_command.specs.Requests.{request_of}
 use Rattle.trace_command.specs.declared.command.Command.{Command}

@@ -1,6 +1,6 @@
 use Rattle.std.proofs.Common.{◌≡◌, ◌≢◌, ◌<◌, ◌⊎◌, inl, inr, Result, Ok, Err, IfOk, IfErr, [], map, vec_len, AllPairs, sym, subst, ◌∙◌, rules}
 use Rattle.ticket_lock.specs.Calls.{view_of}
-use Rattle.trace_book.proofs.SameBases.{numbers_of-determines}
+use Rattle.shared_book.proofs.SameBases.{numbers_of-determines}
 use Rattle.trace_command.specs.declared.command.Config.{Config}
 use Rattle.trace_command.specs.declared.command.Entry.{Entry}
 use Rattle.trace_history.specs.Blocks.{IsBlock}
@@ -9,8 +9,8 @@ use Rattle.trace_workers.specs.BlockRuns.{trails_of}
 use Rattle.trace_workers.specs.Gates.{LetsAllPass, StopsOne}
 use Rattle.trace_workers.specs.declared.fault.BlockFault.{BlockFault}
 use Rattle.trace_workers.specs.declared.fault.BlockFault.TheVariants.{Memory, Stopped}
-use Rattle.trace_workers.proofs.Blocking.{is_history}
-use Rattle.trace_workers.proofs.history.history_of.Goals as goal
+use Rattle.thread_history.proofs.Histories.{is_history}
+use Rattle.thread_history.proofs.history.history_of.Goals as goal
 
 -- what is true of the book and of all replies is true of those that are returned
 kept : {A B E : Type 0} (book : A) (done : Result B E) (result : Result (A × B) E) → IfOk result (λ r. (r.0 ≡ book) × (done ≡ Ok r.1))

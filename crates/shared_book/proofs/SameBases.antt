@@ -1,6 +1,6 @@
 -- The numbers of a configuration determine it.
 use Rattle.std.proofs.Common.{◌≡◌, ℕ, ap, ◌∙◌}
-use Rattle.trace_book.specs.Bases.{numbers_of}
+use Rattle.shared_book.specs.Bases.{numbers_of}
 use Rattle.trace_command.specs.declared.command.Config.{Config}
 
 pub numbers_of-determines : (g k : Config) → numbers_of g ≡ numbers_of k → g ≡ k

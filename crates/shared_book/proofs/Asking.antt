@@ -1,18 +1,17 @@
 -- A turn at the lock, in which the book is asked.
-use Rattle.std.proofs.Common.{◌≡◌, ◌≢◌, ℕ, ◌+◌, ◌<◌, ◌≤◌, ◌^◌, true, nat_le, nat_lt, List, [], ◌∷◌, ◌++◌, drop, length, All, append-nil, Result, Ok, Err, IfOk, IfErr, OnOk, OnErr, refl, sym, ap, ◌∙◌, subst, arith}
+use Rattle.std.proofs.Common.{◌≡◌, ◌≢◌, inl, inr, ℕ, ◌+◌, ◌<◌, ◌≤◌, ◌^◌, true, nat_le, nat_lt, List, [], ◌∷◌, ◌++◌, drop, length, All, append-nil, Result, Ok, Err, IfOk, IfErr, OnOk, OnErr, refl, sym, ap, ◌∙◌, subst, arith}
 use Rattle.std.proofs.lemmas.List.{drop_at}
 use Rattle.std.proofs.lemmas.List.Elements.{filter-append, All-head, All-drop, All-same, All-weaker, All-push}
 use Rattle.std.proofs.lemmas.Bool.Decides.{nat_tests}
-use Rattle.ticket_lock.specs.Calls.{mine_of, IsDrawn, Finds, IsBack, IsWorn}
+use Rattle.ticket_lock.specs.Calls.{mine_of, IsDrawn, IsMet, Finds, IsBack, IsWorn, MayLeave}
 use Rattle.ticket_lock.specs.Entries.{is_under, entries_under}
 use Rattle.ticket_lock.specs.Views.{HasAllNames}
 use Rattle.ticket_lock.specs.declared.views.View.{View}
-use Rattle.trace_history.specs.History.{answer_to}
+use Rattle.trace_history.specs.History.{answer_to, IsLegal}
 use Rattle.trace_history.specs.LateMemory.{TakesMemoryLate}
 use Rattle.trace_history.proofs.Unworn.{worn_is_no_answer}
-use Rattle.trace_book.specs.Bases.{numbers_of}
-use Rattle.trace_book.proofs.SameBases.{numbers_of-determines}
-use Rattle.trace_book.specs.BookSeen.{BookSeen}
+use Rattle.shared_book.specs.Bases.{numbers_of}
+use Rattle.shared_book.proofs.SameBases.{numbers_of-determines}
 use Rattle.trace_command.specs.Refusals.{OrMemory, IsFoundEarly}
 use Rattle.trace_command.specs.Requests.{request_of}
 use Rattle.trace_command.specs.declared.command.Command.{Command}
@@ -21,7 +20,7 @@ use Rattle.trace_command.specs.declared.command.Entry.{Entry}
 use Rattle.trace_command.specs.declared.command.Reply.{Reply}
 use Rattle.trace_command.specs.declared.refusal.Refusal.{Refusal}
 use Rattle.trace_command.specs.declared.refusal.Refusal.TheVariants.{Memory, Worn}
-use Rattle.trace_book.specs.Asks.{caller_of, AreOthers, GoesOn, IsAhead, Rises, IsDone, IsRefused}
+use Rattle.shared_book.specs.Asks.{caller_of, AreOthers, GoesOn, IsAhead, Rises, IsDone, IsRefused}
 
 -- an entry under the first name is the pass's own
 own_entry : (low end : ℕ) (entry : Entry) → entry.by ≡ low → low < end → entries_under caller_of low end (entry ∷ []) ≡ entry ∷ []
@@ -126,9 +125,52 @@ module _ (v h w : View Entry) (served : ℕ) (drawn : IsDrawn v h served) where
       worn = λ is. absurd (worn_is_no_answer config h.seen command (answer (λ memory. cc (is, memory)) ∙ ap (λ (r : Refusal). Err r) is));
     }
 
+-- what a lock finds of entries whose ticket and caller it reads from themselves
+pub found_of : {ticket by : Entry → ℕ} → ticket ≡ (λ (e : Entry). e.ticket) → by ≡ caller_of → (v : View Entry) (served : ℕ) (found : List Entry)
+    → Finds ticket by v served found → Finds (λ (e : Entry). e.ticket) caller_of v served found
+found_of {ticket} {by} tickets callers v served found finds =
+    subst (λ (f : Entry → ℕ). Finds (λ (e : Entry). e.ticket) f v served found) callers (subst (λ (f : Entry → ℕ). Finds f by v served found) tickets finds)
+
+-- and what may be left there
+pub left_of : {ticket by : Entry → ℕ} → ticket ≡ (λ (e : Entry). e.ticket) → by ≡ caller_of → (v : View Entry) (served : ℕ) (left : List Entry)
+    → MayLeave (λ (e : Entry). e.ticket) caller_of v served left → MayLeave ticket by v served left
+left_of {ticket} {by} tickets callers v served left may =
+    subst (λ (f : Entry → ℕ). MayLeave f by v served left) (sym tickets)
+    (subst (λ (f : Entry → ℕ). MayLeave (λ (e : Entry). e.ticket) f v served left) (sym callers) may)
+
+-- and what passes that met have seen
+pub met_of : {ticket by : Entry → ℕ} → ticket ≡ (λ (e : Entry). e.ticket) → by ≡ caller_of → (v w m : View Entry) → IsMet ticket by v w m
+    → IsMet (λ (e : Entry). e.ticket) (λ (e : Entry). e.by) v w m
+met_of {ticket} {by} tickets callers v w m met =
+    subst (λ (f : Entry → ℕ). IsMet (λ (e : Entry). e.ticket) f v w m) callers (subst (λ (f : Entry → ℕ). IsMet f by v w m) tickets met)
+
+-- a book, as its configuration and its entries
+pub record Kept : Type 0 where
+  pub config : Config
+  pub entries : List Entry
+
+abbrev pub kept_of : {T : Type 0} → (T → Config) → (T → List Entry) → T → Kept
+kept_of made_with entries book = record { config = made_with book; entries = entries book }
+
+pub kept_same : {T : Type 0} (made_with : T → Config) (entries : T → List Entry) (one other : T) → one ≡ other
+    → kept_of made_with entries one ≡ kept_of made_with entries other
+kept_same {T} made_with entries one other same = ap (λ (book : T). kept_of made_with entries book) same
+
+-- the base is the one that was found, where the configuration is
+pub base_same : {T : Type 0} (made_with : T → Config) (base : T → List ℕ) → ((book : T) → base book ≡ numbers_of (made_with book))
+    → (held before after : T) → before ≡ held → made_with after ≡ made_with before → base after ≡ base held
+base_same made_with base bases held before after lent same = bases after ∙ ap numbers_of same ∙ sym (bases before) ∙ ap base lent
+
+-- what a call comes to that took a turn
+pub record Comes (v w : View Entry) (command : Command) (answered : Result Reply Refusal) : Type 0 where
+  pub goes_on : GoesOn v w
+  pub done : IfOk answered (IsDone v w command)
+  pub refused : IfErr answered (IsRefused v w command)
+  pub legal : (g : Config) → numbers_of g ≡ v.base → IsLegal g v.seen → IsLegal g w.seen
+
 -- The turn as the code takes it: a value of the lock is a book, which is asked under the ticket and the first name.
 module _
-    (v h w : View Entry) (served ticket by : ℕ) (value before after : BookSeen) (command : Command) (answered : Result Reply Refusal)
+    (v h w : View Entry) (served ticket by : ℕ) (value before after : Kept) (command : Command) (answered : Result Reply Refusal)
     (named : v.low < v.end)
     (drawn : IsDrawn v h served) (finds : Finds (λ (e : Entry). e.ticket) caller_of v served h.seen)
     (entries : value.entries ≡ h.seen) (base : numbers_of value.config ≡ v.base) (lent : before ≡ value)
@@ -140,7 +182,7 @@ module _
     found : before.entries ≡ h.seen
     found = rw lent entries
 
-    pub asked_goes_on : OnOk answered (after.entries ≡ before.entries ++ record { ticket = ticket; by = by; command = command } ∷ [])
+    asked_goes_on : OnOk answered (after.entries ≡ before.entries ++ record { ticket = ticket; by = by; command = command } ∷ [])
         → OnErr answered (after.entries ≡ before.entries) → IsBack h w after.entries → GoesOn v w
     asked_goes_on grown same back = goes_on v h w served drawn after.entries back (go answered grown same)
       where
@@ -159,7 +201,7 @@ module _
             (All-push (λ (e : Entry). e.ticket < served + 1) h.seen entry below (omega (arith, ticket_is)))
         go (Err refusal) more kept = subst (λ (es : List Entry). P es) (sym (kept ∙ found)) below
 
-    pub asked_done : OrMemory answered (answer_to before.config before.entries command)
+    asked_done : OrMemory answered (answer_to before.config before.entries command)
         → OnOk answered (after.entries ≡ before.entries ++ record { ticket = ticket; by = by; command = command } ∷ [])
         → IsBack h w after.entries → IfOk answered (IsDone v w command)
     asked_done reply grown back = go answered reply grown
@@ -176,7 +218,7 @@ module _
             (subst P left back) (subst Q found is)
         go (Err refusal) is more = tt
 
-    pub asked_refused : OrMemory answered (answer_to before.config before.entries command)
+    asked_refused : OrMemory answered (answer_to before.config before.entries command)
         → (IsFoundEarly (answer_to before.config before.entries command) → answered ≡ answer_to before.config before.entries command)
         → (TakesMemoryLate (request_of command) → IfErr (answer_to before.config before.entries command) (λ told. answered ≡ Err told))
         → OnErr answered (after.entries ≡ before.entries)
@@ -196,6 +238,45 @@ module _
             refused v h w served drawn finds before.config base_before command refusal
             (subst P (kept ∙ found) back) (subst Q found is) (subst R found (λ is_early. sym (first is_early)))
             (subst S found (λ is_late. told_same refusal (answer_to before.config before.entries command) (late is_late)))
+
+    -- the book is asked under a ticket above all of its own
+    pub asked_above : All (λ (e : Entry). e.ticket < ticket) before.entries
+    asked_above =
+        let P : List Entry → ℕ → Type 0 = λ es n. All (λ (e : Entry). e.ticket < n) es in
+        subst (λ (es : List Entry). P es ticket) (sym found) (subst (λ (n : ℕ). P h.seen n) (sym ticket_is) finds.below)
+
+    -- what it leaves may be left
+    pub asked_leaves : OnOk answered (after.entries ≡ before.entries ++ record { ticket = ticket; by = by; command = command } ∷ [])
+        → OnErr answered (after.entries ≡ before.entries) → MayLeave (λ (e : Entry). e.ticket) caller_of h served after.entries
+    asked_leaves grown same = go answered grown same
+      where
+        go : (r : Result Reply Refusal) → OnOk r (after.entries ≡ before.entries ++ record { ticket = ticket; by = by; command = command } ∷ [])
+            → OnErr r (after.entries ≡ before.entries) → MayLeave (λ (e : Entry). e.ticket) caller_of h served after.entries
+        go (Ok text) more kept =
+            let entry : Entry = record { ticket = ticket; by = by; command = command } in
+            inr (entry, more ∙ ap (λ (es : List Entry). es ++ entry ∷ []) found, ticket_is, by_is)
+        go (Err refusal) more kept = inl (kept ∙ found)
+
+    -- it stays legal
+    asked_legal : after.config ≡ before.config → IsLegal after.config after.entries → IsBack h w after.entries
+        → (g : Config) → numbers_of g ≡ v.base → IsLegal g w.seen
+    asked_legal same legal back g is =
+        let alike : after.config ≡ g = same ∙ numbers_of-determines before.config g (base_before ∙ sym is) in
+        subst (λ (es : List Entry). IsLegal g es) (sym back.seen) (subst (λ (k : Config). IsLegal k after.entries) alike legal)
+
+    -- all that the turn comes to
+    pub asked_comes : OrMemory answered (answer_to before.config before.entries command)
+        → (IsFoundEarly (answer_to before.config before.entries command) → answered ≡ answer_to before.config before.entries command)
+        → (TakesMemoryLate (request_of command) → IfErr (answer_to before.config before.entries command) (λ told. answered ≡ Err told))
+        → OnOk answered (after.entries ≡ before.entries ++ record { ticket = ticket; by = by; command = command } ∷ [])
+        → OnErr answered (after.entries ≡ before.entries) → after.config ≡ before.config → IsLegal after.config after.entries
+        → IsBack h w after.entries → Comes v w command answered
+    asked_comes reply early late grown kept same legal back = record {
+      goes_on = asked_goes_on grown kept back;
+      done = asked_done reply grown back;
+      refused = asked_refused reply early late kept back;
+      legal = λ g is _. asked_legal same legal back g is;
+    }
 
 -- all tickets are drawn: the front is at its end
 pub worn_goes_on : (v w : View Entry) → v.front ≤ 2 ^ 63 → IsWorn v w → GoesOn v w
@@ -221,3 +302,7 @@ asked_worn v w command worn = record {
   rises = λ unworn. absurd (unworn refl);
   worn = λ is. worn;
 }
+
+-- all tickets are drawn: what was seen stays legal
+pub worn_legal : (v w : View Entry) → IsWorn v w → (g : Config) → IsLegal g v.seen → IsLegal g w.seen
+worn_legal v w worn g = subst (λ (es : List Entry). IsLegal g es) (sym (ap (λ (x : View Entry). x.seen) worn.same))

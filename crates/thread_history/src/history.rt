@@ -2,7 +2,7 @@
 
 ghost use Rattle.std.specs.Prelude.{◌≡◌, ◌≢◌, ◌⊎◌, ◌<◌, ◌≤◌, [], map, vec_len, true, Ok, Err, IfOk, IfErr, All, AllPairs};
 ghost use Rattle.ticket_lock.specs.Calls.{view_of, IsOf, IsRoot};
-ghost use Rattle.trace_book.specs.Bases.{numbers_of};
+ghost use Rattle.shared_book.specs.Bases.{numbers_of};
 ghost use Rattle.trace_command.specs.Configs.{IsInRange};
 ghost use Rattle.trace_command.specs.declared.command.Entry.{Entry};
 ghost use Rattle.trace_history.specs.Blocks.{IsBlock, IsUnworn};
@@ -10,16 +10,13 @@ ghost use Rattle.trace_workers.specs.BlockRuns.{trails_of};
 ghost use Rattle.trace_workers.specs.Gates.{LetsAllPass, StopsOne};
 ghost use Rattle.trace_workers.specs.declared.fault.BlockFault.TheVariants.{Memory, Stopped};
 
-use crate::block::run_block;
-use crate::fault::BlockFault;
-use crate::gate::Gate;
-use crate::part::Part;
 use std::alloc::Global;
 use std::sync::Wait;
 use std::thread::Threads;
 use ticket_lock::{Pass, TicketLock};
 use trace_book::Book;
 use trace_command::{Command, Config, Refusal, Reply};
+use trace_workers::{BlockFault, Gate, Part, run_block};
 
 // Whether none of these replies is `Worn`.
 fn is_unworn(replies: &[Result<Reply, Refusal>]) -> bool

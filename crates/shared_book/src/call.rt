@@ -3,24 +3,22 @@
 ghost use Rattle.std.specs.Prelude.{◌≡◌, Err, IfOk, IfErr};
 ghost use Rattle.ticket_lock.specs.Calls.{view_of, IsOf};
 ghost use Rattle.trace_history.specs.History.{IsLegal};
-ghost use Rattle.trace_book.specs.Bases.{numbers_of};
-ghost use Rattle.trace_book.specs.Asks.{GoesOn, IsDone, IsRefused};
+ghost use Rattle.shared_book.specs.Bases.{numbers_of};
+ghost use Rattle.shared_book.specs.Asks.{GoesOn, IsDone, IsRefused};
 ghost use Rattle.trace_command.specs.declared.command.Config.{Config};
 
-use crate::book::Book;
+use crate::book::SharedBook;
 use std::sync::Wait;
 use ticket_lock::{Pass, TicketLock, Worn};
 use trace_command::{BorrowedEmission, Command, Refusal, Reply};
-use tracer_without_history::let_go;
 
 /// The answer if no ticket is left. Out of line, so that other calls don't pay for dropping the command.
 #[cold]
 #[inline(never)]
-fn worn_out(worn: Worn<Book>, command: Command) -> (Pass<Book>, Result<Reply, Refusal>)
+fn worn_out<B: SharedBook>(worn: Worn<B>, _command: Command) -> (Pass<B>, Result<Reply, Refusal>)
     ensures pass { result.0 ≡ worn.pass }
     ensures answer { result.1 ≡ Err Refusal.Worn }
 {
-    let_go(command);
     (worn.pass, Err(Refusal::Worn))
 }
 
@@ -28,12 +26,12 @@ fn worn_out(worn: Worn<Book>, command: Command) -> (Pass<Book>, Result<Reply, Re
 ///
 /// It waits for its turn, and the answer follows from everything done before: a command that is done becomes the history's next entry, a refused one
 /// leaves none. `Worn` exactly if all tickets are drawn; then nothing was run. The lock is held only while the book answers.
-pub fn ask<R: Wait>(
+pub fn ask<B: SharedBook, R: Wait>(
     rt: &R,
-    lock: &TicketLock<Book>,
-    pass: Pass<Book>,
+    lock: &TicketLock<B>,
+    pass: Pass<B>,
     command: Command,
-) -> (Pass<Book>, Result<Reply, Refusal>)
+) -> (Pass<B>, Result<Reply, Refusal>)
     requires { IsOf lock.now pass }
     ensures of { IsOf lock.now result.0 }
     ensures goes_on { GoesOn (view_of pass) (view_of result.0) }
@@ -45,7 +43,7 @@ pub fn ask<R: Wait>(
         Ok(mut held) => {
             let ticket = held.ticket();
             let by = held.by();
-            let answer = held.value().ask(ticket, by, command);
+            let answer = held.value().answer(ticket, by, command);
             (lock.release(held), answer)
         }
         Err(worn) => worn_out(worn, command),
@@ -54,12 +52,12 @@ pub fn ask<R: Wait>(
 
 /// As `ask`, for an emission whose strings are borrowed. It builds no command. It is inlined, so that its answer is not moved.
 #[inline(always)]
-pub fn ask_emission<R: Wait>(
+pub fn ask_emission<B: SharedBook, R: Wait>(
     rt: &R,
-    lock: &TicketLock<Book>,
-    pass: Pass<Book>,
+    lock: &TicketLock<B>,
+    pass: Pass<B>,
     emission: &BorrowedEmission<'_>,
-) -> (Pass<Book>, Result<Reply, Refusal>)
+) -> (Pass<B>, Result<Reply, Refusal>)
     requires { IsOf lock.now pass }
     ensures of { IsOf lock.now result.0 }
     ensures goes_on { GoesOn (view_of pass) (view_of result.0) }
@@ -71,7 +69,7 @@ pub fn ask_emission<R: Wait>(
         Ok(mut held) => {
             let ticket = held.ticket();
             let by = held.by();
-            let reply = held.value().ask_emission(ticket, by, emission);
+            let reply = held.value().answer_emission(ticket, by, emission);
             (lock.release(held), reply)
         }
         Err(worn) => (worn.pass, Err(Refusal::Worn)),
@@ -79,13 +77,13 @@ pub fn ask_emission<R: Wait>(
 }
 
 /// As `ask`, for a read whose path is borrowed. It builds no command.
-pub fn ask_read<R: Wait>(
+pub fn ask_read<B: SharedBook, R: Wait>(
     rt: &R,
-    lock: &TicketLock<Book>,
-    pass: Pass<Book>,
+    lock: &TicketLock<B>,
+    pass: Pass<B>,
     path: &[u8],
     limit: Option<u64>,
-) -> (Pass<Book>, Result<Reply, Refusal>)
+) -> (Pass<B>, Result<Reply, Refusal>)
     requires { IsOf lock.now pass }
     ensures of { IsOf lock.now result.0 }
     ensures goes_on { GoesOn (view_of pass) (view_of result.0) }
@@ -97,7 +95,7 @@ pub fn ask_read<R: Wait>(
         Ok(mut held) => {
             let ticket = held.ticket();
             let by = held.by();
-            let read = held.value().ask_read(ticket, by, path, limit);
+            let read = held.value().answer_read(ticket, by, path, limit);
             (lock.release(held), read)
         }
         Err(worn) => (worn.pass, Err(Refusal::Worn)),

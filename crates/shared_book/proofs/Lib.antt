@@ -1,0 +1,2 @@
+pub mod SameBases
+pub mod Asking

@@ -1,0 +1,88 @@
+//! What a book has to be, so that callers can share it through a lock.
+
+ghost use Rattle.std.specs.Prelude.{◌≡◌, ◌<◌, [], ◌∷◌, ◌++◌, All, Err, IfOk, IfErr, OnOk, OnErr};
+ghost use Rattle.trace_command.specs.Refusals.{OrMemory, IsFoundEarly};
+ghost use Rattle.trace_command.specs.Requests.{request_of};
+ghost use Rattle.trace_command.specs.declared.command.Config.{Config};
+ghost use Rattle.trace_command.specs.declared.command.Entry.{Entry};
+ghost use Rattle.trace_history.specs.History.{answer_to, IsLegal};
+ghost use Rattle.trace_history.specs.LateMemory.{TakesMemoryLate};
+ghost use Rattle.shared_book.specs.Asks.{caller_of};
+ghost use Rattle.shared_book.specs.Bases.{numbers_of};
+
+use std::alloc::Global;
+use ticket_lock::Logged;
+use trace_command::{BorrowedEmission, Command, Config, Entry, Refusal, Reply};
+
+/// A tracer and the history of the commands done, which callers can share through a lock. What runs over one, as threads and sessions do, is proved over
+/// this trait, and so doesn't wait for the proof of a tracer.
+pub trait SharedBook: Logged<Entry = Entry> + Drop + Sized {
+    // The configuration that it was made with.
+    ghost made_with: { Self → Config };
+
+    /// A book with no history.
+    fn start(alloc: Global, config: Config) -> Result<Self, Refusal>
+        ensures { IfOk result (λ book. (made_with book ≡ config) × (Self.entries book ≡ [])) };
+
+    /// Runs a command, or refuses it. The answer is the one that the history gives. A command that is done becomes the history's next entry, under
+    /// this ticket and caller's number; a refused one changes nothing. The history stays legal. If an allocation is refused, `Memory` may replace the
+    /// answer, but no refusal that is found early, and none of a command that allocates late (`TakesMemoryLate`).
+    fn answer(&mut self, ticket: u64, by: u32, command: Command) -> Result<Reply, Refusal>
+        requires { All (λ (entry : Entry). entry.ticket < ticket) (Self.entries self.old) }
+        ensures reply { OrMemory result (answer_to (made_with self.old) (Self.entries self.old) command) }
+        ensures early { IsFoundEarly (answer_to (made_with self.old) (Self.entries self.old) command)
+            → result ≡ answer_to (made_with self.old) (Self.entries self.old) command }
+        ensures late_memory { TakesMemoryLate (request_of command)
+            → IfErr (answer_to (made_with self.old) (Self.entries self.old) command) (λ r. result ≡ Err r) }
+        ensures done { OnOk result (Self.entries self.new
+            ≡ Self.entries self.old ++ record { ticket = ticket; by = by; command = command } ∷ []) }
+        ensures refused { OnErr result (Self.entries self.new ≡ Self.entries self.old) }
+        ensures config { made_with self.new ≡ made_with self.old }
+        ensures legal { IsLegal (made_with self.new) (Self.entries self.new) };
+
+    /// As `answer`, for an emission whose strings are borrowed.
+    fn answer_emission(
+        &mut self,
+        ticket: u64,
+        by: u32,
+        emission: &BorrowedEmission<'_>,
+    ) -> Result<Reply, Refusal>
+        requires { All (λ (entry : Entry). entry.ticket < ticket) (Self.entries self.old) }
+        ensures reply { OrMemory result (answer_to (made_with self.old) (Self.entries self.old) emission.now) }
+        ensures early { IsFoundEarly (answer_to (made_with self.old) (Self.entries self.old) emission.now)
+            → result ≡ answer_to (made_with self.old) (Self.entries self.old) emission.now }
+        ensures late_memory { TakesMemoryLate (request_of emission.now)
+            → IfErr (answer_to (made_with self.old) (Self.entries self.old) emission.now) (λ r. result ≡ Err r) }
+        ensures done { OnOk result (Self.entries self.new
+            ≡ Self.entries self.old ++ record { ticket = ticket; by = by; command = emission.now } ∷ []) }
+        ensures refused { OnErr result (Self.entries self.new ≡ Self.entries self.old) }
+        ensures config { made_with self.new ≡ made_with self.old }
+        ensures legal { IsLegal (made_with self.new) (Self.entries self.new) };
+
+    /// As `answer`, for a read of this path, of a pipe of at most `limit` records. The path is borrowed.
+    fn answer_read(
+        &mut self,
+        ticket: u64,
+        by: u32,
+        path: &[u8],
+        limit: Option<u64>,
+    ) -> Result<Reply, Refusal>
+        requires { All (λ (entry : Entry). entry.ticket < ticket) (Self.entries self.old) }
+        ensures reply { OrMemory result (answer_to (made_with self.old) (Self.entries self.old) (Command.Read path.now limit)) }
+        ensures early { IsFoundEarly (answer_to (made_with self.old) (Self.entries self.old) (Command.Read path.now limit))
+            → result ≡ answer_to (made_with self.old) (Self.entries self.old) (Command.Read path.now limit) }
+        ensures late_memory { TakesMemoryLate (request_of (Command.Read path.now limit))
+            → IfErr (answer_to (made_with self.old) (Self.entries self.old) (Command.Read path.now limit)) (λ r. result ≡ Err r) }
+        ensures done { OnOk result (Self.entries self.new
+            ≡ Self.entries self.old ++ record { ticket = ticket; by = by; command = Command.Read path.now limit } ∷ []) }
+        ensures refused { OnErr result (Self.entries self.new ≡ Self.entries self.old) }
+        ensures config { made_with self.new ≡ made_with self.old }
+        ensures legal { IsLegal (made_with self.new) (Self.entries self.new) };
+
+    // A lock sees its entries' tickets and callers, and as its base the configuration.
+    ghost tickets: { Self.ticket ≡ (λ (entry : Entry). entry.ticket) };
+
+    ghost callers: { Self.by ≡ caller_of };
+
+    ghost bases: { (book : Self) → Self.base book ≡ numbers_of (made_with book) };
+}

@@ -1,0 +1,10 @@
+//! A book that callers share through a lock: what it has to be, and a call, by which one of them has it run a command.
+#![tactic(auto)]
+
+mod book;
+mod call;
+mod joining;
+
+pub use book::SharedBook;
+pub use call::{ask, ask_emission, ask_read};
+pub use joining::join;
