@@ -12,7 +12,7 @@ pub enum Cause {
     NoEntry,
     /// EINTR: a signal came first.
     Interrupted,
-    /// ENODEV: the file system was unmounted.
+    /// ENODEV: the file system was unmounted. ECONNABORTED: so it was, as a request was being read.
     NoDevice,
     /// Anything else.
     Other,
@@ -25,7 +25,7 @@ pub(crate) fn cause_of(error: &io::Error) -> Cause
     match error.raw_os_error() {
         Some(2) => Cause::NoEntry,
         Some(4) => Cause::Interrupted,
-        Some(19) => Cause::NoDevice,
+        Some(19 | 103) => Cause::NoDevice,
         _ => Cause::Other,
     }
 }

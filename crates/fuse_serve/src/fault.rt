@@ -7,7 +7,7 @@ use std::alloc::AllocError;
 pub enum Ended {
     /// The input ended, between two requests.
     AtEnd,
-    /// The device is gone (ENODEV), as after `umount`.
+    /// The device is gone (ENODEV, ECONNABORTED), as after `umount`.
     Gone,
     /// The server wanted to end.
     Asked,
