@@ -1,12 +1,15 @@
 -- The value of digits, and the numbers that they write.
-use Rattle.std.proofs.Common.{◌≡◌, ℕ, ◌≤◌, ◌<◌, ◌+◌, ◌*◌, ◌-◌, suc, Bool, true, false, nat_le, List, [], ◌∷◌, ◌++◌, leb, length, get_or, drop, All, IsSome, Option, None, Some, refl, ap, ◌∙◌, arith, length-append}
+use Rattle.std.proofs.Common.{◌≡◌, ℕ, ◌≤◌, ◌<◌, ◌+◌, ◌*◌, ◌-◌, ◌^◌, suc, Bool, true, false, ◌&&◌, nat_le, List, [], ◌∷◌, ◌++◌, leb, length, get_or, drop, All, IsSome, IfSome, Option, None, Some, refl, sym, ap, ◌∙◌, arith, length-append, lt-ltb}
+use Rattle.std.specs.Char.{is_digit as is_digit_in, digit_value}
+use Rattle.std.specs.Str.Parse.{digits_value_after}
 use Rattle.std.specs.List.{list_all}
 use Rattle.std.proofs.Math.Seq.{drop-cons}
-use Rattle.std.proofs.lemmas.Bool.{and_parts, leb-true}
+use Rattle.std.proofs.lemmas.Bool.{and_parts, leb-true, cond-true, cond-false}
 use Rattle.std.proofs.lemmas.Bool.Decides.{nat_tests}
 use Rattle.std.proofs.lemmas.List.Folds.{list_all-append}
 use Rattle.std.proofs.lemmas.List.Sums.{AllPass-from_list_all, list_all-from_AllPass}
 use Rattle.trace_lex.specs.Decimals.{is_digit, value_after, decimal_number}
+use Rattle.trace_lex.specs.Numbers.{digits_of, below}
 use Rattle.trace_lex.specs.Laws.{IsDigit, NumbersAreOfDigits, OneDigitIsItsValue, EachDigitIsTimesTen}
 
 -- more digits never make a number less
@@ -83,3 +86,34 @@ each_digit_is_times_ten ds n d is digit =
     let last : list_all is_digit (d ∷ []) ≡ true = rw (is-digit d digit) refl in
     let all : list_all is_digit more ≡ true = rw (list_all-append is_digit ds (d ∷ []), by.all, last) refl in
     digits-write more (omega (arith, length-append ds (d ∷ []))) all ∙ ap Some (value_after-more 0 ds d ∙ ap (λ (v : ℕ). 10 * v + (d - 48)) by.value)
+
+-- ---- decimal numbers are digits in base 10
+
+same_digit : (b : ℕ) → is_digit b ≡ is_digit_in b 10
+same_digit b = grind (arith, nat_tests)
+
+value_of_digit : (b : ℕ) → is_digit b ≡ true → b - 48 ≡ digit_value b
+value_of_digit b is = let digit = digit-is b is in grind (arith, nat_tests, digit.0, digit.1)
+
+all_same : (text : List ℕ) → list_all is_digit text ≡ list_all (λ b. is_digit_in b 10) text
+all_same [] = refl
+all_same (b ∷ bs) = ap (λ is. is && list_all is_digit bs) (same_digit b) ∙ ap (λ all. is_digit_in b 10 && all) (all_same bs)
+
+value_same : (n : ℕ) (text : List ℕ) → list_all is_digit text ≡ true → value_after n text ≡ digits_value_after 10 n text
+value_same n [] all = refl
+value_same n (b ∷ bs) all =
+    let parts = and_parts (is_digit b) (list_all is_digit bs) all in
+    ap (λ d. value_after (n * 10 + d) bs) (value_of_digit b parts.0) ∙ value_same (n * 10 + digit_value b) bs parts.1
+
+in_base_ten : (text : List ℕ) → decimal_number text ≡ digits_of 10 text
+in_base_ten [] = refl
+in_base_ten (b ∷ bs) = by (list_all is_digit (b ∷ bs)) refl
+  where
+    by : (all : Bool) → list_all is_digit (b ∷ bs) ≡ all → decimal_number (b ∷ bs) ≡ digits_of 10 (b ∷ bs)
+    by true all = cond-true _ _ _ all ∙ ap Some (value_same 0 (b ∷ bs) all) ∙ sym (cond-true _ _ _ (sym (all_same (b ∷ bs)) ∙ all))
+    by false all = cond-false _ _ _ all ∙ sym (cond-false _ _ _ (sym (all_same (b ∷ bs)) ∙ all))
+
+-- what was found of a few digits is their value, and below the limit
+pub few_are : (text : List ℕ) (found : Option ℕ) → found ≡ decimal_number text → IfSome found (λ n. n < 2 ^ 64) → found ≡ below (2 ^ 64) (digits_of 10 text)
+few_are text None is small = ap (below (2 ^ 64)) (is ∙ in_base_ten text)
+few_are text (Some n) is small = sym (cond-true _ _ _ (lt-ltb n (2 ^ 64) small)) ∙ ap (below (2 ^ 64)) (is ∙ in_base_ten text)

@@ -1,11 +1,10 @@
 //! Decimal numbers.
 
-ghost use Rattle.std.specs.Prelude.{◌≡◌, ◌≤◌, length};
+ghost use Rattle.std.specs.Prelude.{◌≡◌, ◌≤◌, ◌<◌, ◌^◌, length, IfSome};
 ghost use Rattle.std.specs.List.{list_all};
 ghost use Rattle.trace_lex.specs.Decimals as decimals;
 
 use crate::blanks::trim;
-use crate::numeral::FITTING_DIGITS;
 
 /// Whether a byte is a digit from 0 to 9.
 fn is_digit(byte: u8) -> bool
@@ -21,10 +20,15 @@ pub fn all_digits(text: &[u8]) -> bool
     text.iter().all(|byte| is_digit(*byte))
 }
 
+/// The greatest number of decimal digits that always fit in 64 bits.
+pub(crate) const FITTING_DIGITS: usize = 19;
+
 /// The number that a few bytes write, if they are digits, one at least: so few always fit.
-fn few_digits(text: &[u8]) -> Option<u64>
+#[inline(always)]
+pub(crate) fn few_digits(text: &[u8]) -> Option<u64>
     requires few { length text.now ≤ FITTING_DIGITS }
-    ensures { result ≡ decimals.decimal_number text.now }
+    ensures value { result ≡ decimals.decimal_number text.now }
+    ensures bound { IfSome result (λ n. n < 2 ^ 64) }
 {
     if text.is_empty() {
         return None;

@@ -1,8 +1,10 @@
 //! NUMBER: whole numbers as texts.
 
-ghost use Rattle.std.specs.Prelude.{◌≡◌, ◌≤◌, ◌<◌, ◌+◌, ◌*◌, ◌^◌, ◌&&◌, nat_lt, if◌then◌else◌, length, Some, None, IfSome};
+ghost use Rattle.std.specs.Prelude.{◌≡◌, ◌≤◌, ◌+◌, ◌*◌, ◌^◌, ◌&&◌, nat_lt, if◌then◌else◌, Some, None, IfSome};
 ghost use Rattle.std.specs.Char.{is_digit, digit_value};
-ghost use Rattle.trace_lex.specs.Numbers.{digits_of, magnitude_of, number_of, below};
+ghost use Rattle.trace_lex.specs.Numbers.{digits_of, after_zero, magnitude_of, number_of, below};
+
+use crate::decimal::{FITTING_DIGITS, few_digits};
 
 /// The value of one more digit in a base behind others, if it is a digit and the value fits.
 fn push_digit(value: u64, base: u32, byte: u8) -> Option<u64>
@@ -16,6 +18,7 @@ fn push_digit(value: u64, base: u32, byte: u8) -> Option<u64>
 }
 
 /// The value of digits in a base, if it fits.
+#[inline(never)]
 fn digits(base: u32, text: &[u8]) -> Option<u64>
     requires low { 2 ≤ base }
     requires high { base ≤ 16 }
@@ -31,37 +34,8 @@ fn digits(base: u32, text: &[u8]) -> Option<u64>
     Some(value)
 }
 
-/// The greatest number of decimal digits that always fit in 64 bits.
-pub(crate) const FITTING_DIGITS: usize = 19;
-
-/// The value of one more decimal digit behind others, as [`push_digit`] gives it. That is so small that it always fits.
-fn push_decimal(value: u64, byte: u8) -> Option<u64>
-    requires { value < 10 ^ 18 }
-    ensures value { result ≡ (if is_digit byte 10 && nat_lt (value * 10 + digit_value byte) (2 ^ 64) then Some (value * 10 + digit_value byte) else None) }
-    ensures bound { IfSome result (λ next. next < value * 10 + 10) }
-{
-    if !byte.is_ascii_digit() {
-        return None;
-    }
-    Some(value * 10 + u64::from(byte - b'0'))
-}
-
-/// The value of at most [`FITTING_DIGITS`] decimal digits, if they are digits.
-fn few_digits(text: &[u8]) -> Option<u64>
-    requires few { length text.now ≤ FITTING_DIGITS }
-    ensures { result ≡ below (2 ^ 64) (digits_of 10 text.now) }
-{
-    if text.is_empty() {
-        return None;
-    }
-    let mut value = 0;
-    for byte in text {
-        value = push_decimal(value, *byte)?;
-    }
-    Some(value)
-}
-
 /// The value of decimal digits, if it fits. Up to [`FITTING_DIGITS`] of them need no look for what is too much.
+#[inline(always)]
 fn decimal_digits(text: &[u8]) -> Option<u64>
     ensures { result ≡ below (2 ^ 64) (digits_of 10 text.now) }
 {
@@ -72,16 +46,27 @@ fn decimal_digits(text: &[u8]) -> Option<u64>
     }
 }
 
+/// The value of what follows a `0`, if it fits: nothing, an `x` and hexadecimal digits, or octal digits.
+#[inline(never)]
+fn behind_zero(text: &[u8]) -> Option<u64>
+    ensures { result ≡ below (2 ^ 64) (after_zero text.now) }
+{
+    match text {
+        [] => Some(0),
+        [b'x', hexadecimal @ ..] => digits(16, hexadecimal),
+        _ => digits(8, text),
+    }
+}
+
 /// The value of a numeral without a sign, if it fits in 64 bits: hexadecimal behind `0x`, octal behind another `0` (which may stand alone), and else
 /// decimal. Where no `-` comes first, it is what [`number`] gives.
+#[inline(always)]
 pub fn magnitude(text: &[u8]) -> Option<u64>
     ensures { result ≡ below (2 ^ 64) (magnitude_of text.now) }
 {
     match text {
         [] => None,
-        [b'0'] => Some(0),
-        [b'0', b'x', hexadecimal @ ..] => digits(16, hexadecimal),
-        [b'0', octal @ ..] => digits(8, octal),
+        [b'0', rest @ ..] => behind_zero(rest),
         _ => decimal_digits(text),
     }
 }

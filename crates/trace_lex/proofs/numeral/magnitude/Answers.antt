@@ -3,16 +3,10 @@ use Rattle.std.proofs.lemmas.Grind.{common_steps}
 use Rattle.trace_lex.proofs.numeral.magnitude.Goals as goal
 
 pub returns-in-48 : goal.returns-in-48
-returns-in-48 c = grind arith
-
-pub returns-in-48-2 : goal.returns-in-48-2
-returns-in-48-2 c = grind (arith, common_steps)
-
-pub returns-in-48-3 : goal.returns-in-48-3
-returns-in-48-3 c = grind (arith, common_steps)
-
-pub returns-in-empty : goal.returns-in-empty
-returns-in-empty c = grind arith
+returns-in-48 c = grind (arith, common_steps)
 
 pub returns-in_default : goal.returns-in_default
 returns-in_default c = grind arith
+
+pub returns-in-empty : goal.returns-in-empty
+returns-in-empty c = grind arith
