@@ -1,7 +1,7 @@
 //! Rows from values that are given to the fields of an event in order. One pass takes values that their fields hold; it writes a text only for a
 //! number in a text field. Why other values are refused is found by their texts, as it is for an emission's pairs.
 
-ghost use Rattle.std.specs.Prelude.{◌≡◌, ◌+◌, ◌<◌, true, map, drop, IfOk, Some, vec_len, vec_capacity};
+ghost use Rattle.std.specs.Prelude.{◌≡◌, ◌<◌, true, map, drop, IfOk, Some, vec_len, vec_capacity};
 ghost use Rattle.std.specs.Fmt.{decimal, signed_decimal};
 ghost use Rattle.trace_format.specs.declared.kind.Kind.TheVariants as kinds;
 ghost use Rattle.trace_format.specs.Cells.{datum_of};
@@ -13,7 +13,7 @@ use crate::event::Field;
 use crate::field_value::FieldValue;
 use crate::kind::{Kind, NumberType};
 use crate::pair::Pair;
-use crate::value::{Value, push_value};
+use crate::value::{Value, push_text, push_value};
 use itoa::Buffer;
 use std::alloc::{AllocError, Global};
 use trace_lex::Text;
@@ -37,9 +37,7 @@ fn written(alloc: Global, given: &FieldValue<'_>) -> Result<Text, AllocError>
 #[inline(always)]
 fn push_unsigned(number_type: NumberType, number: u64, values: &mut Vec<Value>) -> bool
     requires { vec_len values.old < vec_capacity values.old }
-    ensures pushed { result ≡ true → IsPushed (value_of (kinds.Number number_type) (decimal number)) values.old.items values.new.items }
-    ensures len { result ≡ true → vec_len values.new ≡ vec_len values.old + 1 }
-    ensures capacity { result ≡ true → vec_capacity values.new ≡ vec_capacity values.old }
+    ensures { result ≡ true → IsPushed (value_of (kinds.Number number_type) (decimal number)) values.old values.new }
 {
     if number > number_type.greatest_magnitude() {
         return false;
@@ -52,9 +50,7 @@ fn push_unsigned(number_type: NumberType, number: u64, values: &mut Vec<Value>) 
 #[inline(always)]
 fn push_signed(number_type: NumberType, number: i64, values: &mut Vec<Value>) -> bool
     requires { vec_len values.old < vec_capacity values.old }
-    ensures pushed { result ≡ true → IsPushed (value_of (kinds.Number number_type) (signed_decimal number)) values.old.items values.new.items }
-    ensures len { result ≡ true → vec_len values.new ≡ vec_len values.old + 1 }
-    ensures capacity { result ≡ true → vec_capacity values.new ≡ vec_capacity values.old }
+    ensures { result ≡ true → IsPushed (value_of (kinds.Number number_type) (signed_decimal number)) values.old values.new }
 {
     if !number_type.holds_signed(number) {
         return false;
@@ -63,22 +59,20 @@ fn push_signed(number_type: NumberType, number: i64, values: &mut Vec<Value>) ->
     true
 }
 
-/// Likewise, for a value and a type of any kind, by the value's text.
+/// Likewise, for a value of any kind in a text field of so many bytes, by the value's text.
 #[cold]
 #[inline(never)]
 fn push_written(
     alloc: Global,
-    kind: Kind,
+    length: u8,
     given: &FieldValue<'_>,
     values: &mut Vec<Value>,
 ) -> Result<bool, AllocError>
     requires { vec_len values.old < vec_capacity values.old }
-    ensures pushed { IfOk result (λ is. is ≡ true → IsPushed (value_of kind (text_given given.now)) values.old.items values.new.items) }
-    ensures len { IfOk result (λ is. is ≡ true → vec_len values.new ≡ vec_len values.old + 1) }
-    ensures capacity { IfOk result (λ is. is ≡ true → vec_capacity values.new ≡ vec_capacity values.old) }
+    ensures { IfOk result (λ is. is ≡ true → IsPushed (value_of (kinds.Char length) (text_given given.now)) values.old values.new) }
 {
     let text = written(alloc, given)?;
-    push_value(alloc, kind, text.as_bytes(), values)
+    push_text(alloc, length, text.as_bytes(), values)
 }
 
 /// Likewise, with a text made only of a number for a text field.
@@ -90,9 +84,7 @@ fn push_given(
     values: &mut Vec<Value>,
 ) -> Result<bool, AllocError>
     requires { vec_len values.old < vec_capacity values.old }
-    ensures pushed { IfOk result (λ is. is ≡ true → IsPushed (value_of kind (text_given given.now)) values.old.items values.new.items) }
-    ensures len { IfOk result (λ is. is ≡ true → vec_len values.new ≡ vec_len values.old + 1) }
-    ensures capacity { IfOk result (λ is. is ≡ true → vec_capacity values.new ≡ vec_capacity values.old) }
+    ensures { IfOk result (λ is. is ≡ true → IsPushed (value_of kind (text_given given.now)) values.old values.new) }
 {
     match (kind, *given) {
         (Kind::Number(number_type), FieldValue::Unsigned(number)) => {
@@ -102,7 +94,7 @@ fn push_given(
             Ok(push_signed(number_type, number, values))
         }
         (_, FieldValue::Bytes(bytes)) => push_value(alloc, kind, bytes, values),
-        _ => push_written(alloc, kind, given, values),
+        (Kind::Char(length), _) => push_written(alloc, length, given, values),
     }
 }
 
@@ -157,6 +149,8 @@ fn written_pair(alloc: Global, name: &[u8], given: &FieldValue<'_>) -> Result<Pa
 }
 
 /// The pairs that give values to fields in order of declaration.
+#[cold]
+#[inline(never)]
 pub(crate) fn written_pairs(
     alloc: Global,
     fields: &[Field],

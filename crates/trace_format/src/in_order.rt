@@ -1,6 +1,6 @@
 //! Pairs that name the fields of an event in order, as most emissions write them: one pass reads their values.
 
-ghost use Rattle.std.specs.Prelude.{◌≡◌, ◌+◌, ◌<◌, true, map, IfOk, Some, vec_len, vec_capacity};
+ghost use Rattle.std.specs.Prelude.{◌≡◌, ◌<◌, true, map, IfOk, Some, vec_len, vec_capacity};
 ghost use Rattle.trace_format.specs.Cells.{datum_of};
 ghost use Rattle.trace_format.specs.private.InOrder.{named_value as value_where_named, values_in_order, IsPushed};
 
@@ -19,9 +19,7 @@ fn push_named(
     values: &mut Vec<Value>,
 ) -> Result<bool, AllocError>
     requires { vec_len values.old < vec_capacity values.old }
-    ensures pushed { IfOk result (λ is. is ≡ true → IsPushed (value_where_named field.now pair.now) values.old.items values.new.items) }
-    ensures len { IfOk result (λ is. is ≡ true → vec_len values.new ≡ vec_len values.old + 1) }
-    ensures capacity { IfOk result (λ is. is ≡ true → vec_capacity values.new ≡ vec_capacity values.old) }
+    ensures { IfOk result (λ is. is ≡ true → IsPushed (value_where_named field.now pair.now) values.old values.new) }
 {
     if field.name.as_bytes() == pair.name() {
         push_value(alloc, field.kind, pair.value(), values)

@@ -298,26 +298,26 @@ fn fill_with_values(
     if take_values(alloc, fields, given, kinds, values)? {
         return Ok(());
     }
-    fill_with_texts(alloc, def, given, kinds, values)
+    let pairs = written_pairs(alloc, fields, given)?;
+    fill_with_pairs(alloc, def, pairs, kinds, values)
 }
 
-/// Likewise, by the texts of all values.
+/// Likewise, with pairs of texts of their own.
 #[cold]
 #[inline(never)]
-fn fill_with_texts(
+fn fill_with_pairs(
     alloc: Global,
     def: &EventDef,
-    given: &[FieldValue<'_>],
+    pairs: Vec<Pair>,
     kinds: &mut Vec<Kind>,
     values: &mut Vec<Value>,
 ) -> Result<(), RowFault>
     ensures row { OnOk result (IsRowOf def.now (record { kinds = kinds.new.items; values = map datum_of values.new.items })) }
     ensures exact { IsBuilt (result_and result (Ok (record { kinds = kinds.new.items; values = map datum_of values.new.items })))
-        (row_of def.now (pairs_given def.now.fields given.now)) }
+        (row_of def.now pairs.items) }
 {
-    let pairs = written_pairs(alloc, def.fields(), given)?;
-    let pairs = borrowed(alloc, &pairs)?;
-    fill(alloc, def, &pairs, kinds, values)
+    let lent = borrowed(alloc, &pairs)?;
+    fill(alloc, def, &lent, kinds, values)
 }
 
 /// Fills a list with the types of fields. One that has had as many elements before takes no allocation.

@@ -1,6 +1,6 @@
 //! The values of fields, and the texts that write them.
 
-ghost use Rattle.std.specs.Prelude.{◌≡◌, ◌+◌, ◌<◌, true, if◌then◌else◌, IfOk, Some, None, is_some, option_map, vec_len, vec_capacity};
+ghost use Rattle.std.specs.Prelude.{◌≡◌, ◌<◌, true, if◌then◌else◌, IfOk, Some, None, is_some, option_map, vec_len, vec_capacity};
 ghost use Rattle.std.specs.List.{list_all};
 ghost use Rattle.trace_format.specs.declared.kind.Kind.TheVariants as kinds;
 ghost use Rattle.trace_format.specs.Cells.{Datum, Whole, Bytes, datum_of, is_printable as spec_printable};
@@ -75,13 +75,18 @@ pub(crate) fn read_value(
 {
     match kind {
         Kind::Number(number_type) => Ok(number_value(number_type, text).map(Value::Num)),
-        Kind::Char(length) => {
-            if is_text_value(length, text) {
-                Ok(Some(Value::Text(Vec::from_slice(alloc, text)?)))
-            } else {
-                Ok(None)
-            }
-        }
+        Kind::Char(length) => text_value(alloc, length, text),
+    }
+}
+
+/// The value that a text is of a text field of so many bytes.
+fn text_value(alloc: Global, length: u8, text: &[u8]) -> Result<Option<Value>, AllocError>
+    ensures { IfOk result (λ found. option_map datum_of found ≡ value_of (kinds.Char length) text.now) }
+{
+    if is_text_value(length, text) {
+        Ok(Some(Value::Text(Vec::from_slice(alloc, text)?)))
+    } else {
+        Ok(None)
     }
 }
 
@@ -94,13 +99,11 @@ pub(crate) fn push_value(
     values: &mut Vec<Value>,
 ) -> Result<bool, AllocError>
     requires { vec_len values.old < vec_capacity values.old }
-    ensures pushed { IfOk result (λ is. is ≡ true → IsPushed (value_of kind text.now) values.old.items values.new.items) }
-    ensures len { IfOk result (λ is. is ≡ true → vec_len values.new ≡ vec_len values.old + 1) }
-    ensures capacity { IfOk result (λ is. is ≡ true → vec_capacity values.new ≡ vec_capacity values.old) }
+    ensures { IfOk result (λ is. is ≡ true → IsPushed (value_of kind text.now) values.old values.new) }
 {
     match kind {
         Kind::Number(number_type) => Ok(push_number(number_type, text, values)),
-        Kind::Char(_) => push_text(alloc, kind, text, values),
+        Kind::Char(length) => push_text(alloc, length, text, values),
     }
 }
 
@@ -108,9 +111,7 @@ pub(crate) fn push_value(
 #[inline(always)]
 fn push_number(number_type: NumberType, text: &[u8], values: &mut Vec<Value>) -> bool
     requires { vec_len values.old < vec_capacity values.old }
-    ensures pushed { result ≡ true → IsPushed (value_of (kinds.Number number_type) text.now) values.old.items values.new.items }
-    ensures len { result ≡ true → vec_len values.new ≡ vec_len values.old + 1 }
-    ensures capacity { result ≡ true → vec_capacity values.new ≡ vec_capacity values.old }
+    ensures { result ≡ true → IsPushed (value_of (kinds.Number number_type) text.now) values.old values.new }
 {
     match text {
         [b'-', ..] => push_signed(number_type, text, values),
@@ -128,9 +129,7 @@ fn push_number(number_type: NumberType, text: &[u8], values: &mut Vec<Value>) ->
 #[inline(never)]
 fn push_signed(number_type: NumberType, text: &[u8], values: &mut Vec<Value>) -> bool
     requires { vec_len values.old < vec_capacity values.old }
-    ensures pushed { result ≡ true → IsPushed (value_of (kinds.Number number_type) text.now) values.old.items values.new.items }
-    ensures len { result ≡ true → vec_len values.new ≡ vec_len values.old + 1 }
-    ensures capacity { result ≡ true → vec_capacity values.new ≡ vec_capacity values.old }
+    ensures { result ≡ true → IsPushed (value_of (kinds.Number number_type) text.now) values.old values.new }
 {
     match number_value(number_type, text) {
         Some(number) => {
@@ -141,20 +140,18 @@ fn push_signed(number_type: NumberType, text: &[u8], values: &mut Vec<Value>) ->
     }
 }
 
-/// Likewise, for a type of any kind.
+/// Likewise, for a text field of so many bytes.
 #[inline(never)]
-fn push_text(
+pub(crate) fn push_text(
     alloc: Global,
-    kind: Kind,
+    length: u8,
     text: &[u8],
     values: &mut Vec<Value>,
 ) -> Result<bool, AllocError>
     requires { vec_len values.old < vec_capacity values.old }
-    ensures pushed { IfOk result (λ is. is ≡ true → IsPushed (value_of kind text.now) values.old.items values.new.items) }
-    ensures len { IfOk result (λ is. is ≡ true → vec_len values.new ≡ vec_len values.old + 1) }
-    ensures capacity { IfOk result (λ is. is ≡ true → vec_capacity values.new ≡ vec_capacity values.old) }
+    ensures { IfOk result (λ is. is ≡ true → IsPushed (value_of (kinds.Char length) text.now) values.old values.new) }
 {
-    match read_value(alloc, kind, text)? {
+    match text_value(alloc, length, text)? {
         Some(value) => {
             values.push_reserved(value);
             Ok(true)

@@ -6,11 +6,13 @@ use Rattle.trace_format.specs.declared.value.Value.TheVariants.{Num}
 use Rattle.trace_format.proofs.WrittenNumbers.{unsigned_held}
 use Rattle.trace_format.proofs.from_values.push_unsigned.Goals as goal
 
-pub returns-clause-pushed : goal.returns-clause-pushed
-returns-clause-pushed c = λ _.
+pub returns : goal.returns
+returns c = λ _.
     let fits : SFits w128 c.from.result = search rules in record {
       value = Num (to_z w128 (of_z w128 c.from.result));
       is = unsigned_held c.args.number_type c.args.number c.greatest_magnitude.result (omega arith) c.greatest_magnitude.ensures (omega arith)
           ∙ ap (λ n. Some (Whole n)) (sym (to_z-of_z w128 c.from.result fits ∙ c.from.ensures));
       items = c.push_reserved.ensures.items;
+      len = c.push_reserved.ensures.len;
+      capacity = c.push_reserved.ensures.capacity;
     }

@@ -13,15 +13,13 @@ loop-i-preserved c =
     let kinds = c.push_reserved.ensures in
     let did = c.if-not-branch.false in
     let given = get_or c.args.given.now c.loop-i.i (Unsigned 0) in
-    let pushed : IsPushed (value_of c.index-fields-i.result.kind (text_given given)) c.loop-i.values.items c.push_given.new.values.items =
-    c.in_ok-push_given.ensures.pushed (search rules) in
-    let longer = c.in_ok-push_given.ensures.len (search rules) in
-    let roomy = c.in_ok-push_given.ensures.capacity (search rules) in
+    let pushed : IsPushed (value_of c.index-fields-i.result.kind (text_given given)) c.loop-i.values c.push_given.new.values =
+    c.in_ok-push_given.ensures (search rules) in
     let so_far = c.loop-i.invariant in (
       so_far.0,
       rw kinds.items (kind_more fields c.loop-i.i c.index-fields-i.result c.loop-i.kinds.items c.loop-i-test.true c.index-fields-i.is so_far.1),
       omega (arith, so_far.2, c.loop-i-test.true, kinds.len, kinds.capacity),
-      omega (arith, so_far.3, c.loop-i-test.true, longer, roomy),
+      omega (arith, so_far.3, c.loop-i-test.true, pushed.len, pushed.capacity),
       rw pushed.items (taken_more fields c.args.given.now c.loop-i.i _ _ so_far.4 c.index-fields-i.result (Unsigned 0) _ c.loop-i-test.true
           (omega (arith, so_far.0, c.loop-i-test.true)) c.index-fields-i.is (sym pushed.is)),
     )

@@ -9,8 +9,8 @@ use Rattle.trace_format.proofs.MagnitudeLemmas.{magnitude_value}
 use Rattle.trace_format.proofs.value.push_number.Goals.{in_default-via-then-text-lt1, in_default-via-else-text-lt1+in_default-1}
 use Rattle.trace_format.proofs.value.push_number.Goals as goal
 
-pub returns-in-Some-clause-pushed : goal.returns-in-Some-clause-pushed
-returns-in-Some-clause-pushed c = λ did.
+pub returns-in-Some : goal.returns-in-Some
+returns-in-Some c = λ did.
     let text = c.args.text.now in
     let plain : 0 < length text → get_or text 0 0 ≡ 45 → ⊥ =
     elim c.in_default.branch [
@@ -22,4 +22,6 @@ returns-in-Some-clause-pushed c = λ did.
       value = Num (to_z w128 (of_z w128 c.from.result));
       is = magnitude_value c.args.number_type text c.in-Some.value plain read ∙ ap (λ n. Some (Whole n)) (sym (to_z-of_z w128 c.from.result fits ∙ c.from.ensures));
       items = c.push_reserved.ensures.items;
+      len = c.push_reserved.ensures.len;
+      capacity = c.push_reserved.ensures.capacity;
     }
