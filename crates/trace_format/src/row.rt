@@ -116,6 +116,7 @@ impl Row {
 
     /// Makes it the row that `build` makes, in its own memory: a row of no more fields takes no allocation for the lists of its types and values.
     /// Pairs that name the fields in order take one pass and no search. After a refusal it has no field.
+    #[inline(always)]
     pub fn rebuild(
         &mut self,
         alloc: Global,
@@ -142,6 +143,7 @@ impl Row {
 
     /// Makes it the row that `rebuild` makes of the pairs that give the values to the fields in order of declaration (`pairs_given`). No text is written
     /// for a number that its field holds. After a refusal it has no field.
+    #[inline(always)]
     pub fn rebuild_of_values(
         &mut self,
         alloc: Global,
