@@ -1,6 +1,6 @@
 //! Decimal numbers.
 
-ghost use Rattle.std.specs.Prelude.{◌≡◌, ◌≤◌, ◌<◌, ◌^◌, length, IfSome};
+ghost use Rattle.std.specs.Prelude.{◌≡◌, ◌≤◌, ◌<◌, ◌-◌, ◌^◌, length, is_some, IfSome};
 ghost use Rattle.std.specs.List.{list_all};
 ghost use Rattle.trace_lex.specs.Decimals as decimals;
 
@@ -20,6 +20,17 @@ pub fn all_digits(text: &[u8]) -> bool
     text.iter().all(|byte| is_digit(*byte))
 }
 
+/// The value of a byte that is a digit from 0 to 9.
+#[inline(always)]
+fn value_of_digit(byte: u8) -> Option<u64>
+    ensures digit { is_some result ≡ decimals.is_digit byte }
+    ensures value { IfSome result (λ value. value ≡ byte - 48) }
+    ensures bound { IfSome result (λ value. value ≤ 9) }
+{
+    let value = u64::from(byte).wrapping_sub(u64::from(b'0'));
+    if value <= 9 { Some(value) } else { None }
+}
+
 /// The greatest number of decimal digits that always fit in 64 bits.
 pub(crate) const FITTING_DIGITS: usize = 19;
 
@@ -35,10 +46,8 @@ pub(crate) fn few_digits(text: &[u8]) -> Option<u64>
     }
     let mut value: u64 = 0;
     for byte in text {
-        if !is_digit(*byte) {
-            return None;
-        }
-        value = value * 10 + u64::from(*byte - b'0');
+        let digit = value_of_digit(*byte)?;
+        value = value * 10 + digit;
     }
     Some(value)
 }
