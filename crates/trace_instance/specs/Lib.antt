@@ -1,6 +1,7 @@
 pub mod KeptHists
 pub mod Instances
 pub mod Changes
+pub mod Plans
 pub mod Rows
 pub mod Deliveries
 pub mod Files

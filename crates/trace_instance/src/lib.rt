@@ -7,6 +7,7 @@ mod event;
 mod file;
 mod hists;
 mod instance;
+mod plan;
 mod read;
 mod shown;
 mod tables;
@@ -21,6 +22,7 @@ pub use change::{
 pub use file::{File, event_at};
 pub use hists::{AttachedHist, MOST_TRIGGERS, Passed};
 pub use instance::Instance;
+pub use plan::{Plan, Touched};
 pub use read::{FileSource, Shown, declarations, read_file};
 pub use tables::Table;
 pub use trigger::Trigger;

@@ -5,12 +5,14 @@ ghost use Rattle.trace_record.specs.Record.{IsRecord};
 ghost use Rattle.trace_buffer.specs.Buffers as buffers;
 ghost use Rattle.trace_instance.specs.Instances.{IsAlike, passed_in};
 ghost use Rattle.trace_instance.specs.KeptHists.{KeysAgree};
+ghost use Rattle.trace_instance.specs.Plans.{plan_of};
 ghost use Rattle.trace_instance.specs.Rows as rows;
 ghost use Rattle.trace_instance.specs.Deliveries.{CanCountRow, NeedsRowMemory, CanFire, HasFewRows, row_of, IsDelivered, IsOffered, IsExchanged, IsWritable, IsWritten, HasFew};
 
 use super::Instance;
 use crate::change::{Delivery, Reach};
 use crate::hists::Passed;
+use crate::plan::Plan;
 use std::alloc::AllocError;
 use trace_format::Row;
 
@@ -21,6 +23,16 @@ impl Instance {
         ensures { result ≡ not (length (slice_index_or self.now.hists event []) == 0) }
     {
         !self.events[event].hists.as_slice().is_empty()
+    }
+
+    /// What an emission of the event at this index does here, as far as the settings say it for every row. If there is no such event: nothing.
+    pub fn plan(&self, event: usize) -> Plan
+        ensures { result ≡ plan_of self.now event }
+    {
+        if event >= self.events.len() {
+            return Plan::Nothing;
+        }
+        self.events[event].plan(self.tracing)
     }
 
     /// Evaluates the filters of the hist triggers of the event at this index for a row, and reserves memory to count it for those that it passes.
