@@ -10,7 +10,9 @@ use Rattle.trace_instance.specs.Instances.{InstanceSeen, InstanceStandsFor, IsAl
 use Rattle.tracer_state.specs.declared.state.Named.{Named}
 use Rattle.tracer_state.specs.declared.state.State.{State}
 use Rattle.trace_instance.specs.KeptHists.{TableStandsFor, is_used}
+use Rattle.trace_instance.specs.Plans.{plan_of}
 use Rattle.tracer_state.proofs.EachInstance.{names-same}
+use Rattle.tracer_state.proofs.PlanSteps.{plan-alike, plans-stay}
 use Rattle.trace_instance.proofs.KeptLists.{AllOfEach}
 use Rattle.trace_instance.proofs.TableStands.{table-alike}
 
@@ -55,6 +57,8 @@ state_alike-stands g old new past alike stands = record {
       let within : k < length old.instances.items = omega (arith, inside, alike.instances.many) in
       subst (λ (name : Option (List ℕ)). InstanceStandsFor g name past (get_or new.instances.items k d).instance) (sym (alike.instances.names k d within))
       (alike-stands g _ past _ _ (alike.instances.came k d within) (stands.each k d within));
+  planned = plans-stay old new alike.catalog alike.plans alike.instances.many
+      (λ event k n within. plan-alike _ _ event (alike.instances.came k n within)) stands.planned;
 }
 
 pub unchanged-stands : (g : Config) (old new : State) (past : List Request) → IsUnchanged old new → StandsFor g old past → StandsFor g new past
@@ -74,6 +78,8 @@ unchanged-stands g old new past same stands =
       few_instances = stands.few_instances;
       distinct_names = stands.distinct_names;
       each = All-same P new.instances.items old.instances.items same.instances stands.each;
+      planned = plans-stay old new same.catalog same.plans (ap (λ (l : List Named). length l) same.instances)
+          (λ event k n within. ap (λ (l : List Named). plan_of (get_or l k n).instance event) same.instances) stands.planned;
     }
 
 -- a state is alike itself
@@ -86,4 +92,5 @@ alike-self state = record {
     names = λ k d inside. refl;
     came = λ k d inside. record { rest = refl; tables = λ number. refl };
   };
+  plans = refl;
 }

@@ -8,10 +8,14 @@ use Rattle.std.specs.List.{AllByRecursion, IsDistinct, filter}
 use Rattle.std.specs.Str.{bytes_eq}
 use Rattle.trace_history.specs.Settings.{is_same, is_born}
 use Rattle.trace_instance.specs.Instances.{InstanceSeen}
-use Rattle.tracer_state.specs.States.{names_of, no_reach}
-use Rattle.trace_instance.specs.declared.change.Reach.{Reach}
+use Rattle.tracer_state.specs.States.{names_of}
 use Rattle.tracer_state.specs.declared.state.Named.{Named}
 use Rattle.trace_instance.proofs.KeptLists.{recursion_at}
+
+-- some instance is there
+pub first : (instances : List Named) → 0 < length instances → Named
+first [] some = absurd (omega arith)
+first (n ∷ instances) some = n
 
 -- ---- one more instance of a loop
 
@@ -73,25 +77,17 @@ reached_more none Q each i reach inside one before = λ k h. below_more
     (rw get_or-set_same one)
     k h
 
--- none records it, also where one more does not
-pub none_more : (each : List Reach) (i : ℕ) (reach : Reach) (some : Bool) → i < length each
-    → (some ≡ false → (k : ℕ) → k < i → (get_or each k no_reach).records ≡ false)
-    → (some || reach.records) ≡ false → (k : ℕ) → k < i + 1 → (get_or (set each i reach) k no_reach).records ≡ false
-none_more each i reach true inside before none = absurd (cc)
-none_more each i reach false inside before none = reached_more no_reach (λ k r. r.records ≡ false) each i reach inside none (before refl)
-
 pub neither : (a b : Bool) → (a || b) ≡ false → (a ≡ false) × (b ≡ false)
 neither true b is = absurd (cc)
 neither false b is = (refl, is)
 
--- no trigger acts, and one more thing holds, also of one more
-pub quiet_more : (Q : ℕ → Type 0) (each : List Reach) (i : ℕ) (reach : Reach) (some has : Bool) → i < length each → (has ≡ false → Q i)
-    → (some ≡ false → (k : ℕ) → k < i → ((get_or each k no_reach).fires ≡ false) × Q k)
-    → (some || (reach.fires || has)) ≡ false → (k : ℕ) → k < i + 1 → ((get_or (set each i reach) k no_reach).fires ≡ false) × Q k
-quiet_more Q each i reach true has inside here before none = absurd (cc)
-quiet_more Q each i reach false has inside here before none =
-    let off = neither reach.fires has none in
-    reached_more no_reach (λ k r. (r.fires ≡ false) × Q k) each i reach inside (off.0, here off.1) (before refl)
+-- what holds of each unless something is said of one holds also of one more
+pub unless_more : {X : Type 0} (none : X) (Q : ℕ → X → Type 0) (each : List X) (i : ℕ) (new : X) (some one : Bool) → i < length each
+    → (one ≡ false → Q i new) → (some ≡ false → (k : ℕ) → k < i → Q k (get_or each k none)) → (some || one) ≡ false
+    → (k : ℕ) → k < i + 1 → Q k (get_or (set each i new) k none)
+unless_more none Q each i new some one inside here before off =
+    let both = neither some one off in
+    reached_more none Q each i new inside (here both.1) (before both.0)
 
 -- ---- names
 

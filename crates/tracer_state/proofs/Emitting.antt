@@ -316,4 +316,5 @@ prepared-with g old past name cpu pid pairs found row d instances out many over 
       catalog = refl;
       clock = refl;
       instances = subst (λ (is : List Named). EachCame IsAlike old.instances.items is) (sym over) came;
+      plans = refl;
     }

@@ -1,6 +1,8 @@
 pub mod RecordBytes
 pub mod EachInstance
 pub mod ReservedEach
+pub mod PlannedReach
+pub mod PlanSteps
 pub mod Idle
 pub mod Stands
 pub mod Usable

@@ -21,9 +21,10 @@ use Rattle.trace_history.specs.Settings.{declares, declared_events, instance_nam
 use Rattle.trace_history.proofs.EventLists.{AreEvents-push}
 use Rattle.trace_history.proofs.Events.{fit-push}
 use Rattle.trace_instance.specs.Instances.{InstanceSeen, InstanceStandsFor}
-use Rattle.tracer_state.specs.States.{IsChangeOf, IsDeclared, IsEmission, IsFresh, IsMade, IsEmitted, IsPrepared, IsPreparedEmission, IsReady, IsRemoved, IsStep, StandsFor, names_of, reach_at}
+use Rattle.tracer_state.specs.States.{IsChangeOf, IsDeclared, IsEmission, IsFresh, IsMade, IsEmitted, IsPrepared, IsPreparedEmission, HasChanged, IsReady, IsRemoved, IsStep, StandsFor, names_of, reach_at}
 use Rattle.trace_instance.specs.Deliveries.{row_of}
 use Rattle.trace_history.specs.HistTriggers.{counted_row}
+use Rattle.tracer_state.specs.EventPlans.{IsPlanned}
 use Rattle.tracer_state.specs.declared.change.Change.{Change}
 use Rattle.tracer_state.specs.declared.change.Change.TheVariants.{Declare, Make, Remove, Instance}
 use Rattle.trace_instance.specs.declared.change.InstanceChange.{InstanceChange}
@@ -31,7 +32,8 @@ use Rattle.trace_instance.specs.declared.change.Delivery.{Delivery}
 use Rattle.tracer_state.specs.declared.state.Named.{Named}
 use Rattle.tracer_state.specs.declared.state.Prepared.{Prepared}
 use Rattle.tracer_state.specs.declared.state.State.{State}
-use Rattle.tracer_state.proofs.EachInstance.{distinct-push, distinct-without, length-names_of, name_at, names-same, names-without, not_born, others_differ, some_names}
+use Rattle.tracer_state.proofs.EachInstance.{distinct-push, distinct-without, first, length-names_of, name_at, names-same, names-without, not_born, others_differ, some_names}
+use Rattle.tracer_state.proofs.PlanSteps.{plans-after-emission}
 use Rattle.trace_instance.proofs.Delivered.{delivered-stands}
 use Rattle.trace_instance.proofs.Steps.{declared-stands, effect-stands, event_named-before, kept-stands, unfiltered_after, unknown_after, untriggered_after, unwatched_after}
 
@@ -102,8 +104,8 @@ state-after : (g : Config) (old new : State) (past : List Request) (request : Re
     → StandsFor g old past → answer_with_room g past request ≡ Ok reply
     → declares request ≡ declared → ((event : Definition) → declared ≡ Some event → IsFresh g past event)
     → new.catalog ≡ old.catalog ++ option_to_list declared → new.clock ≡ old.clock + ticks request
-    → AreInstances g (request ∷ past) new.instances.items → StandsFor g new (request ∷ past)
-state-after g old new past request reply declared stands given is fresh catalog clock instances = record {
+    → AreInstances g (request ∷ past) new.instances.items → IsPlanned new → StandsFor g new (request ∷ past)
+state-after g old new past request reply declared stands given is fresh catalog clock instances planned = record {
   events = catalog ∙ ap (λ (events : List Definition). events ++ option_to_list declared) stands.events
       ∙ ap (λ (d : Option Definition). declared_events past ++ option_to_list d) (sym is);
   few_events = few-after g past request declared is fresh stands.few_events;
@@ -127,6 +129,7 @@ state-after g old new past request reply declared stands given is fresh catalog 
   few_instances = instances.few;
   distinct_names = instances.distinct;
   each = instances.each;
+  planned = planned;
 }
 
 -- a clock that a request does not move
@@ -141,9 +144,9 @@ none_fresh : (g : Config) (past : List Request) (event : Definition) → None �
 none_fresh g past event impossible = cc
 
 declare_stands : (g : Config) (old new : State) (past : List Request) (request : Request) (reply : Reply) (event : Definition)
-    → StandsFor g old past → answer_with_room g past request ≡ Ok reply → IsDeclared g past request event → IsStep old new (Declare event)
-    → StandsFor g new (request ∷ past)
-declare_stands g old new past request reply event stands given is step =
+    → StandsFor g old past → answer_with_room g past request ≡ Ok reply → IsDeclared g past request event → HasChanged old new (Declare event)
+    → IsPlanned new → StandsFor g new (request ∷ past)
+declare_stands g old new past request reply event stands given is step planned =
     let came = step.2 in
     let none = is.fresh.unknown in
     state-after g old new past request reply (Some event) stands given is.declares
@@ -159,11 +162,12 @@ declare_stands g old new past request reply event stands given is step =
     (untriggered_after g past request reply name event given none (stands.untriggered name event none))
     (unwatched_after g past request reply name event given none (stands.unwatched name event none))
     (stands.each k d inside))))
+    planned
 
 make_stands : (g : Config) (old new : State) (past : List Request) (request : Request) (reply : Reply) (made : Box Named)
-    → StandsFor g old past → answer_with_room g past request ≡ Ok reply → IsMade g past request made.value → IsStep old new (Make made)
-    → StandsFor g new (request ∷ past)
-make_stands g old new past request reply made stands given is step =
+    → StandsFor g old past → answer_with_room g past request ≡ Ok reply → IsMade g past request made.value → HasChanged old new (Make made)
+    → IsPlanned new → StandsFor g new (request ∷ past)
+make_stands g old new past request reply made stands given is step planned =
     let named = made.value in
     let names = instance_names past in
     let items = old.instances.items in
@@ -189,11 +193,12 @@ make_stands g old new past request reply made stands given is step =
       distinct = subst (λ (l : List (List ℕ)). IsDistinct bytes_eq l) (sym now) (distinct-push names is.name stands.distinct_names is.new);
       each = All-same P new.instances.items (items ++ named ∷ []) step.2 (All-push P items named others own);
     })
+    planned
 
 remove_stands : (g : Config) (old new : State) (past : List Request) (request : Request) (reply : Reply) (index : ℕ)
-    → StandsFor g old past → answer_with_room g past request ≡ Ok reply → IsRemoved g past request index → IsStep old new (Remove index)
-    → StandsFor g new (request ∷ past)
-remove_stands g old new past request reply index stands given is step =
+    → StandsFor g old past → answer_with_room g past request ≡ Ok reply → IsRemoved g past request index → HasChanged old new (Remove index)
+    → IsPlanned new → StandsFor g new (request ∷ past)
+remove_stands g old new past request reply index stands given is step planned =
     let names = instance_names past in
     let items = old.instances.items in
     let test : List ℕ → Bool = λ other. not (bytes_eq other is.name) in
@@ -214,16 +219,13 @@ remove_stands g old new past request reply index stands given is step =
       each = All-same P new.instances.items (take index items ++ drop (index + 1) items) step.2
           (All-append P (take index items) (drop (index + 1) items) (All-take P index items all) (All-drop P (index + 1) items all));
     })
-
--- some instance is there
-first : (instances : List Named) → 0 < length instances → Named
-first [] some = absurd (omega arith)
-first (n ∷ instances) some = n
+    planned
 
 change_stands : (g : Config) (old new : State) (past : List Request) (request : Request) (reply : Reply) (index : ℕ) (change : InstanceChange)
     → StandsFor g old past → answer_with_room g past request ≡ Ok reply → IsChangeOf g old past request (Instance index change)
-    → index < length old.instances.items → IsStep old new (Instance index change) → StandsFor g new (request ∷ past)
-change_stands g old new past request reply index change stands given is there step =
+    → index < length old.instances.items → HasChanged old new (Instance index change) → IsPlanned new
+    → StandsFor g new (request ∷ past)
+change_stands g old new past request reply index change stands given is there step planned =
     let names = instance_names past in
     let items = old.instances.items in
     let came = step.2 in
@@ -246,7 +248,7 @@ change_stands g old new past request reply index change stands given is there st
     (cases_eq k index) in
     state-after g old new past request reply None stands given plain.declares (none_fresh g past) (catalog-same old new step.0)
     (clock-still old new request plain.ticks step.1)
-    (same_instances g old new.instances.items past request stands plain.made plain.removed came.many came.names each)
+    (same_instances g old new.instances.items past request stands plain.made plain.removed came.many came.names each) planned
 
 emit_stands : (g : Config) (old new : State) (past : List Request) (request : Request) (reply : Reply) (delivery : Delivery)
     → StandsFor g old past → answer_with_room g past request ≡ Ok reply → IsEmission g past request old.instances.items delivery
@@ -263,20 +265,24 @@ emit_stands g old new past request reply delivery stands given is step =
     state-after g old new past request reply None stands given is.declares (none_fresh g past) (catalog-same old new step.0)
     (omega (arith, is.ticks, step.1))
     (same_instances g old new.instances.items past request stands is.made is.removed came.many came.names each)
+    (plans-after-emission delivery old new step.0 step.3 came stands.planned)
 
 step_stands : (g : Config) (old new : State) (past : List Request) (request : Request) (reply : Reply) (change : Change) → StandsFor g old past
-    → answer_with_room g past request ≡ Ok reply → IsChangeOf g old past request change → IsReady g old change → IsStep old new change
-    → StandsFor g new (request ∷ past)
-step_stands g old new past request reply (Declare event) stands given is ready step = declare_stands g old new past request reply event stands given is step
-step_stands g old new past request reply (Make named) stands given is ready step = make_stands g old new past request reply named stands given is step
-step_stands g old new past request reply (Remove index) stands given is ready step = remove_stands g old new past request reply index stands given is step
-step_stands g old new past request reply (Instance index change) stands given is ready step =
-    change_stands g old new past request reply index change stands given is ready.0 step
+    → answer_with_room g past request ≡ Ok reply → IsChangeOf g old past request change → IsReady g old change → HasChanged old new change
+    → IsPlanned new → StandsFor g new (request ∷ past)
+step_stands g old new past request reply (Declare event) stands given is ready step planned =
+    declare_stands g old new past request reply event stands given is step planned
+step_stands g old new past request reply (Make named) stands given is ready step planned =
+    make_stands g old new past request reply named stands given is step planned
+step_stands g old new past request reply (Remove index) stands given is ready step planned =
+    remove_stands g old new past request reply index stands given is step planned
+step_stands g old new past request reply (Instance index change) stands given is ready step planned =
+    change_stands g old new past request reply index change stands given is ready.0 step planned
 
 pub stands_after : (g : Config) (old new : State) (past : List Request) (request : Request) (prepared : Prepared) → IsInRange g → StandsFor g old past
     → IsPrepared g past request old (Ok prepared) → IsStep old new prepared.change → StandsFor g new (request ∷ past)
 stands_after g old new past request prepared range stands is step =
-    step_stands g old new past request prepared.reply prepared.change stands is.0 is.1 is.2 step
+    step_stands g old new past request prepared.reply prepared.change stands is.0 is.1 is.2 step.0 step.1
 
 pub stands_after_emission : (g : Config) (old new : State) (past : List Request) (request : Request) (delivery : Delivery) → StandsFor g old past
     → IsPreparedEmission g past request old delivery → IsEmitted old new delivery → StandsFor g new (request ∷ past)

@@ -61,6 +61,7 @@ usable_from_stands g state past range stands short =
       distinct_names = subst (λ (l : List (Option (List ℕ))). IsDistinct is_same l) (sym stands.names)
           (distinct-with_top (instance_names past) stands.distinct_names);
       each = λ k d inside. usable_instance g state past _ _ stands.events (stands.each k d inside);
+      planned = stands.planned;
     }
 
 pub few_from_stands : (g : Config) (state : State) (past : List Request) → StandsFor g state past → length past < most_requests
@@ -82,9 +83,9 @@ early_from_stands g state past stands short = omega (arith, stands.early, short)
 -- ---- a new state
 
 pub stands_new : (g : Config) (state : State) (top : Named) → state.catalog ≡ [] → state.clock ≡ 0 → state.instances.items ≡ top ∷ [] → top.name ≡ None
-    → InstanceStandsFor g None [] top.instance → StandsFor g state []
+    → InstanceStandsFor g None [] top.instance → length state.plans.items ≡ 64 → StandsFor g state []
 unfolding IsDistinct
-stands_new g state top events clock instances name stands =
+stands_new g state top events clock instances name stands room =
     let P : Named → Type 0 = λ n. InstanceStandsFor g n.name [] n.instance in
     let own : P top = subst (λ (n : Option (List ℕ)). InstanceStandsFor g n [] top.instance) (sym name) stands in record {
       events = events;
@@ -101,4 +102,8 @@ stands_new g state top events clock instances name stands =
       few_instances = omega arith;
       distinct_names = tt;
       each = All-same P state.instances.items (top ∷ []) instances (All-cons P top [] own (All-nil P));
+      planned = record {
+        many = room;
+        each = λ event p inside. absurd (omega (arith, ap (λ (l : List Definition). length l) events, inside));
+      };
     }

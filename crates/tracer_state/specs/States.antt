@@ -27,6 +27,7 @@ use Rattle.trace_instance.specs.declared.change.Reach.{Reach}
 use Rattle.tracer_state.specs.declared.state.Named.{Named}
 use Rattle.tracer_state.specs.declared.state.Prepared.{Prepared}
 use Rattle.tracer_state.specs.declared.state.State.{State}
+use Rattle.tracer_state.specs.EventPlans.{IsPlanned}
 use Rattle.trace_instance.specs.Deliveries.{CanCountRow, CanFire, IsDelivered, NeedsRowMemory, IsWritable, most_requests, row_of}
 
 -- the names of the instances, of which the top one has none
@@ -49,6 +50,7 @@ pub record StandsFor (g : Config) (state : State) (past : List Request) : Type 0
   pub few_instances : length (instance_names past) ≤ 7
   pub distinct_names : IsDistinct bytes_eq (instance_names past)
   pub each : All (λ (n : Named). InstanceStandsFor g n.name past n.instance) state.instances.items
+  pub planned : IsPlanned state
 
 -- what every state of a book has, so that a command can be prepared without its past
 pub record IsUsable (g : Config) (state : State) : Type 0 where
@@ -61,6 +63,7 @@ pub record IsUsable (g : Config) (state : State) : Type 0 where
   pub top : (d : Named) → (slice_index_or state.instances.items 0 d).name ≡ None
   pub distinct_names : IsDistinct is_same (names_of state.instances.items)
   pub each : All (λ (n : Named). IsUsableInstance g (length state.catalog) n.instance) state.instances.items
+  pub planned : IsPlanned state
 
 -- an emission needs memory to be counted: in some instance the table of a hist trigger needs a new entry for it
 abbrev pub NeedsHitMemory : Emission → ℕ → List Named → Type 0
@@ -68,11 +71,12 @@ NeedsHitMemory emission event instances = Any (λ (n : Named). NeedsRowMemory em
 
 -- ---- what a change does
 
--- the same events, clock and instances
+-- the same events, clock, instances and plans
 pub record IsUnchanged (old new : State) : Type 0 where
   pub catalog : new.catalog ≡ old.catalog
   pub clock : new.clock ≡ old.clock
   pub instances : new.instances.items ≡ old.instances.items
+  pub plans : new.plans.items ≡ old.plans.items
 
 -- what an emission does where it does nothing
 abbrev pub no_reach : Reach
@@ -101,6 +105,7 @@ pub record IsStateAlike (old new : State) : Type 0 where
   pub catalog : new.catalog ≡ old.catalog
   pub clock : new.clock ≡ old.clock
   pub instances : EachCame IsAlike old.instances.items new.instances.items
+  pub plans : new.plans.items ≡ old.plans.items
 
 -- each has its name still, and an emission reached it
 pub record EachDelivered (d : Delivery) (old new : List Named) : Type 0 where
@@ -116,23 +121,28 @@ pub record OneCame (R : InstanceSeen → InstanceSeen → Type 0) (index : ℕ) 
   pub came : (d : Named) → R (slice_index_or old index d).instance (slice_index_or new index d).instance
   pub others : (k : ℕ) (d : Named) → k < length old → (k ≡ index → ⊥) → slice_index_or new k d ≡ slice_index_or old k d
 
--- a change was made
-abbrev pub IsStep : State → State → Change → Type 0
-IsStep old new (Declare event) =
+-- a change was made, of all but the plans
+abbrev pub HasChanged : State → State → Change → Type 0
+HasChanged old new (Declare event) =
     (new.catalog ≡ old.catalog ++ event ∷ []) × (new.clock ≡ old.clock)
     × EachCame (λ i j. j ≡ with_event i) old.instances.items new.instances.items
-IsStep old new (Make named) =
+HasChanged old new (Make named) =
     (new.catalog ≡ old.catalog) × (new.clock ≡ old.clock) × (new.instances.items ≡ old.instances.items ++ named.value ∷ [])
-IsStep old new (Remove index) =
+HasChanged old new (Remove index) =
     (new.catalog ≡ old.catalog) × (new.clock ≡ old.clock)
     × (new.instances.items ≡ take index old.instances.items ++ drop (index + 1) old.instances.items)
-IsStep old new (Instance index change) =
+HasChanged old new (Instance index change) =
     (new.catalog ≡ old.catalog) × (new.clock ≡ old.clock) × OneCame (IsApplied change) index old.instances.items new.instances.items
 
--- an emission was brought to each instance, and the clock ticked
+-- a change was made, and the plans of events are what the settings say after it
+abbrev pub IsStep : State → State → Change → Type 0
+IsStep old new change = HasChanged old new change × IsPlanned new
+
+-- an emission was brought to each instance, and the clock ticked; no plan changes
 abbrev pub IsEmitted : State → State → Delivery → Type 0
 IsEmitted old new delivery =
     (new.catalog ≡ old.catalog) × (new.clock ≡ old.clock + 1) × EachDelivered delivery old.instances.items new.instances.items
+    × (new.plans.items ≡ old.plans.items)
 
 -- ---- when a change is what a request says
 

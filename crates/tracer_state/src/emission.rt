@@ -10,6 +10,7 @@ ghost use Rattle.trace_format.specs.Cells.{IsRowOf, record_size_of};
 ghost use Rattle.trace_format.specs.declared.pair.Pair.{Pair as PairSeen};
 ghost use Rattle.trace_history.specs.History.{answer_with_room, emission_answer};
 ghost use Rattle.trace_history.specs.Settings.{declared_events};
+ghost use Rattle.tracer_state.specs.EventPlans.{IsPlanOf};
 ghost use Rattle.tracer_state.specs.private.Emissions as emissions;
 ghost use Rattle.tracer_state.specs.ValueEmissions.{values_emission};
 ghost use Rattle.trace_instance.specs.Instances.{IsAlike};
@@ -17,13 +18,15 @@ ghost use Rattle.trace_instance.specs.KeptHists.{KeysAgree};
 ghost use Rattle.tracer_state.specs.States.{StandsFor, IsPreparedEmission, IsStateAlike, IsUsable, EachCame, ArePassed, NeedsHitMemory};
 ghost use Rattle.trace_instance.specs.Deliveries.{CanCountRow, most_requests};
 
+use crate::plan::EventPlan;
+use crate::reach::reach_planned;
 use crate::resolve::{Found, find_likely, find_numbered};
 use crate::row::record;
 use crate::state::{Named, State};
 use std::alloc::{AllocError, Global};
 use trace_command::{Config, Refusal};
 use trace_format::{BorrowedPair, FieldValue, Row, payload_size};
-use trace_instance::{Delivery, INSTANCES, MOST_TRIGGERS, Passed, Reach};
+use trace_instance::{Delivery, INSTANCES, MOST_TRIGGERS, Passed};
 
 impl State {
     /// Prepares an emission, in this order: its CPU, its event, its row, what it does in each instance, its record, if an instance
@@ -55,7 +58,16 @@ impl State {
             return Err(Refusal::NoSuchEvent);
         };
         delivery.row.rebuild(alloc, found.event, pairs)?;
-        prepare_row(&mut self.instances, self.clock, found, cpu, pid, delivery)?;
+        let plan = &self.plans[found.index];
+        prepare_row(
+            plan,
+            &mut self.instances,
+            self.clock,
+            found,
+            cpu,
+            pid,
+            delivery,
+        )?;
         Ok(())
     }
 
@@ -88,7 +100,16 @@ impl State {
             return Err(Refusal::NoSuchEvent);
         };
         delivery.row.rebuild_of_values(alloc, found.event, values)?;
-        prepare_row(&mut self.instances, self.clock, found, cpu, pid, delivery)?;
+        let plan = &self.plans[found.index];
+        prepare_row(
+            plan,
+            &mut self.instances,
+            self.clock,
+            found,
+            cpu,
+            pid,
+            delivery,
+        )?;
         Ok(())
     }
 
@@ -114,6 +135,7 @@ impl State {
 // of its hist triggers.
 #[inline(always)]
 fn prepare_row(
+    plan: &EventPlan,
     instances: &mut [Named],
     clock: u64,
     found: Found<'_>,
@@ -121,6 +143,7 @@ fn prepare_row(
     pid: i32,
     delivery: &mut Delivery,
 ) -> Result<(), AllocError>
+    requires planned { IsPlanOf found.index plan.now instances.old }
     requires few { length instances.old ≤ 8 }
     requires each { All (λ n. emissions.HasEventAt found.index n.instance) instances.old }
     requires early { clock ≤ most_requests }
@@ -137,7 +160,7 @@ fn prepare_row(
     delivery.cpu = cpu;
     delivery.pid = pid;
     let row = &delivery.row;
-    let reached = reach_each(instances, index, row, cpu, pid, &mut delivery.reaches);
+    let reached = reach_planned(plan, instances, index, row, cpu, pid, &mut delivery.reaches);
     delivery.wanted = reached.recorded | reached.triggered;
     write_ahead(
         clock,
@@ -181,48 +204,6 @@ fn write_ahead(
     }
     let size = payload_size(found.event);
     record(clock + 1, pid, found.index as u16 + 1, size, row, bytes)
-}
-
-// What an emission does in any instance.
-#[derive(Clone, Copy)]
-struct Reached {
-    // Whether some instance records it.
-    recorded: bool,
-    // Whether some instance has a snapshot trigger that acts, or hist triggers of its event.
-    triggered: bool,
-}
-
-// What an emission of the event at this index does in each instance, apart from hist triggers, and what it does in any.
-#[inline(always)]
-fn reach_each(
-    instances: &[Named],
-    event: usize,
-    row: &Row,
-    cpu: u32,
-    pid: i32,
-    reaches: &mut [Reach; INSTANCES],
-) -> Reached
-    requires few { length instances.now ≤ 8 }
-    requires enabled { All (λ n. event < length n.instance.enabled) instances.now }
-    requires filters { All (λ n. event < length n.instance.filters) instances.now }
-    requires triggers { All (λ n. event < length n.instance.triggers) instances.now }
-    requires hists { All (λ n. event < length n.instance.hists) instances.now }
-    ensures reached { emissions.AreReached event row.now cpu pid reaches.new result.recorded instances.now }
-    ensures quiet { emissions.AreQuiet event reaches.new result.triggered instances.now }
-{
-    let mut recorded = false;
-    let mut triggered = false;
-    for i in 0..instances.len() {
-        let reach = instances[i].instance.reach(event, row, cpu, pid);
-        let has_hists = instances[i].instance.has_hists(event);
-        reaches[i] = reach;
-        recorded |= reach.records;
-        triggered |= reach.fires | has_hists;
-    }
-    Reached {
-        recorded,
-        triggered,
-    }
 }
 
 // As `reserve_each`, if some instance may have hist triggers of the event.

@@ -4,11 +4,14 @@
 mod change;
 mod emission;
 mod make;
+mod plan;
 mod prepare;
+mod reach;
 mod resolve;
 mod row;
 mod state;
 mod waiting;
 
 pub use change::Change;
+pub use plan::EventPlan;
 pub use state::{Named, Prepared, State};

@@ -10,6 +10,7 @@ ghost use Rattle.tracer_state.specs.declared.state.Named.{Named};
 ghost use Rattle.trace_instance.specs.KeptHists.{KeysAgree};
 
 use crate::change::Change;
+use crate::plan::{EVENTS, EventPlan, replan};
 use std::alloc::{AllocError, Global};
 use trace_command::{Config, Refusal, Reply};
 use trace_format::Catalog;
@@ -23,11 +24,13 @@ pub struct Named {
     pub instance: Instance,
 }
 
-/// The declared events, the clock, and the instances: first the top one, then the others in order of creation.
+/// The declared events, the clock, and the instances: first the top one, then the others in order of creation. Beside them the plan of each event,
+/// with room for those of all events that may be declared.
 pub struct State {
     pub catalog: Catalog,
     pub clock: u64,
     pub instances: Vec<Named>,
+    pub plans: Vec<EventPlan>,
 }
 
 impl Drop for State {
@@ -37,6 +40,7 @@ impl Drop for State {
             catalog: _,
             clock: _,
             instances: _,
+            plans: _,
         } = self;
     }
 }
@@ -78,20 +82,42 @@ impl State {
             instance,
         };
         let instances = vec![in alloc; top]?;
+        let plans = vec![in alloc; EventPlan::idle(); EVENTS]?;
         Ok(State {
             catalog: Catalog::new(alloc),
             clock: 0,
             instances,
+            plans,
         })
     }
 
-    /// Applies a change. It may still allocate for the lists of events and of instances, a spare side, or a hist trigger; if that is refused, nothing
-    /// changes.
+    /// Applies a change, and works out the plans that it may change. It may still allocate for the lists of events and of instances, a spare side, or
+    /// a hist trigger; if that is refused, nothing changes.
     pub(crate) fn commit(&mut self, config: &Config, change: Change) -> Result<(), Refusal>
         requires usable { states.IsUsable config.now self.old }
         requires ready { states.IsReady config.now self.old change }
         ensures done { OnOk result (states.IsStep self.old self.new change) }
         ensures refused { OnErr result (states.IsUnchanged self.old self.new) }
+        ensures memory { IfErr result (λ r. r ≡ refusal.Memory) }
+    {
+        let touched = change.touched(self.catalog.len());
+        self.make_change(config, change)?;
+        replan(
+            &mut self.plans,
+            &self.instances,
+            touched.first,
+            touched.count,
+        );
+        Ok(())
+    }
+
+    // Likewise, but leaves the plans.
+    fn make_change(&mut self, config: &Config, change: Change) -> Result<(), Refusal>
+        requires usable { states.IsUsable config.now self.old }
+        requires ready { states.IsReady config.now self.old change }
+        ensures done { OnOk result (states.HasChanged self.old self.new change) }
+        ensures refused { OnErr result (states.IsUnchanged self.old self.new) }
+        ensures plans { self.new.plans ≡ self.old.plans }
         ensures memory { IfErr result (λ r. r ≡ refusal.Memory) }
     {
         match change {

@@ -2,7 +2,7 @@ use Rattle.std.proofs.Common.{◌≡◌, ℕ, ◌<◌, false, [], length, slice_
 use Rattle.trace_instance.specs.Rows.{reach_of}
 use Rattle.tracer_state.specs.States.{no_reach}
 use Rattle.tracer_state.specs.declared.state.Named.{Named}
-use Rattle.tracer_state.proofs.emission.reach_each.Given as goal
+use Rattle.tracer_state.proofs.reach.reach_each.Given as goal
 
 abbrev pub invariant-loop-i : goal.invariant-loop-i
 invariant-loop-i l = record {

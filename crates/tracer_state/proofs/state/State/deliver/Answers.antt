@@ -10,4 +10,5 @@ returns-else-delivery c = (
   refl,
   refl,
   undelivered-each c.args.delivery.now c.args.self.now.instances.items c.if-delivery.false c.requires.ready.3,
+  refl,
 )

@@ -1,4 +1,4 @@
-use Rattle.tracer_state.proofs.state.State.commit.Goals as goal
+use Rattle.tracer_state.proofs.state.State.make_change.Goals as goal
 
 pub change_one-requires-clause-lawful : goal.change_one-requires-clause-lawful
 change_one-requires-clause-lawful c = λ d.

@@ -1,4 +1,4 @@
-use Rattle.std.proofs.Common.{None, refl}
+use Rattle.std.proofs.Common.{None, refl, arith}
 use Rattle.tracer_state.specs.declared.state.Named.{Named}
 use Rattle.trace_instance.proofs.NewInstance.{top_instance_stands}
 use Rattle.tracer_state.proofs.Usable.{stands_new}
@@ -24,3 +24,4 @@ returns c =
       pages = made.pages;
       page_bytes = made.page_bytes;
     }))
+    (omega (arith, c.in_ok-plans.ensures.len, c.in_ok-plans.plans.ok.0))

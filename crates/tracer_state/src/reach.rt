@@ -1,0 +1,145 @@
+//! What an emission does in each instance, apart from hist triggers: read off the event's plan, or asked of the instance.
+
+ghost use Rattle.std.specs.Prelude.{◌≡◌, ◌<◌, ◌≤◌, false, [], length, slice_index_or, All};
+ghost use Rattle.trace_instance.specs.Plans.{plan_of};
+ghost use Rattle.trace_instance.specs.Rows.{reach_of};
+ghost use Rattle.tracer_state.specs.EventPlans.{IsPlanOf};
+ghost use Rattle.tracer_state.specs.States.{no_reach};
+ghost use Rattle.tracer_state.specs.private.Emissions as emissions;
+
+use crate::plan::EventPlan;
+use crate::state::Named;
+use trace_format::Row;
+use trace_instance::{INSTANCES, Instance, Plan, Reach};
+
+/// What an emission does in any instance.
+#[derive(Clone, Copy)]
+pub(crate) struct Reached {
+    /// Whether some instance records it.
+    pub recorded: bool,
+    /// Whether some instance has a snapshot trigger that acts, or hist triggers of its event.
+    pub triggered: bool,
+}
+
+/// What an emission of the event at this index, which has this plan, does in each instance, and what it does in any.
+#[inline(always)]
+pub(crate) fn reach_planned(
+    plan: &EventPlan,
+    instances: &[Named],
+    event: usize,
+    row: &Row,
+    cpu: u32,
+    pid: i32,
+    reaches: &mut [Reach; INSTANCES],
+) -> Reached
+    requires planned { IsPlanOf event plan.now instances.now }
+    requires few { length instances.now ≤ 8 }
+    requires enabled { All (λ n. event < length n.instance.enabled) instances.now }
+    requires filters { All (λ n. event < length n.instance.filters) instances.now }
+    requires triggers { All (λ n. event < length n.instance.triggers) instances.now }
+    requires hists { All (λ n. event < length n.instance.hists) instances.now }
+    ensures reached { emissions.AreReached event row.now cpu pid reaches.new result.recorded instances.now }
+    ensures quiet { emissions.AreQuiet event reaches.new result.triggered instances.now }
+{
+    if plan.idle {
+        *reaches = [nothing(); INSTANCES];
+        return Reached {
+            recorded: false,
+            triggered: false,
+        };
+    }
+    reach_each(plan, instances, event, row, cpu, pid, reaches)
+}
+
+// What an emission does where it does nothing.
+#[inline(always)]
+fn nothing() -> Reach
+    ensures { result ≡ no_reach }
+{
+    Reach {
+        records: false,
+        fires: false,
+    }
+}
+
+// As `reach_planned`, of an event that is not idle.
+#[inline(always)]
+fn reach_each(
+    plan: &EventPlan,
+    instances: &[Named],
+    event: usize,
+    row: &Row,
+    cpu: u32,
+    pid: i32,
+    reaches: &mut [Reach; INSTANCES],
+) -> Reached
+    requires planned { IsPlanOf event plan.now instances.now }
+    requires few { length instances.now ≤ 8 }
+    requires enabled { All (λ n. event < length n.instance.enabled) instances.now }
+    requires filters { All (λ n. event < length n.instance.filters) instances.now }
+    requires triggers { All (λ n. event < length n.instance.triggers) instances.now }
+    requires hists { All (λ n. event < length n.instance.hists) instances.now }
+    ensures reached { emissions.AreReached event row.now cpu pid reaches.new result.recorded instances.now }
+    ensures quiet { emissions.AreQuiet event reaches.new result.triggered instances.now }
+{
+    let mut recorded = false;
+    let mut triggered = false;
+    for i in 0..instances.len() {
+        let here = reach_one(plan.each[i], &instances[i].instance, event, row, cpu, pid);
+        reaches[i] = here.reach;
+        recorded |= here.reach.records;
+        triggered |= here.triggered;
+    }
+    Reached {
+        recorded,
+        triggered,
+    }
+}
+
+// What an emission does in an instance, and whether a trigger of its event may do anything there.
+#[derive(Clone, Copy)]
+struct OneReached {
+    reach: Reach,
+    triggered: bool,
+}
+
+// What an emission of the event at this index, which has this plan there, does in an instance.
+#[inline(always)]
+fn reach_one(
+    plan: Plan,
+    instance: &Instance,
+    event: usize,
+    row: &Row,
+    cpu: u32,
+    pid: i32,
+) -> OneReached
+    requires planned { plan ≡ plan_of instance.now event }
+    requires enabled { event < length instance.now.enabled }
+    requires filters { event < length instance.now.filters }
+    requires triggers { event < length instance.now.triggers }
+    requires hists { event < length instance.now.hists }
+    ensures reach { result.reach ≡ reach_of instance.now event row.now cpu pid }
+    ensures fires { result.triggered ≡ false → result.reach.fires ≡ false }
+    ensures hists { result.triggered ≡ false → slice_index_or instance.now.hists event [] ≡ [] }
+{
+    match plan {
+        Plan::Nothing => OneReached {
+            reach: nothing(),
+            triggered: false,
+        },
+        Plan::Record => OneReached {
+            reach: Reach {
+                records: true,
+                fires: false,
+            },
+            triggered: false,
+        },
+        Plan::Ask => {
+            let reach = instance.reach(event, row, cpu, pid);
+            OneReached {
+                reach,
+                triggered: reach.fires | instance.has_hists(event),
+            }
+        }
+    }
+}
