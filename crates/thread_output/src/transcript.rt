@@ -55,7 +55,6 @@ fn add_told(is_told: bool, one: OutcomeAt, outcomes: &mut Vec<OutcomeAt>) -> Res
     ensures { OnOk result (outcomes.new.items ≡ outcomes.old.items ++ told_if is_told (one ∷ [])) }
 {
     if !is_told {
-        drop(one);
         return Ok(());
     }
     Ok(outcomes.push(one)?)
@@ -122,10 +121,7 @@ impl Transcript {
     {
         self.is_refused |= reply.is_err();
         let outcome = replied(reply)?;
-        if add_outcome(alloc, number, &outcome, &mut self.text).is_err() {
-            drop(outcome);
-            return Err(AllocError);
-        }
+        add_outcome(alloc, number, &outcome, &mut self.text)?;
         add_told(is_told, OutcomeAt { number, outcome }, &mut self.outcomes)
     }
 
