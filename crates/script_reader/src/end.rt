@@ -19,12 +19,8 @@ fn is_end(alloc: Global, line: &[u8]) -> Result<bool, AllocError>
     if !may_end(line) {
         return Ok(false);
     }
-    let Ok(said) = read_line(alloc, line) else {
-        return Err(AllocError);
-    };
-    let is_end = ends(&said);
-    drop(said);
-    Ok(is_end)
+    let said = read_line(alloc, line)?;
+    Ok(ends(&said))
 }
 
 /// Whether a line `end` is among the lines that are left.

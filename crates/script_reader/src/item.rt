@@ -129,11 +129,8 @@ pub fn next_item<'a>(
     ensures room { IfOk result (λ next. next.number + bytes_left (option_copied next.rest) ≤ number + length text.now + 1) }
 {
     let (line, after) = first_line(text);
-    let Ok(said) = read_line(alloc, line) else {
-        return Err(AllocError);
-    };
+    let said = read_line(alloc, line)?;
     if begins(&said) {
-        drop(said);
         return part_or_line(alloc, number, text, line, after);
     }
     Ok(NextItem {

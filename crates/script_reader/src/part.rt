@@ -137,7 +137,6 @@ fn add_line<'a>(
                 line,
                 command: Snapshot::of(&command),
             };
-            drop(command);
             add_command(threads, asked)
         }
         Ok(Line::Thread) => add_thread(alloc, threads),
@@ -160,21 +159,14 @@ fn read_next<'a>(
     ensures line { IfOk result (λ next. (first : ℕ) (all : List (List ℕ)) → IsLineAt first all number line.now → HasItsLine first all next) }
 {
     match next_fault(&threads, &said) {
-        Some(fault) => {
-            drop(threads);
-            drop(said);
-            Ok(Part::Fault {
-                at: FaultAt { number, fault },
-                line,
-            })
+        Some(fault) => Ok(Part::Fault {
+            at: FaultAt { number, fault },
+            line,
+        }),
+        None => {
+            add_line(alloc, &mut threads, number, line, said)?;
+            Ok(Part::Threads(threads))
         }
-        None => match add_line(alloc, &mut threads, number, line, said) {
-            Ok(()) => Ok(Part::Threads(threads)),
-            Err(error) => {
-                drop(threads);
-                Err(error)
-            }
-        },
     }
 }
 
@@ -194,10 +186,7 @@ fn read_on<'a>(
 {
     match reading {
         Part::Threads(threads) => read_next(alloc, threads, number, line, said),
-        Part::Fault { at, line } => {
-            drop(said);
-            Ok(Part::Fault { at, line })
-        }
+        Part::Fault { at, line } => Ok(Part::Fault { at, line }),
     }
 }
 
@@ -225,22 +214,15 @@ pub fn read_part<'a>(
     let mut part = Part::Threads(Vec::new(alloc));
     while let Some(here) = rest {
         let (line, after) = first_line(here);
-        let Ok(said) = read_line(alloc, line) else {
-            drop(part);
-            return Err(AllocError);
-        };
+        let said = read_line(alloc, line)?;
         if ends(&said) {
-            drop(said);
             return Ok(Some(PartRead {
                 part,
                 lines,
                 rest: after,
             }));
         }
-        let Ok(next) = read_on(alloc, part, number + lines, line, said) else {
-            return Err(AllocError);
-        };
-        part = next;
+        part = read_on(alloc, part, number + lines, line, said)?;
         lines += 1;
         rest = after;
     }

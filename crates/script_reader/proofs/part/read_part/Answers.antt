@@ -10,7 +10,7 @@ pub returns-then-ends-clause-read : goal.returns-then-ends-clause-read
 returns-then-ends-clause-read c =
     ends_here c.args.number (lines_left (option_copied c.args.text)) (item_of c.loop-rest.part) c.loop-rest.lines (lines_left (option_copied c.loop-rest.rest))
     c.loop-rest.invariant.reads c.first_line.result.0.now (lines_left (option_copied c.first_line.result.1)) (rw c.in-Some.is c.first_line.ensures.lines)
-    (ap ends_with (sym c.in-Ok.ensures.read) ∙ sym c.if-ends.ensures)
+    (ap ends_with (sym c.in_ok-said.ensures.read) ∙ sym c.if-ends.ensures)
 
 pub loop-rest-preserved : goal.loop-rest-preserved
 loop-rest-preserved c =
@@ -21,10 +21,10 @@ loop-rest-preserved c =
     let is : left ≡ line ∷ more = rw c.in-Some.is c.first_line.ensures.lines in
     record {
       reads =
-          goes_on c.args.number all (item_of c.loop-rest.part) c.loop-rest.lines left c.loop-rest.invariant.reads line more is (item_of c.in-Ok-read_on.next)
-          (ap ends_with (sym c.in-Ok.ensures.read) ∙ sym c.if-ends.ensures) c.in-Ok-read_on.ensures.reads;
+          goes_on c.args.number all (item_of c.loop-rest.part) c.loop-rest.lines left c.loop-rest.invariant.reads line more is (item_of c.in_ok-part.part)
+          (ap ends_with (sym c.in_ok-said.ensures.read) ∙ sym c.if-ends.ensures) c.in_ok-part.ensures.reads;
       kept =
-          c.in-Ok-read_on.ensures.line c.args.number all
+          c.in_ok-part.ensures.line c.args.number all
           (line_here c.args.number all (item_of c.loop-rest.part) c.loop-rest.lines left c.loop-rest.invariant.reads line more is) c.loop-rest.invariant.kept;
       room = omega (arith, rw c.in-Some.is at c.loop-rest.invariant.room, c.first_line.ensures.shorter);
     }
