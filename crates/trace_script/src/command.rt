@@ -36,13 +36,8 @@ pub(crate) fn pair(alloc: Global, word: &[u8]) -> Result<Pair, LineError>
         return Err(LineError::Fault(ScriptFault::WrongWords));
     };
     let name = Text::from_slice(alloc, &word[..at])?;
-    match Text::from_slice(alloc, &word[at + 1..]) {
-        Ok(value) => Ok(Pair { name, value }),
-        Err(_) => {
-            drop(name);
-            Err(LineError::Memory)
-        }
-    }
+    let value = Text::from_slice(alloc, &word[at + 1..])?;
+    Ok(Pair { name, value })
 }
 
 /// The pairs that the tokens write, each of them a word. A pair that is alone takes no block of its own.
@@ -57,15 +52,11 @@ fn pairs(alloc: Global, tokens: &mut Tokens<'_>) -> Result<Pairs, LineError>
         )),
         None => return Ok(Pairs::new(alloc)),
     };
-    match pair(alloc, word) {
-        Ok(first) => {
-            if tokens.is_empty() {
-                Ok(Pairs::from(first))
-            } else {
-                more_pairs(alloc, first, tokens)
-            }
-        }
-        Err(error) => Err(error),
+    let first = pair(alloc, word)?;
+    if tokens.is_empty() {
+        Ok(Pairs::from(first))
+    } else {
+        more_pairs(alloc, first, tokens)
     }
 }
 
@@ -76,13 +67,8 @@ fn push_pair(alloc: Global, pairs: &mut Vec<Pair>, word: &[u8]) -> Result<(), Li
     ensures err { IfErr result (λ error. Fails error (or_fault WrongWords (pair_of word.now))) }
 {
     pairs.reserve(1)?;
-    match pair(alloc, word) {
-        Ok(pair) => {
-            pairs.push_reserved(pair);
-            Ok(())
-        }
-        Err(error) => Err(error),
-    }
+    pairs.push_reserved(pair(alloc, word)?);
+    Ok(())
 }
 
 /// A pair and those that the tokens write after it, in a block that mostly has room for all of them.
@@ -90,13 +76,7 @@ fn push_pair(alloc: Global, pairs: &mut Vec<Pair>, word: &[u8]) -> Result<(), Li
 fn more_pairs(alloc: Global, first: Pair, tokens: &mut Tokens<'_>) -> Result<Pairs, LineError>
     ensures { Gives (λ pairs. pairs) result (or_fault WrongWords (option_map (λ more. first ∷ more) (pairs_of tokens.old))) }
 {
-    let mut pairs = match Vec::with_capacity(alloc, tokens.first_room().saturating_add(1)) {
-        Ok(pairs) => pairs,
-        Err(_) => {
-            drop(first);
-            return Err(LineError::Memory);
-        }
-    };
+    let mut pairs = Vec::with_capacity(alloc, tokens.first_room().saturating_add(1))?;
     pairs.push_reserved(first);
     while let Some(token) = tokens.next() {
         let BorrowedToken::Word(word) = token else {
@@ -111,10 +91,9 @@ fn more_pairs(alloc: Global, first: Pair, tokens: &mut Tokens<'_>) -> Result<Pai
 /// its room.
 #[cold]
 #[inline(never)]
-fn without_command(pairs: Pairs, error: LineError) -> Result<Command, LineError>
+fn without_command(_pairs: Pairs, error: LineError) -> Result<Command, LineError>
     ensures { result ≡ Err error }
 {
-    drop(pairs);
     Err(error)
 }
 
@@ -159,10 +138,7 @@ pub(crate) fn emission(alloc: Global, tokens: &mut Tokens<'_>) -> Result<Command
     if tokens.is_empty() {
         return Err(LineError::Fault(ScriptFault::WrongWords));
     }
-    match pairs(alloc, tokens) {
-        Ok(pairs) => emission_with(alloc, cpu, pid, event, pairs),
-        Err(error) => Err(error),
-    }
+    emission_with(alloc, cpu, pid, event, pairs(alloc, tokens)?)
 }
 
 /// Appends a word to those before it, after a space where it is not the first.
@@ -195,13 +171,8 @@ fn redirected(
 ) -> Result<Command, LineError>
     ensures { Gives (λ command. command) result (redirected_to append text tokens.old) }
 {
-    match only_word(alloc, tokens) {
-        Ok(path) => Ok(Command::Write { path, append, text }),
-        Err(error) => {
-            drop(text);
-            Err(error)
-        }
-    }
+    let path = only_word(alloc, tokens)?;
+    Ok(Command::Write { path, append, text })
 }
 
 /// An `echo`, with `>` or `>>` before its path: what is written is the words with a space between each two.
@@ -242,7 +213,6 @@ fn take(alloc: Global, tokens: &mut Tokens<'_>) -> Result<Command, LineError>
     };
     let path = only_word(alloc, tokens)?;
     let Some(limit) = decimal_number(count, u64::MAX) else {
-        drop(path);
         return Err(LineError::Fault(ScriptFault::BadNumber));
     };
     Ok(Command::Read {

@@ -70,10 +70,7 @@ fn any_line(alloc: Global, name: &[u8], tokens: &mut Tokens<'_>) -> Result<Line,
     ensures { Gives (λ line. line) result (named_line name.now tokens.old) }
 {
     if !is_block_word(name) {
-        return match command(alloc, name, tokens) {
-            Ok(command) => Ok(Line::Ask(command)),
-            Err(error) => Err(error),
-        };
+        return Ok(Line::Ask(command(alloc, name, tokens)?));
     }
     if tokens.is_empty() {
         Ok(block_line(name))

@@ -117,20 +117,11 @@ fn quoted_word(alloc: Global, line: &[u8]) -> Result<(Text, &[u8]), LineError>
             let (_, rest) = line.split_at(index);
             return Ok((word, rest));
         }
-        match step(*byte, &mut within, &mut word) {
-            Ok(()) => {}
-            Err(_) => {
-                drop(word);
-                return Err(LineError::Memory);
-            }
-        }
+        step(*byte, &mut within, &mut word)?;
     }
     match within {
         None => Ok((word, &[])),
-        Some(_) => {
-            drop(word);
-            Err(LineError::Fault(ScriptFault::UnclosedQuote))
-        }
+        Some(_) => Err(LineError::Fault(ScriptFault::UnclosedQuote)),
     }
 }
 

@@ -32,6 +32,7 @@ enum Left<'a> {
 }
 
 /// The tokens of a line that were not taken yet.
+#[derive(Drop)]
 pub(crate) struct Tokens<'a> {
     left: Left<'a>,
 }
@@ -47,12 +48,6 @@ impl<'a> Model for Tokens<'a> {
     ghost view = { λ tokens. tokens_in tokens.left };
 
     ghost invariant = { λ tokens. IsReadable tokens.left };
-}
-
-impl Drop for Tokens<'_> {
-    fn drop(self) {
-        let Tokens { left: _ } = self;
-    }
 }
 
 /// The first token of what is left of a line without quotes, and what follows it and the blanks after it.

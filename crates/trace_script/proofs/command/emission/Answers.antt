@@ -1,11 +1,12 @@
 use Rattle.std.proofs.Common.{rules}
-use Rattle.trace_script.proofs.TakenCommands.{emission_read, bad_pairs}
+use Rattle.trace_script.proofs.TakenCommands.{emission_read, bad_pairs, gives_err}
 use Rattle.trace_script.proofs.command.emission.Goals as goal
 
-pub returns-in-Err : goal.returns-in-Err
-returns-in-Err c =
-    bad_pairs _ _ _ _ _ _ _ _ c.in-Some.ensures c.in-Some-next_word.ensures c.in-Some-next_word-2.ensures (search rules) c.in-Err.ensures
+pub returns-in_err-pairs : goal.returns-in_err-pairs
+returns-in_err-pairs c =
+    gives_err _ _ _ c.from_residual.ensures.1
+    (bad_pairs _ _ _ _ _ _ _ _ c.in-Some.ensures c.in-Some-next_word.ensures c.in-Some-next_word-2.ensures (search rules) c.in_err-pairs.ensures)
 
-pub returns-in-Ok : goal.returns-in-Ok
-returns-in-Ok c =
-    rw (emission_read _ _ _ _ _ _ _ _ c.in-Some.ensures c.in-Some-next_word.ensures c.in-Some-next_word-2.ensures (search rules) c.in-Ok.ensures) c.emission_with.ensures
+pub returns : goal.returns
+returns c =
+    rw (emission_read _ _ _ _ _ _ _ _ c.in-Some.ensures c.in-Some-next_word.ensures c.in-Some-next_word-2.ensures (search rules) c.in_ok-pairs.ensures) c.emission_with.ensures

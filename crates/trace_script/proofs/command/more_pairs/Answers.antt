@@ -10,7 +10,7 @@ returns-in_default-token c = more_redirected _ _ _ _ _ _ c.loop-token.invariant 
 
 pub returns-in_err-push_pair : goal.returns-in_err-push_pair
 returns-in_err-push_pair c =
-    gives_err _ _ _ c.from_residual.ensures.1
+    gives_err _ _ _ c.from_residual-in_err-push_pair.ensures.1
     (more_wrong _ _ _ _ _ _ _ c.loop-token.invariant (rw c.in-Word.is at c.in-Some.ensures) c.in_err-push_pair.ensures.err)
 
 pub loop-token-preserved : goal.loop-token-preserved

@@ -37,4 +37,4 @@ step-requires c =
 pub loop-index-preserved : goal.loop-index-preserved
 loop-index-preserved c =
     let loop = c.loop-index in
-    quoted_step loop.within c.step.new.within loop.word c.step.new.word c.args.line.now loop.index c.loop-index-test.true c.in-Ok.ensures loop.invariant
+    quoted_step loop.within c.step.new.within loop.word c.step.new.word c.args.line.now loop.index c.loop-index-test.true c.in_ok-step.ensures loop.invariant
