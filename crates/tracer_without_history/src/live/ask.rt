@@ -92,13 +92,9 @@ impl Live {
         ensures config { self.new.config ≡ self.old.config }
     {
         let (event, cpu, pid, pairs) = emission.parts();
-        match self.prepare_emission(limit, event, cpu, pid, pairs) {
-            Ok(()) => {
-                self.deliver();
-                Ok(Reply::Done)
-            }
-            Err(refusal) => Err(refusal),
-        }
+        self.prepare_emission(limit, event, cpu, pid, pairs)?;
+        self.deliver();
+        Ok(Reply::Done)
     }
 
     /// As `ask`, for the emission of the event with this number, from 1, and values of its fields in order of declaration (`values_emission`).
@@ -131,13 +127,9 @@ impl Live {
             → IsCallWithin limit past self.new (values_emission (declared_events past) event cpu pid values.now) result }
         ensures config { self.new.config ≡ self.old.config }
     {
-        match self.prepare_values(limit, event, cpu, pid, values) {
-            Ok(()) => {
-                self.deliver();
-                Ok(Reply::Done)
-            }
-            Err(refusal) => Err(refusal),
-        }
+        self.prepare_values(limit, event, cpu, pid, values)?;
+        self.deliver();
+        Ok(Reply::Done)
     }
 
     // As `ask_within`, for a command other than an emission.
@@ -148,9 +140,7 @@ impl Live {
             → IsCallWithin limit past self.new (request_of command.now) result }
         ensures config { self.new.config ≡ self.old.config }
     {
-        match self.prepare(limit, command) {
-            Ok(prepared) => self.carry_out(prepared),
-            Err(refusal) => Err(refusal),
-        }
+        let prepared = self.prepare(limit, command)?;
+        self.carry_out(prepared)
     }
 }

@@ -32,10 +32,7 @@ impl Live {
             → IfErr result (λ r. r ≢ refusal.Memory) }
     {
         let done = self.done;
-        let prepared = match self.state.prepare(self.alloc, &self.config, done, command) {
-            Ok(prepared) => prepared,
-            Err(refusal) => return Err(refusal),
-        };
+        let prepared = self.state.prepare(self.alloc, &self.config, done, command)?;
         if done >= limit {
             let_go_change(prepared);
             return Err(Refusal::HistoryFull);
@@ -56,13 +53,9 @@ impl Live {
         ensures room { OnOk result (self.now.done < limit) }
         ensures fits { OnOk result (FitsItsTypes (request_of (Command.Read path.now most))) }
     {
-        let read = match self
+        let read = self
             .state
-            .prepare_read(self.alloc, &self.config, path, most)
-        {
-            Ok(prepared) => prepared,
-            Err(refusal) => return Err(refusal),
-        };
+            .prepare_read(self.alloc, &self.config, path, most)?;
         if self.done >= limit {
             let_go_change(read);
             return Err(Refusal::HistoryFull);
@@ -83,13 +76,9 @@ impl Live {
         ensures memory { IfErr result (λ r. r ≡ refusal.Memory) }
         ensures config { self.new.config ≡ self.old.config }
     {
-        match self.state.carry_out(&self.config, prepared) {
-            Ok(reply) => {
-                self.done += 1;
-                Ok(reply)
-            }
-            Err(refusal) => Err(refusal),
-        }
+        let reply = self.state.carry_out(&self.config, prepared)?;
+        self.done += 1;
+        Ok(reply)
     }
 
     /// Looks at an emission, and allocates what it needs: what is delivered, which the tracer keeps, or its refusal, `HistoryFull` as for `prepare`.
@@ -113,7 +102,7 @@ impl Live {
         ensures lives { (past : List Request) → IsLive self.old.config past self.old → IsLive self.new.config past self.new }
         ensures config { self.new.config ≡ self.old.config }
     {
-        match self.state.prepare_emission(
+        self.state.prepare_emission(
             self.alloc,
             &mut self.delivery,
             &self.config,
@@ -121,10 +110,7 @@ impl Live {
             cpu,
             pid,
             pairs,
-        ) {
-            Ok(()) => {}
-            Err(refusal) => return Err(refusal),
-        }
+        )?;
         if self.done >= limit {
             return Err(Refusal::HistoryFull);
         }
@@ -151,7 +137,7 @@ impl Live {
         ensures lives { (past : List Request) → IsLive self.old.config past self.old → IsLive self.new.config past self.new }
         ensures config { self.new.config ≡ self.old.config }
     {
-        match self.state.prepare_values(
+        self.state.prepare_values(
             self.alloc,
             &mut self.delivery,
             &self.config,
@@ -159,10 +145,7 @@ impl Live {
             cpu,
             pid,
             values,
-        ) {
-            Ok(()) => {}
-            Err(refusal) => return Err(refusal),
-        }
+        )?;
         if self.done >= limit {
             return Err(Refusal::HistoryFull);
         }

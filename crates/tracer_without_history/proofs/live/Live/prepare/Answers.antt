@@ -1,4 +1,4 @@
-use Rattle.std.proofs.Common.{sym, arith}
+use Rattle.std.proofs.Common.{sym, arith, ◌≡◌, Err, rules}
 use Rattle.trace_command.specs.Requests.{request_of}
 use Rattle.tracer_without_history.proofs.Limits.{full-refusal, limited-refusal}
 use Rattle.tracer_without_history.proofs.Living.{live-usable}
@@ -7,22 +7,25 @@ use Rattle.tracer_without_history.proofs.live.Live.prepare.Goals as goal
 pub prepare-requires-clause-usable : goal.prepare-requires-clause-usable
 prepare-requires-clause-usable c = live-usable _ _ _ c.self.invariant.lives
 
-pub returns-in-Err-clause-prepared : goal.returns-in-Err-clause-prepared
-returns-in-Err-clause-prepared c =
-    rw (← c.self.view_is) (λ past lives.
-    limited-refusal c.args.limit c.self.inside.config past _ c.in-Err.refusal (c.in-Err.ensures.prepared past (sym lives.count) lives.stands))
+pub returns-in_err-prepared-clause-prepared : goal.returns-in_err-prepared-clause-prepared
+returns-in_err-prepared-clause-prepared c =
+    let out : c.from_residual.result ≡ Err c.in_err-prepared.field-0.0 = search rules in
+    rw (out, ← c.self.view_is) (λ past lives.
+    limited-refusal c.args.limit c.self.inside.config past _ c.in_err-prepared.field-0.0 (c.in_err-prepared.ensures.prepared past (sym lives.count) lives.stands))
 
-pub returns-in-Err-clause-memory : goal.returns-in-Err-clause-memory
-returns-in-Err-clause-memory c = rw (← c.self.view_is) (λ past lives late. c.in-Err.ensures.memory past lives.stands late)
+pub returns-in_err-prepared-clause-memory : goal.returns-in_err-prepared-clause-memory
+returns-in_err-prepared-clause-memory c =
+    let out : c.from_residual.result ≡ Err c.in_err-prepared.field-0.0 = search rules in
+    rw (out, ← c.self.view_is) (λ past lives late. c.in_err-prepared.ensures.memory past lives.stands late)
 
 pub returns-then-done-limit-clause-prepared : goal.returns-then-done-limit-clause-prepared
 returns-then-done-limit-clause-prepared c =
     rw (← c.self.view_is) (λ past lives.
-    full-refusal c.args.limit c.self.inside.config past _ c.in-Ok.prepared.reply (c.in-Ok.ensures.prepared past (sym lives.count) lives.stands).0
+    full-refusal c.args.limit c.self.inside.config past _ c.in_ok-prepared.prepared.reply (c.in_ok-prepared.ensures.prepared past (sym lives.count) lives.stands).0
     (omega (arith, lives.count)))
 
 pub returns-clause-prepared : goal.returns-clause-prepared
-returns-clause-prepared c = rw (← c.self.view_is) (λ past lives. c.in-Ok.ensures.prepared past (sym lives.count) lives.stands)
+returns-clause-prepared c = rw (← c.self.view_is) (λ past lives. c.in_ok-prepared.ensures.prepared past (sym lives.count) lives.stands)
 
 pub returns-clause-ready : goal.returns-clause-ready
 returns-clause-ready c =
@@ -31,5 +34,5 @@ returns-clause-ready c =
       past = c.self.invariant.past;
       request = request_of c.args.command.now;
       lives = lives;
-      is = c.in-Ok.ensures.prepared c.self.invariant.past (sym lives.count) lives.stands;
+      is = c.in_ok-prepared.ensures.prepared c.self.invariant.past (sym lives.count) lives.stands;
     })

@@ -1,4 +1,4 @@
-use Rattle.std.proofs.Common.{◌≡◌, refl, arith, rules, to_z, of_z, w32}
+use Rattle.std.proofs.Common.{◌≡◌, refl, arith, rules, to_z, of_z, w32, Err}
 use Rattle.std.proofs.lemmas.Int.{to_z-of_z}
 use Rattle.trace_history.specs.Settings.{declared_events}
 use Rattle.tracer_state.specs.ValueEmissions.{values_emission}
@@ -28,8 +28,8 @@ invariant_of-self-2 c = record {
   lives = live-alike _ _ (seen c.self.inside) _ c.self.invariant.lives refl c.prepare_values.ensures.alike;
 }
 
-pub returns-in-Err-clause-lives : goal.returns-in-Err-clause-lives
-returns-in-Err-clause-lives c =
+pub returns-in_err-prepare_values-clause-lives : goal.returns-in_err-prepare_values-clause-lives
+returns-in_err-prepare_values-clause-lives c =
     rw (← c.self.view_is) (λ past lives. live-alike _ past (seen c.self.inside) _ lives refl c.prepare_values.ensures.alike)
 
 pub returns-then-self-limit-clause-lives : goal.returns-then-self-limit-clause-lives
@@ -40,22 +40,23 @@ pub returns-clause-lives : goal.returns-clause-lives
 returns-clause-lives c =
     rw (← c.self.view_is) (λ past lives. live-alike _ past (seen c.self.inside) _ lives refl c.prepare_values.ensures.alike)
 
-pub returns-in-Err-clause-refused : goal.returns-in-Err-clause-refused
-returns-in-Err-clause-refused c =
+pub returns-in_err-prepare_values-clause-refused : goal.returns-in_err-prepare_values-clause-refused
+returns-in_err-prepare_values-clause-refused c =
     let pid : to_z w32 (of_z w32 c.args.pid) ≡ c.args.pid = to_z-of_z w32 c.args.pid (search rules) in
-    rw (← c.self.view_is) (λ past lives.
-    limited-refusal c.args.limit c.self.inside.config past _ c.in-Err.refusal (rw pid at c.in-Err.ensures.refused past lives.stands))
+    let out : c.from_residual.result ≡ Err c.in_err-prepare_values.field-0.0 = search rules in
+    rw (out, ← c.self.view_is) (λ past lives.
+    limited-refusal c.args.limit c.self.inside.config past _ c.in_err-prepare_values.field-0.0 (rw pid at c.in_err-prepare_values.ensures.refused past lives.stands))
 
 pub returns-then-self-limit-clause-refused : goal.returns-then-self-limit-clause-refused
 returns-then-self-limit-clause-refused c =
     let pid : to_z w32 (of_z w32 c.args.pid) ≡ c.args.pid = to_z-of_z w32 c.args.pid (search rules) in
     rw (← c.self.view_is) (λ past lives.
-    full-refusal c.args.limit c.self.inside.config past _ _ (rw pid at c.in-Ok.ensures.prepared past lives.stands).0 (omega (arith, lives.count)))
+    full-refusal c.args.limit c.self.inside.config past _ _ (rw pid at c.in_ok-prepare_values.ensures.prepared past lives.stands).0 (omega (arith, lives.count)))
 
 pub returns-clause-prepared : goal.returns-clause-prepared
 returns-clause-prepared c =
     let pid : to_z w32 (of_z w32 c.args.pid) ≡ c.args.pid = to_z-of_z w32 c.args.pid (search rules) in
-    rw (← c.self.view_is) (λ past lives. rw pid at c.in-Ok.ensures.prepared past lives.stands)
+    rw (← c.self.view_is) (λ past lives. rw pid at c.in_ok-prepare_values.ensures.prepared past lives.stands)
 
 pub returns-clause-ready : goal.returns-clause-ready
 returns-clause-ready c =
@@ -65,5 +66,5 @@ returns-clause-ready c =
       past = past;
       request = values_emission (declared_events past) c.args.event c.args.cpu c.args.pid c.args.values.now;
       lives = live-alike _ _ (seen c.self.inside) _ c.self.invariant.lives refl c.prepare_values.ensures.alike;
-      is = rw pid at c.in-Ok.ensures.prepared past c.self.invariant.lives.stands;
+      is = rw pid at c.in_ok-prepare_values.ensures.prepared past c.self.invariant.lives.stands;
     }
