@@ -10,7 +10,6 @@ ghost use Rattle.trace_buffer.specs.Families.{cpu_stats};
 ghost use Rattle.trace_snapshot.specs.Sides.{IsNewSide};
 ghost use Rattle.trace_instance.specs.Changes as changes;
 ghost use Rattle.trace_instance.specs.Changes.{with_event};
-ghost use Rattle.trace_instance.specs.declared.change.InstanceChange.TheVariants as changed;
 ghost use Rattle.trace_instance.specs.private.EventLists as lists;
 ghost use Rattle.trace_instance.specs.private.Tables.{AreSet};
 ghost use Rattle.trace_instance.specs.declared.change.TriggerChange.TheVariants as attaching;
@@ -228,7 +227,8 @@ impl Instance {
             }
             InstanceChange::ClearFilters => self.clear_filters(),
             InstanceChange::Triggers(event, append, change) => {
-                self.change_triggers(event, append, change)?;
+                self.set_triggers(event, append, change)?;
+                tables::keep_used(&mut self.tables, &self.events);
             }
             InstanceChange::SetOverwrite(flag) => self.overwrite = flag,
             InstanceChange::SetTracing(flag) => self.tracing = flag,
@@ -281,26 +281,7 @@ impl Instance {
         }
     }
 
-    // Changes the triggers of the event at this index, first removing its hist triggers unless the string is appended. Drops the tables that no
-    // trigger uses any more.
-    fn change_triggers(
-        &mut self,
-        event: usize,
-        append: bool,
-        change: TriggerChange,
-    ) -> Result<(), AllocError>
-        requires triggers { event < length self.old.triggers }
-        requires hists { event < length self.old.hists }
-        requires possible { changes.IsPossible change (length (if append then slice_index_or self.old.hists event [] else [])) }
-        ensures applied { OnOk result (changes.IsApplied (changed.Triggers event append change) self.old self.new) }
-        ensures refused { OnErr result (self.new ≡ self.old) }
-    {
-        self.set_triggers(event, append, change)?;
-        tables::keep_used(&mut self.tables, &self.events);
-        Ok(())
-    }
-
-    // Likewise, but drops no table.
+    // Changes the triggers of the event at this index, first removing its hist triggers unless the string is appended. Drops no table.
     fn set_triggers(
         &mut self,
         event: usize,

@@ -1,8 +1,12 @@
-use Rattle.std.proofs.Common.{◌≡◌, ◌∙◌, ap, refl, rules}
-use Rattle.trace_instance.specs.private.EventLists.{with_filters}
+use Rattle.std.proofs.Common.{◌≡◌, ◌∙◌, List, ap, filter, refl, rules, subst, sym}
+use Rattle.trace_instance.specs.Instances.{InstanceSeen}
+use Rattle.trace_instance.specs.KeptHists.{is_used}
+use Rattle.trace_instance.specs.private.EventLists.{all_hists, with_filters}
+use Rattle.trace_instance.specs.private.Tables.{AreSet}
 use Rattle.trace_instance.specs.declared.event.InstanceEvent.{InstanceEvent}
-use Rattle.trace_instance.proofs.EachEvent.{filtered, filtered-still}
-use Rattle.trace_instance.proofs.HistChanges.{in_place}
+use Rattle.trace_instance.specs.declared.tables.Table.{Table}
+use Rattle.trace_instance.proofs.EachEvent.{filtered, filtered-still, view_of}
+use Rattle.trace_instance.proofs.HistChanges.{applied, in_place}
 use Rattle.trace_instance.proofs.LiveSide.{cleared, emptied, taken}
 use Rattle.trace_instance.proofs.instance.Instance.apply.Goals as goal
 
@@ -22,6 +26,18 @@ returns-in-SetFilters-clause-applied c =
       filtered-still (λ (e : InstanceEvent). e.trigger) changes events (λ e new. refl),
       filtered-still (λ (e : InstanceEvent). e.hists) changes events (λ e new. refl),
     ) (search rules)
+
+pub returns-in_ok-set_triggers-in-Triggers-clause-applied : goal.returns-in_ok-set_triggers-in-Triggers-clause-applied
+returns-in_ok-set_triggers-in-Triggers-clause-applied c =
+    let now : InstanceSeen = c.args.self.now in
+    let event = c.in-Triggers.event in
+    let append = c.in-Triggers.append in
+    let change = c.in-Triggers.change in
+    let set : InstanceSeen = view_of c.self-in-Triggers.inside in
+    let was : AreSet event append change now set = subst (AreSet event append change now) (sym c.self-in-Triggers.view_is) c.in_ok-set_triggers-in-Triggers.ensures.applied in
+    let gone : c.keep_used.new.tables.items ≡ filter (λ (t : Table). is_used t.number set.hists) set.tables =
+    c.keep_used.ensures ∙ ap (λ (events : List InstanceEvent). filter (λ (t : Table). is_used t.number (all_hists events)) set.tables) c.deref.ensures.value in
+    rw c.in-Triggers.is (applied event append change now set c.keep_used.new.tables.items was gone)
 
 pub returns-in-Clear-clause-applied : goal.returns-in-Clear-clause-applied
 returns-in-Clear-clause-applied c =
