@@ -1,5 +1,5 @@
 -- What a text that is written to an event's trigger file answers, and that the change made of it is the one that the definitions say.
-use Rattle.std.proofs.Common.{◌≡◌, ℕ, ◌+◌, ◌<◌, ◌≤◌, nat_lt, Bool, true, false, not, ◌||◌, if◌then◌else◌, List, [], ◌∷◌, length, map, is_some, Option, None, Some, Result, Ok, Err, refl, sym, ap, ◌∙◌, subst, arith, lt-ltb, ltb-true}
+use Rattle.std.proofs.Common.{◌≡◌, ℕ, ◌+◌, ◌<◌, ◌≤◌, nat_lt, Bool, true, false, not, ◌||◌, if◌then◌else◌, List, [], ◌∷◌, length, is_some, Option, None, Some, Result, Ok, Err, refl, sym, ap, ◌∙◌, subst, arith, lt-ltb, ltb-true}
 use Rattle.std.specs.List.{list_any, position}
 use Rattle.std.proofs.lemmas.List.{length-map}
 use Rattle.std.proofs.lemmas.Option.{none-some}
@@ -38,7 +38,7 @@ use Rattle.trace_history.proofs.NamedTables.{fit-fewer}
 use Rattle.trace_instance.proofs.FittingTables.{fit-tables, left-fit}
 use Rattle.trace_instance.proofs.EachEvent.{any-map}
 use Rattle.trace_instance.proofs.OneSays.{IsOnlyOne, found-only, some-position}
-use Rattle.trace_instance.proofs.Snapshotting.{none-is, some-mapped, there-is}
+use Rattle.trace_instance.proofs.Snapshotting.{none-is, refused, some-mapped, there-is}
 
 -- ---- what the requests say of what is kept
 
@@ -93,9 +93,6 @@ unfolding trigger_answer
 answered name past event append text r is =
     ap (said_answer append (trigger_of name event past) (own_left name past event append) (all_left name past event append)) is
 
-pub refused : (refusal : Refusal) (answer : Result Reply Refusal) → answer ≡ Err refusal → IsRefusal refusal answer
-refused refusal answer is = (λ other. is, λ early. is)
-
 pub done-late : (answer : Result Reply Refusal) → answer ≡ Ok Done → IsRefusal refusal.Memory answer
 done-late answer is = (λ other. absurd (other refl), λ early. absurd (rw is at early))
 
@@ -118,9 +115,7 @@ late-room attached hists = by (nat_lt (trigger_count attached hists) 4)
 
 late-asked : (asked : Action) → IsFoundEarly (asked_answer asked) → ⊥
 late-asked action.Attach early = absurd (cc)
-late-asked action.Pause early = absurd early
-late-asked action.Continue early = absurd early
-late-asked action.Clear early = absurd early
+late-asked asked early = absurd early
 
 late-fitting : (fits : Bool) (answer : Result Reply Refusal) → (IsFoundEarly answer → ⊥) → IsFoundEarly (fitting_answer fits answer) → ⊥
 late-fitting true (Ok reply) late early = absurd early
@@ -129,10 +124,9 @@ late-fitting fits (Err refusal) late early = late early
 
 late-new : (attached : Option triggers.Trigger) (hists : List HistTrigger) (fits : Bool) (asked : Action)
     → IsFoundEarly (new_hist_answer attached hists fits asked) → ⊥
-late-new attached hists fits action.Attach early = late-fitting fits (room_answer attached hists) (late-room attached hists) early
-late-new attached hists fits action.Pause early = late-fitting fits (room_answer attached hists) (late-room attached hists) early
 late-new attached hists fits action.Continue early = absurd (cc)
 late-new attached hists fits action.Clear early = absurd (cc)
+late-new attached hists fits asked early = late-fitting fits (room_answer attached hists) (late-room attached hists) early
 
 late-hist : (attached : Option triggers.Trigger) (hists all : List HistTrigger) (spec : SpecSeen) → IsFoundEarly (hist_answer attached hists all spec) → ⊥
 late-hist attached hists all spec = by (has_same spec hists)
@@ -153,13 +147,7 @@ late-remove append hists spec = by (not append || has_same spec hists)
 said-late : (append : Bool) (attached : Option triggers.Trigger) (hists all : List HistTrigger) (r : Result TriggerText TriggerFault)
     → (r ≡ Err fault.BadText → ⊥) → IsFoundEarly (said_answer append attached hists all r) → ⊥
 said-late append attached hists all (Err fault.BadText) other early = other refl
-said-late append attached hists all (Err fault.TooMany) other early = absurd (cc)
-said-late append attached hists all (Err (fault.FilterSyntax at)) other early = absurd (cc)
-said-late append attached hists all (Err (fault.NoSuchField at)) other early = absurd (cc)
-said-late append attached hists all (Err (fault.WrongOperator at)) other early = absurd (cc)
-said-late append attached hists all (Err (fault.HistSyntax at)) other early = absurd (cc)
-said-late append attached hists all (Err fault.BadSize) other early = absurd (cc)
-said-late append attached hists all (Err fault.Memory) other early = absurd (cc)
+said-late append attached hists all (Err faulty) other early = absurd (cc)
 said-late append attached hists all (Ok said.Nothing) other early = absurd early
 said-late append None hists all (Ok (said.Attach spec)) other early = late-room None hists early
 said-late append (Some t) hists all (Ok (said.Attach spec)) other early = absurd (cc)
@@ -172,17 +160,11 @@ said-late append attached hists all (Ok (said.RemoveHist spec)) other early = la
 said-refused : (append : Bool) (attached : Option triggers.Trigger) (hists all : List HistTrigger) (r : Result TriggerText TriggerFault) (faulty : TriggerFault)
     → (let a : Result TriggerText TriggerFault = Err faulty in IsAnswered a r)
     → (r ≡ Err fault.BadText → faulty ≡ fault.BadText) → IsRefusal (refusal_of_trigger faulty) (said_answer append attached hists all r)
-said-refused append attached hists all r fault.BadText is told = let a = ap (said_answer append attached hists all) is in (λ other. a, λ early. a)
-said-refused append attached hists all r fault.TooMany is told = let a = ap (said_answer append attached hists all) is in (λ other. a, λ early. a)
-said-refused append attached hists all r (fault.FilterSyntax at) is told = let a = ap (said_answer append attached hists all) is in (λ other. a, λ early. a)
-said-refused append attached hists all r (fault.NoSuchField at) is told = let a = ap (said_answer append attached hists all) is in (λ other. a, λ early. a)
-said-refused append attached hists all r (fault.WrongOperator at) is told = let a = ap (said_answer append attached hists all) is in (λ other. a, λ early. a)
-said-refused append attached hists all r (fault.HistSyntax at) is told = let a = ap (said_answer append attached hists all) is in (λ other. a, λ early. a)
-said-refused append attached hists all r fault.BadSize is told = let a = ap (said_answer append attached hists all) is in (λ other. a, λ early. a)
 said-refused append attached hists all r fault.Memory is told = (
   λ other. absurd (other refl),
   λ early. absurd (said-late append attached hists all r (λ bad. absurd (let h : fault.Memory ≡ fault.BadText = told bad in cc)) early),
 )
+said-refused append attached hists all r faulty is told = let a = ap (said_answer append attached hists all) is in (λ other. a, λ early. a)
 
 pub text-refused : (event : Definition) (kept : EventTriggers) (written : WrittenText) (faulty : TriggerFault)
     → (let a : Result TriggerText TriggerFault = Err faulty in IsAnswered a (said_of event written.text.now))
@@ -203,7 +185,7 @@ fit-stays name past event id append text r named is stays fit =
     let request = text_request name event append text in
     fit-tables name (request ∷ past)
     (fit-fewer (hist_triggers name (request ∷ past)) (all_left name past event append)
-    (λ t there. subst (IsIn t) (all-are name past event id append text r named is ∙ stays) there) (left-fit name past event append fit))
+    (λ t there. subst (IsIn t) (all-are name past event id append text named r is ∙ stays) there) (left-fit name past event append fit))
 
 pub text-nothing : (event : Definition) (kept : EventTriggers) (written : WrittenText) → said_of event written.text.now ≡ Ok said.Nothing
     → IsChangeOf event kept written (Ok Keep)
@@ -211,9 +193,9 @@ text-nothing event kept written is = λ name past number are. (
   answered name past event written.append written.text.now (Ok said.Nothing) is,
   record {
     snapshot = snapshot-stays name past event written.append written.text.now (Ok said.Nothing) is refl;
-    hists = hists-stay name past event are.id written.append written.text.now (Ok said.Nothing) are.named is refl;
+    hists = hists-stay name past event are.id written.append written.text.now are.named (Ok said.Nothing) is refl;
     possible = tt;
-    tables = λ table. tables-stay name past event are.id written.append written.text.now (Ok said.Nothing) table are.named is refl;
+    tables = λ table. tables-stay name past event are.id written.append written.text.now are.named (Ok said.Nothing) table is refl;
     joined = tt;
     fitting = fit-stays name past event are.id written.append written.text.now (Ok said.Nothing) are.named is refl;
     spare = rw is refl;
@@ -267,9 +249,9 @@ attach-done trigger kept written none few = λ event name past number are is.
       record {
         snapshot = snapshot-attached name past event written.append written.text.now trigger is
             ∙ ap (λ (n : ℕ). (let t : Option Trigger = Some (record { number = n; left = trigger.count; filter = trigger.filter }) in t)) number;
-        hists = hists-stay name past event are.id written.append written.text.now (Ok (said.Attach trigger)) are.named is refl;
+        hists = hists-stay name past event are.id written.append written.text.now are.named (Ok (said.Attach trigger)) is refl;
         possible = tt;
-        tables = λ table. tables-stay name past event are.id written.append written.text.now (Ok (said.Attach trigger)) table are.named is refl;
+        tables = λ table. tables-stay name past event are.id written.append written.text.now are.named (Ok (said.Attach trigger)) table is refl;
         joined = tt;
         fitting = fit-stays name past event are.id written.append written.text.now (Ok (said.Attach trigger)) are.named is refl;
         spare = rw is refl;
@@ -284,9 +266,9 @@ text-detaches event kept written is some = λ name past number are.
           ∙ ap (λ (o : Option triggers.Trigger). said_answer written.append o (own_left name past event written.append) (all_left name past event written.append) (Ok said.Remove)) there.1,
       record {
         snapshot = snapshot-removed name past event written.append written.text.now is;
-        hists = hists-stay name past event are.id written.append written.text.now (Ok said.Remove) are.named is refl;
+        hists = hists-stay name past event are.id written.append written.text.now are.named (Ok said.Remove) is refl;
         possible = tt;
-        tables = λ table. tables-stay name past event are.id written.append written.text.now (Ok said.Remove) table are.named is refl;
+        tables = λ table. tables-stay name past event are.id written.append written.text.now are.named (Ok said.Remove) table is refl;
         joined = tt;
         fitting = fit-stays name past event are.id written.append written.text.now (Ok said.Remove) are.named is refl;
         spare = rw is refl;

@@ -1,6 +1,6 @@
 -- What a trigger text changes of an event's triggers, and what it asks of tables.
 use Rattle.std.proofs.Common.{◌≡◌, ℕ, ◌==◌, Bool, true, false, not, ◌&&◌, ◌||◌, if◌then◌else◌, unwrap_or, List, [], ◌∷◌, ◌++◌, length, map, filter, bytes_eq, get_or, Option, None, Some, option_map, Result, Ok, refl, ap, ◌∙◌, append-nil}
-use Rattle.std.specs.List.{flat_map, list_any}
+use Rattle.std.specs.List.{list_any}
 use Rattle.std.proofs.lemmas.Slice.Eq.{bytes_eq-Decides}
 use Rattle.std.proofs.lemmas.List.{map-append}
 use Rattle.hist_entries.specs.Hits.{Hit}
@@ -16,13 +16,14 @@ use Rattle.trace_trigger.specs.declared.trigger.TriggerText.TheVariants as said
 use Rattle.trace_command.specs.Paths as paths
 use Rattle.trace_command.specs.Requests.{Request, WriteFile}
 use Rattle.trace_command.specs.declared.file_name.EventFile.TheVariants as per_event
-use Rattle.trace_history.specs.HistTriggers.{HistTrigger, Written, asked_by, asked_in, asked_of, counted_by, empties, has_same, hist_triggers, hists_after, hists_of, hists_said, hits_of, is_paused, kept_by, left_by, met_in, new_hist, paused_after, says_same, speaks_of, written_for, written_to}
+use Rattle.trace_history.specs.HistTriggers.{HistTrigger, Written, asked_by, asked_in, asked_of, counted_by, empties, has_same, hist_triggers, hists_after, hists_of, hists_said, hits_of, is_paused, kept_by, left_by, new_hist, paused_after, says_same, speaks_of, written_to}
 use Rattle.trace_history.specs.Settings.{event_named}
 use Rattle.trace_history.specs.Triggers as triggers
 use Rattle.trace_history.specs.Triggers.{trigger_of, written_trigger}
 use Rattle.trace_history.proofs.EventHists.{hists_of-after, own_after, own_said}
 use Rattle.trace_history.proofs.HistTriggers.{same-back}
 use Rattle.trace_history.proofs.OwnFiles.{OwnWritten, as_written, own-declared, own_written, trigger_after, trigger_of-after}
+use Rattle.trace_history.proofs.TableSteps.{nothing-counted}
 use Rattle.trace_history.proofs.Triggered.{number-before, times_left-attached, times_left-same}
 use Rattle.trace_instance.specs.Changes.{IsAsked}
 use Rattle.trace_instance.specs.Instances.{kept_trigger}
@@ -38,66 +39,11 @@ use Rattle.trace_instance.proofs.OneSays.{IsOnlyOne, one-speaks, or-none, speaks
 abbrev pub text_request : Option (List ℕ) → Definition → Bool → List ℕ → Request
 text_request name event append text = WriteFile name (Some (paths.OfEvent event.name per_event.Trigger)) append text
 
-wrote : (name : Option (List ℕ)) (event : Definition) (append : Bool) (text : List ℕ)
-    → own_written name event (text_request name event append text) ≡ Some (record { append = append; text = text })
-wrote name event append text =
-    let own : bytes_eq event.name event.name ≡ true = (bytes_eq-Decides event.name event.name).1 refl in
-    rw (same_instance name, own) refl
-
 -- an event is declared under this number
 abbrev pub IsNamed : List Request → Definition → ℕ → Type 0
 IsNamed past event id = event_named event.name past ≡ Some (record { id = id; event = event })
 
-wrote-for : (name : Option (List ℕ)) (past : List Request) (event : Definition) (id : ℕ) (append : Bool) (text : List ℕ) → IsNamed past event id
-    → written_for event (written_to name past (text_request name event append text)) ≡ Some (record { event = event; append = append; text = text })
-wrote-for name past event id append text named =
-    own-declared name event past (text_request name event append text) (record { id = id; event = event }) named refl
-    ∙ ap (option_map (as_written event)) (wrote name event append text)
-
--- ---- the trigger for snapshots
-
-trigger-said : (name : Option (List ℕ)) (past : List Request) (event : Definition) (append : Bool) (text : List ℕ) (r : Result TriggerText TriggerFault)
-    → said_of event text ≡ r
-    → trigger_of name event (text_request name event append text ∷ past) ≡ unwrap_or (written_trigger (length past) r) (trigger_of name event past)
-trigger-said name past event append text r is =
-    trigger_of-after name event past (text_request name event append text) refl
-    ∙ ap (λ (o : Option OwnWritten). trigger_after event (length past) o (trigger_of name event past)) (wrote name event append text)
-    ∙ ap (λ (s : Result TriggerText TriggerFault). unwrap_or (written_trigger (length past) s) (trigger_of name event past)) is
-
--- it stays where the text sets none
-pub snapshot-stays : (name : Option (List ℕ)) (past : List Request) (event : Definition) (append : Bool) (text : List ℕ) (r : Result TriggerText TriggerFault)
-    → said_of event text ≡ r → written_trigger (length past) r ≡ None
-    → kept_trigger name (text_request name event append text ∷ past) event ≡ kept_trigger name past event
-snapshot-stays name past event append text r is none =
-    let request = text_request name event append text in
-    ap (option_map (instances.kept_as (request ∷ past) event))
-    (trigger-said name past event append text r is ∙ ap (λ (o : Option (Option triggers.Trigger)). unwrap_or o (trigger_of name event past)) none)
-    ∙ kept-as_left past request event (trigger_of name event past)
-    (λ t there. times_left-same event t past request (number-before name event past t there) refl)
-
-pub snapshot-attached : (name : Option (List ℕ)) (past : List Request) (event : Definition) (append : Bool) (text : List ℕ) (spec : SnapshotTrigger)
-    → said_of event text ≡ Ok (said.Attach spec)
-    → kept_trigger name (text_request name event append text ∷ past) event
-    ≡ Some (record { number = length past; left = spec.count; filter = spec.filter })
-snapshot-attached name past event append text spec is =
-    let request = text_request name event append text in
-    let attached : triggers.Trigger = record { number = length past; spec = spec } in
-    ap (option_map (instances.kept_as (request ∷ past) event)) (trigger-said name past event append text (Ok (said.Attach spec)) is)
-    ∙ ap (λ (n : Option ℕ). (let t : Option Trigger = Some (record { number = length past; left = n; filter = spec.filter }) in t))
-    (times_left-attached event attached past request refl)
-
-pub snapshot-removed : (name : Option (List ℕ)) (past : List Request) (event : Definition) (append : Bool) (text : List ℕ)
-    → said_of event text ≡ Ok said.Remove → kept_trigger name (text_request name event append text ∷ past) event ≡ None
-snapshot-removed name past event append text is =
-    let request = text_request name event append text in
-    ap (option_map (instances.kept_as (request ∷ past) event)) (trigger-said name past event append text (Ok said.Remove) is)
-
--- ---- hist triggers
-
--- what is written
-written-here : (name : Option (List ℕ)) (past : List Request) (event : Definition) (id : ℕ) (append : Bool) (text : List ℕ) → IsNamed past event id
-    → written_to name past (text_request name event append text) ≡ Some (record { event = event; append = append; text = text })
-written-here name past event id append text named = rw (same_instance name, named) refl
+-- ---- hist triggers that are left, and one that is attached
 
 -- those of the event that `>` or `>>` leaves, and those of all events
 abbrev pub own_left : Option (List ℕ) → List Request → Definition → Bool → List HistTrigger
@@ -115,30 +61,6 @@ left-kept : (name : Option (List ℕ)) (past : List Request) (event : Definition
 left-kept name past event true = refl
 left-kept name past event false = refl
 
-hists-are : (name : Option (List ℕ)) (past : List Request) (event : Definition) (id : ℕ) (append : Bool) (text : List ℕ)
-    (r : Result TriggerText TriggerFault) → IsNamed past event id → said_of event text ≡ r
-    → hists_of name event (text_request name event append text ∷ past) ≡ own_then name past event append r
-hists-are name past event id append text r named is =
-    hists_of-after name event past (text_request name event append text) refl
-    ∙ ap (λ (o : Option Written). own_after (length past) (hist_triggers name past) o (hists_of name event past)) (wrote-for name past event id append text named)
-    ∙ ap (own_then name past event append) is
-
--- and of all events
-pub all-are : (name : Option (List ℕ)) (past : List Request) (event : Definition) (id : ℕ) (append : Bool) (text : List ℕ)
-    (r : Result TriggerText TriggerFault) → IsNamed past event id → said_of event text ≡ r
-    → hist_triggers name (text_request name event append text ∷ past) ≡ hists_said (length past) event (all_left name past event append) r
-all-are name past event id append text r named is =
-    ap (λ (o : Option Written). hists_after (length past) o (hist_triggers name past)) (written-here name past event id append text named)
-    ∙ ap (hists_said (length past) event (all_left name past event append)) is
-
--- a text that says nothing of which there are
-pub hists-stay : (name : Option (List ℕ)) (past : List Request) (event : Definition) (id : ℕ) (append : Bool) (text : List ℕ)
-    (r : Result TriggerText TriggerFault) → IsNamed past event id → said_of event text ≡ r
-    → own_then name past event append r ≡ own_left name past event append
-    → kept_hists name (text_request name event append text ∷ past) event ≡ (if append then kept_hists name past event else [])
-hists-stay name past event id append text r named is left =
-    ap (map attached_as) (hists-are name past event id append text r named is ∙ left) ∙ left-kept name past event append
-
 without-kept : (spec : SpecSeen) (hists : List HistTrigger)
     → map attached_as (filter (λ (t : HistTrigger). not (says_same spec t)) hists) ≡ without_same spec (map attached_as hists)
 without-kept spec [] = refl
@@ -149,15 +71,6 @@ without-kept spec (t ∷ hists) = by (is_same spec t.spec) (without-kept spec hi
         ≡ (if not same then attached_as t ∷ without_same spec (map attached_as hists) else without_same spec (map attached_as hists))
     by true rest = rest
     by false rest = λ i. attached_as t ∷ rest i
-
--- the same ones are removed
-pub hists-removed : (name : Option (List ℕ)) (past : List Request) (event : Definition) (id : ℕ) (append : Bool) (text : List ℕ) (spec : SpecSeen)
-    → IsNamed past event id → said_of event text ≡ Ok (said.RemoveHist spec)
-    → kept_hists name (text_request name event append text ∷ past) event ≡ without_same spec (if append then kept_hists name past event else [])
-hists-removed name past event id append text spec named is =
-    ap (map attached_as) (hists-are name past event id append text (Ok (said.RemoveHist spec)) named is)
-    ∙ without-kept spec (own_left name past event append)
-    ∙ ap (without_same spec) (left-kept name past event append)
 
 -- those after a text for one that is there, and for one that is not
 then-same : (name : Option (List ℕ)) (past : List Request) (event : Definition) (append : Bool) (spec : SpecSeen)
@@ -174,89 +87,10 @@ then-new : (name : Option (List ℕ)) (past : List Request) (event : Definition)
     → own_then name past event append (Ok (said.Hist spec)) ≡ own_left name past event append ++ new_of name past event append spec ∷ []
 then-new name past event append spec none = rw none refl
 
-pub hists-asked : (name : Option (List ℕ)) (past : List Request) (event : Definition) (id : ℕ) (append : Bool) (text : List ℕ) (spec : SpecSeen)
-    → IsNamed past event id → said_of event text ≡ Ok (said.Hist spec) → has_same spec (own_left name past event append) ≡ true
-    → kept_hists name (text_request name event append text ∷ past) event ≡ (if append then kept_hists name past event else [])
-hists-asked name past event id append text spec named is same =
-    hists-stay name past event id append text (Ok (said.Hist spec)) named is (then-same name past event append spec same)
-
-pub hists-attached : (name : Option (List ℕ)) (past : List Request) (event : Definition) (id : ℕ) (append : Bool) (text : List ℕ) (spec : SpecSeen)
-    → IsNamed past event id → said_of event text ≡ Ok (said.Hist spec) → has_same spec (own_left name past event append) ≡ false
-    → kept_hists name (text_request name event append text ∷ past) event
-    ≡ (if append then kept_hists name past event else []) ++ attached_as (new_of name past event append spec) ∷ []
-hists-attached name past event id append text spec named is none =
-    let new = new_of name past event append spec in
-    ap (map attached_as) (hists-are name past event id append text (Ok (said.Hist spec)) named is ∙ then-new name past event append spec none)
-    ∙ map-append attached_as (own_left name past event append) (new ∷ [])
-    ∙ ap (λ (hists : List AttachedHist). hists ++ attached_as new ∷ []) (left-kept name past event append)
-
--- ---- tables
-
--- a write is no emission, so that no table counts a row
-no-row : (number : ℕ) (hists : List HistTrigger) → flat_map (met_in number None) hists ≡ []
-no-row number [] = refl
-no-row number (t ∷ hists) = by (t.table == number) ∙ no-row number hists
-  where
-    by : (here : Bool) → (let rows : List Hit = if here then [] else [] in rows) ++ flat_map (met_in number None) hists ≡ flat_map (met_in number None) hists
-    by true = refl
-    by false = refl
-
-nothing-counted : (number : ℕ) (paused : Bool) (hists : List HistTrigger) → counted_by number paused hists None ≡ []
-nothing-counted number true hists = refl
-nothing-counted number false hists = no-row number hists
-
--- what is asked of a table is done to it
-pub asked-table : (name : Option (List ℕ)) (past : List Request) (event : Definition) (append : Bool) (text : List ℕ) (asked : Option Action) (number : ℕ)
-    → asked_by name number past (text_request name event append text) ≡ asked → IsAsked name past (text_request name event append text) asked number
-asked-table name past event append text asked number is =
-    let old : List Hit = hits_of name number past in
-    let paused : Bool = is_paused name number past in
-    let none : old ++ counted_by number paused (hist_triggers name past) None ≡ old =
-    ap (λ (rows : List Hit). old ++ rows) (nothing-counted number paused (hist_triggers name past)) ∙ append-nil old in
-    record {
-      paused = ap (λ (a : Option Action). paused_after a paused) is;
-      hits = ap (λ (a : Option Action). if empties a then [] else old ++ counted_by number paused (hist_triggers name past) None) is
-          ∙ ap (λ (rows : List Hit). if empties asked then [] else rows) none;
-    }
-
--- what a text that says this asks of it
-asked-by : (name : Option (List ℕ)) (past : List Request) (event : Definition) (id : ℕ) (append : Bool) (text : List ℕ)
-    (r : Result TriggerText TriggerFault) (number : ℕ) → IsNamed past event id → said_of event text ≡ r
-    → asked_by name number past (text_request name event append text) ≡ asked_of number (own_then name past event append r) r
-asked-by name past event id append text r number named is =
-    let request : Request = text_request name event append text in
-    ap (asked_in number (hist_triggers name (request ∷ past))) (written-here name past event id append text named)
-    ∙ ap (λ (hists : List HistTrigger). asked_of number hists (said_of event text)) (hists-are name past event id append text r named is)
-    ∙ ap (asked_of number (own_then name past event append r)) is
-
--- nothing, where it says nothing of a hist trigger that is to be there
-pub tables-stay : (name : Option (List ℕ)) (past : List Request) (event : Definition) (id : ℕ) (append : Bool) (text : List ℕ)
-    (r : Result TriggerText TriggerFault) (number : ℕ) → IsNamed past event id → said_of event text ≡ r
-    → asked_of number (own_then name past event append r) r ≡ None → IsAsked name past (text_request name event append text) None number
-tables-stay name past event id append text r number named is none =
-    asked-table name past event append text None number (asked-by name past event id append text r number named is ∙ none)
-
 any-speaks : (spec : SpecSeen) (number : ℕ) (hists : List HistTrigger)
     → list_any (speaks_of spec number) hists ≡ list_any (speaks_for spec number) (map attached_as hists)
 any-speaks spec number [] = refl
 any-speaks spec number (t ∷ hists) = ap (λ (b : Bool). (is_same spec t.spec && (t.table == number)) || b) (any-speaks spec number hists)
-
--- the table of the one that says the same is asked
-pub tables-asked : (name : Option (List ℕ)) (past : List Request) (event : Definition) (id : ℕ) (append : Bool) (text : List ℕ) (spec : SpecSeen)
-    (index : ℕ) (d : AttachedHist) (number : ℕ) → IsNamed past event id → said_of event text ≡ Ok (said.Hist spec)
-    → has_same spec (own_left name past event append) ≡ true → IsOnlyOne spec (if append then kept_hists name past event else []) index
-    → IsAsked name past (text_request name event append text)
-    (if (get_or (if append then kept_hists name past event else []) index d).table == number then Some spec.action else None) number
-tables-asked name past event id append text spec index d number named is same only =
-    let r : Result TriggerText TriggerFault = Ok (said.Hist spec) in
-    let kept : List AttachedHist = if append then kept_hists name past event else [] in
-    let left : List HistTrigger = own_left name past event append in
-    let speaks : list_any (speaks_of spec number) left ≡ ((get_or kept index d).table == number) =
-    any-speaks spec number left ∙ ap (list_any (speaks_for spec number)) (left-kept name past event append) ∙ one-speaks spec number kept index d only in
-    asked-table name past event append text (if (get_or kept index d).table == number then Some spec.action else None) number
-    (asked-by name past event id append text r number named is
-    ∙ ap (λ (hists : List HistTrigger). asked_of number hists r) (then-same name past event append spec same)
-    ∙ ap (λ (b : Bool). (let a : Option Action = if b then Some spec.action else None in a)) speaks)
 
 -- a text says the same as itself
 same-itself : (spec : SpecSeen) → is_same spec spec ≡ true
@@ -275,16 +109,145 @@ new-speaks spec number new (t ∷ hists) is none = by (is_same spec t.spec) refl
     by true at none rest = absurd (cc)
     by false at none rest = rw at (rest none)
 
--- the table of the one that the text attaches is asked
-pub tables-attached : (name : Option (List ℕ)) (past : List Request) (event : Definition) (id : ℕ) (append : Bool) (text : List ℕ) (spec : SpecSeen)
-    (number : ℕ) → IsNamed past event id → said_of event text ≡ Ok (said.Hist spec) → has_same spec (own_left name past event append) ≡ false
-    → IsAsked name past (text_request name event append text)
-    (if (new_of name past event append spec).table == number then Some spec.action else None) number
-tables-attached name past event id append text spec number named is none =
-    let r : Result TriggerText TriggerFault = Ok (said.Hist spec) in
-    let new : HistTrigger = new_of name past event append spec in
-    asked-table name past event append text (if new.table == number then Some spec.action else None) number
-    (asked-by name past event id append text r number named is
-    ∙ ap (λ (hists : List HistTrigger). asked_of number hists r) (then-new name past event append spec none)
-    ∙ ap (λ (b : Bool). (let a : Option Action = if b then Some spec.action else None in a))
-    (new-speaks spec number new (own_left name past event append) refl none))
+-- ---- a text
+
+module _ (name : Option (List ℕ)) (past : List Request) (event : Definition) (append : Bool) (text : List ℕ) where
+  abbrev request : Request
+  request = text_request name event append text
+
+  wrote : own_written name event request ≡ Some (record { append = append; text = text })
+  wrote =
+      let own : bytes_eq event.name event.name ≡ true = (bytes_eq-Decides event.name event.name).1 refl in
+      rw (same_instance name, own) refl
+
+  trigger-said : (r : Result TriggerText TriggerFault) → said_of event text ≡ r
+      → trigger_of name event (request ∷ past) ≡ unwrap_or (written_trigger (length past) r) (trigger_of name event past)
+  trigger-said r is =
+      trigger_of-after name event past request refl
+      ∙ ap (λ (o : Option OwnWritten). trigger_after event (length past) o (trigger_of name event past)) wrote
+      ∙ ap (λ (s : Result TriggerText TriggerFault). unwrap_or (written_trigger (length past) s) (trigger_of name event past)) is
+
+  -- the trigger for snapshots stays where the text sets none
+  pub snapshot-stays : (r : Result TriggerText TriggerFault) → said_of event text ≡ r → written_trigger (length past) r ≡ None
+      → kept_trigger name (request ∷ past) event ≡ kept_trigger name past event
+  snapshot-stays r is none =
+      ap (option_map (instances.kept_as (request ∷ past) event))
+      (trigger-said r is ∙ ap (λ (o : Option (Option triggers.Trigger)). unwrap_or o (trigger_of name event past)) none)
+      ∙ kept-as_left past request event (trigger_of name event past)
+      (λ t there. times_left-same event t past request (number-before name event past t there) refl)
+
+  pub snapshot-attached : (spec : SnapshotTrigger) → said_of event text ≡ Ok (said.Attach spec)
+      → kept_trigger name (request ∷ past) event ≡ Some (record { number = length past; left = spec.count; filter = spec.filter })
+  snapshot-attached spec is =
+      let attached : triggers.Trigger = record { number = length past; spec = spec } in
+      ap (option_map (instances.kept_as (request ∷ past) event)) (trigger-said (Ok (said.Attach spec)) is)
+      ∙ ap (λ (n : Option ℕ). (let t : Option Trigger = Some (record { number = length past; left = n; filter = spec.filter }) in t))
+      (times_left-attached event attached past request refl)
+
+  pub snapshot-removed : said_of event text ≡ Ok said.Remove → kept_trigger name (request ∷ past) event ≡ None
+  snapshot-removed is = ap (option_map (instances.kept_as (request ∷ past) event)) (trigger-said (Ok said.Remove) is)
+
+  -- what is asked of a table is done to it
+  pub asked-table : (asked : Option Action) (number : ℕ) → asked_by name number past request ≡ asked → IsAsked name past request asked number
+  asked-table asked number is =
+      let old : List Hit = hits_of name number past in
+      let paused : Bool = is_paused name number past in
+      let none : old ++ counted_by number paused (hist_triggers name past) None ≡ old =
+      ap (λ (rows : List Hit). old ++ rows) (nothing-counted number paused (hist_triggers name past)) ∙ append-nil old in
+      record {
+        paused = ap (λ (a : Option Action). paused_after a paused) is;
+        hits = ap (λ (a : Option Action). if empties a then [] else old ++ counted_by number paused (hist_triggers name past) None) is
+            ∙ ap (λ (rows : List Hit). if empties asked then [] else rows) none;
+      }
+
+-- ---- a text for an event of this number
+
+module _ (name : Option (List ℕ)) (past : List Request) (event : Definition) (id : ℕ) (append : Bool) (text : List ℕ) (named : IsNamed past event id) where
+  abbrev request_for : Request
+  request_for = text_request name event append text
+
+  written-here : written_to name past request_for ≡ Some (record { event = event; append = append; text = text })
+  written-here = rw (same_instance name, named) refl
+
+  hists-are : (r : Result TriggerText TriggerFault) → said_of event text ≡ r → hists_of name event (request_for ∷ past) ≡ own_then name past event append r
+  hists-are r is =
+      hists_of-after name event past request_for refl
+      ∙ ap (λ (o : Option Written). own_after (length past) (hist_triggers name past) o (hists_of name event past))
+      (own-declared name event past request_for (record { id = id; event = event }) named refl
+      ∙ ap (option_map (as_written event)) (wrote name past event append text))
+      ∙ ap (own_then name past event append) is
+
+  -- those of all events
+  pub all-are : (r : Result TriggerText TriggerFault) → said_of event text ≡ r
+      → hist_triggers name (request_for ∷ past) ≡ hists_said (length past) event (all_left name past event append) r
+  all-are r is =
+      ap (λ (o : Option Written). hists_after (length past) o (hist_triggers name past)) written-here
+      ∙ ap (hists_said (length past) event (all_left name past event append)) is
+
+  -- a text that says nothing of which there are
+  pub hists-stay : (r : Result TriggerText TriggerFault) → said_of event text ≡ r → own_then name past event append r ≡ own_left name past event append
+      → kept_hists name (request_for ∷ past) event ≡ (if append then kept_hists name past event else [])
+  hists-stay r is left = ap (map attached_as) (hists-are r is ∙ left) ∙ left-kept name past event append
+
+  -- the same ones are removed
+  pub hists-removed : (spec : SpecSeen) → said_of event text ≡ Ok (said.RemoveHist spec)
+      → kept_hists name (request_for ∷ past) event ≡ without_same spec (if append then kept_hists name past event else [])
+  hists-removed spec is =
+      ap (map attached_as) (hists-are (Ok (said.RemoveHist spec)) is)
+      ∙ without-kept spec (own_left name past event append)
+      ∙ ap (without_same spec) (left-kept name past event append)
+
+  pub hists-asked : (spec : SpecSeen) → said_of event text ≡ Ok (said.Hist spec) → has_same spec (own_left name past event append) ≡ true
+      → kept_hists name (request_for ∷ past) event ≡ (if append then kept_hists name past event else [])
+  hists-asked spec is same = hists-stay (Ok (said.Hist spec)) is (then-same name past event append spec same)
+
+  pub hists-attached : (spec : SpecSeen) → said_of event text ≡ Ok (said.Hist spec) → has_same spec (own_left name past event append) ≡ false
+      → kept_hists name (request_for ∷ past) event
+      ≡ (if append then kept_hists name past event else []) ++ attached_as (new_of name past event append spec) ∷ []
+  hists-attached spec is none =
+      let new = new_of name past event append spec in
+      ap (map attached_as) (hists-are (Ok (said.Hist spec)) is ∙ then-new name past event append spec none)
+      ∙ map-append attached_as (own_left name past event append) (new ∷ [])
+      ∙ ap (λ (hists : List AttachedHist). hists ++ attached_as new ∷ []) (left-kept name past event append)
+
+  -- what it asks of a table
+  asked-by : (r : Result TriggerText TriggerFault) (number : ℕ) → said_of event text ≡ r
+      → asked_by name number past request_for ≡ asked_of number (own_then name past event append r) r
+  asked-by r number is =
+      ap (asked_in number (hist_triggers name (request_for ∷ past))) written-here
+      ∙ ap (λ (hists : List HistTrigger). asked_of number hists (said_of event text)) (hists-are r is)
+      ∙ ap (asked_of number (own_then name past event append r)) is
+
+  -- nothing, where it says nothing of a hist trigger that is to be there
+  pub tables-stay : (r : Result TriggerText TriggerFault) (number : ℕ) → said_of event text ≡ r
+      → asked_of number (own_then name past event append r) r ≡ None → IsAsked name past request_for None number
+  tables-stay r number is none = asked-table name past event append text None number (asked-by r number is ∙ none)
+
+  -- the table of the one that says the same is asked
+  pub tables-asked : (spec : SpecSeen) (index : ℕ) (d : AttachedHist) (number : ℕ) → said_of event text ≡ Ok (said.Hist spec)
+      → has_same spec (own_left name past event append) ≡ true → IsOnlyOne spec (if append then kept_hists name past event else []) index
+      → IsAsked name past request_for
+      (if (get_or (if append then kept_hists name past event else []) index d).table == number then Some spec.action else None) number
+  tables-asked spec index d number is same only =
+      let r : Result TriggerText TriggerFault = Ok (said.Hist spec) in
+      let kept : List AttachedHist = if append then kept_hists name past event else [] in
+      let left : List HistTrigger = own_left name past event append in
+      let speaks : list_any (speaks_of spec number) left ≡ ((get_or kept index d).table == number) =
+      any-speaks spec number left ∙ ap (list_any (speaks_for spec number)) (left-kept name past event append) ∙ one-speaks spec number kept index d only in
+      asked-table name past event append text (if (get_or kept index d).table == number then Some spec.action else None) number
+      (asked-by r number is
+      ∙ ap (λ (hists : List HistTrigger). asked_of number hists r) (then-same name past event append spec same)
+      ∙ ap (λ (b : Bool). (let a : Option Action = if b then Some spec.action else None in a)) speaks)
+
+  -- the table of the one that the text attaches is asked
+  pub tables-attached : (spec : SpecSeen) (number : ℕ) → said_of event text ≡ Ok (said.Hist spec)
+      → has_same spec (own_left name past event append) ≡ false
+      → IsAsked name past request_for (if (new_of name past event append spec).table == number then Some spec.action else None) number
+  tables-attached spec number is none =
+      let r : Result TriggerText TriggerFault = Ok (said.Hist spec) in
+      let new : HistTrigger = new_of name past event append spec in
+      asked-table name past event append text (if new.table == number then Some spec.action else None) number
+      (asked-by r number is
+      ∙ ap (λ (hists : List HistTrigger). asked_of number hists r) (then-new name past event append spec none)
+      ∙ ap (λ (b : Bool). (let a : Option Action = if b then Some spec.action else None in a))
+      (new-speaks spec number new (own_left name past event append) refl none))

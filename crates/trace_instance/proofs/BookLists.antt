@@ -1,8 +1,8 @@
 -- The hist triggers of an instance in a book's lists, of each event one: those that a text leaves there are those that the requests say it leaves.
 use Rattle.std.proofs.Common.{◌≡◌, ◌⊎◌, inl, inr, ℕ, zero, suc, ◌-◌, ◌<◌, ◌==◌, Bool, true, false, not, if◌then◌else◌, List, [], ◌∷◌, ◌++◌, length, map, get_or, set, refl, sym, ap, ◌∙◌, subst, arith, eq-eqb, eqb-true}
 use Rattle.std.specs.List.{AllByRecursion, flat_map}
-use Rattle.std.proofs.lemmas.Bool.{false≢true}
-use Rattle.std.proofs.lemmas.List.{get_or-map, get_or-set_other, get_or-set_same, length-map, length-set}
+use Rattle.std.proofs.lemmas.Bool.{false_from_ne_true, false≢true}
+use Rattle.std.proofs.lemmas.List.{get_or-map, get_or_default, get_or-set_other, get_or-set_same, length-map, length-set}
 use Rattle.std.proofs.lemmas.Slice.Eq.{bytes_eq-Decides}
 use Rattle.trace_format.specs.Catalogs.{AreEvents}
 use Rattle.trace_format.specs.Definitions.{Definition}
@@ -16,7 +16,6 @@ use Rattle.trace_history.proofs.LegalEvents.{named-is_numbered}
 use Rattle.trace_history.proofs.Members.{IsIn, each-in, filter-in, in-filter}
 use Rattle.trace_history.proofs.OwnFiles.{IsNamed}
 use Rattle.trace_instance.proofs.Calm.{no_event}
-use Rattle.trace_instance.proofs.Snapshotting.{same-at}
 
 -- ---- members of lists of lists
 
@@ -88,15 +87,12 @@ of-event t hists events index inside there is =
 -- an event at another index is another event
 other-at : (events : List Definition) (event : Definition) (index k : ℕ) (t : HistTrigger) → AreEvents [] events → IsIndexOf events event.name index event
     → k < length events → (k ≡ index → ⊥) → is_of (get_or events k no_event) t ≡ true → is_of event t ≡ false
-other-at events event index k t distinct place inside other is = by (is_of event t) refl
-  where
-    by : (same : Bool) → is_of event t ≡ same → same ≡ false
-    by false at = refl
-    by true at =
-        let one : event.name ≡ t.event.name = (bytes_eq-Decides event.name t.event.name).0 at in
-        let two : (get_or events k no_event).name ≡ t.event.name = (bytes_eq-Decides (get_or events k no_event).name t.event.name).0 is in
-        let here : event.name ≡ (get_or events index event).name = ap (λ (e : Definition). e.name) place.there in
-        absurd (other (one_index events k index no_event event distinct inside place.inside (two ∙ sym one ∙ here)))
+other-at events event index k t distinct place inside other is =
+    false_from_ne_true (is_of event t) (λ at.
+    let one : event.name ≡ t.event.name = (bytes_eq-Decides event.name t.event.name).0 at in
+    let two : (get_or events k no_event).name ≡ t.event.name = (bytes_eq-Decides (get_or events k no_event).name t.event.name).0 is in
+    let here : event.name ≡ (get_or events index event).name = ap (λ (e : Definition). e.name) place.there in
+    other (one_index events k index no_event event distinct inside place.inside (two ∙ sym one ∙ here)))
 
 -- the book's lists have those of all that are left
 pub lists-left : (past : List Request) (hists : List HistTrigger) (event : Definition) (index : ℕ) (append : Bool) → AreEvents [] (declared_events past)
@@ -147,7 +143,7 @@ declared-at past t named =
     let numbered = named-is_numbered events t.event.name k named.there in
     let place = index_of_id events t.event.name k.id k.event numbered.named numbered.there in
     let at : get_or events (k.id - 1) no_event ≡ t.event =
-    same-at events (k.id - 1) no_event k.event place.inside ∙ sym place.there ∙ named.event in
+    get_or_default events (k.id - 1) no_event k.event place.inside ∙ sym place.there ∙ named.event in
     record {
       index = k.id - 1;
       inside = place.inside;
@@ -184,6 +180,6 @@ left-lists past hists event index false place named t there =
     other : at.index ≡ index → ⊥
     other same =
         let here : get_or events at.index no_event ≡ event =
-        ap (λ (k : ℕ). get_or events k no_event) same ∙ same-at events index no_event event place.inside ∙ sym place.there in
+        ap (λ (k : ℕ). get_or events k no_event) same ∙ get_or_default events index no_event event place.inside ∙ sym place.there in
         let is : is_of event t ≡ true = ap (λ (e : Definition). is_of e t) (sym here) ∙ at.of in
         false≢true (sym (ap not is) ∙ old.1)

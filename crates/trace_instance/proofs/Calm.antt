@@ -283,20 +283,14 @@ calm-read name other past file limit = record {
 
 pub calm-remove : (name other : Option (List ℕ)) (past : List Request) → IsCalm other past (RemoveInstance name)
 calm-remove name other past = record {
-  triggers = λ j inside. record { alive = alive name; sets = refl; quiet = refl };
-  alive = alive name;
+  triggers = λ j inside. record { alive = refl; sets = refl; quiet = refl };
+  alive = refl;
   stays = refl;
   sets = refl;
-  untouched = λ g family. untouched name g family;
+  untouched = λ g family. refl;
   unwritten = refl;
   quiet = refl;
 }
-  where
-    alive : (n : Option (List ℕ)) → makes other (RemoveInstance n) ≡ false
-    alive n = refl
-
-    untouched : (n : Option (List ℕ)) (g : Config) (family : List (List Event)) → spare_after g other (RemoveInstance n) family ≡ family
-    untouched n g family = refl
 
 pub calm-make : (name : List ℕ) (other : Option (List ℕ)) (past : List Request) → makes other (MakeInstance (Some name)) ≡ false
     → IsCalm other past (MakeInstance (Some name))

@@ -1,6 +1,6 @@
 -- What an emission that reached an instance leaves of it: its triggers, and its two sides.
 use Rattle.std.proofs.Common.{◌≡◌, ℕ, zero, suc, ℤ, ◌+◌, ◌-◌, ◌<◌, Bool, true, false, ◌&&◌, if◌then◌else◌, List, [], ◌∷◌, length, map, get_or, set, is_some, replicate, Option, Some, None, ⊎_elim, refl, sym, ap, ◌∙◌, subst, arith, append-nil}
-use Rattle.std.proofs.lemmas.Bool.{cases_eq, false≢true, lt-ltb}
+use Rattle.std.proofs.lemmas.Bool.{and_parts, cases_eq, false_from_ne_true, false≢true, lt-ltb}
 use Rattle.std.proofs.lemmas.List.{get_or-map}
 use Rattle.std.proofs.lemmas.List.Folds.{list_any_at}
 use Rattle.std.proofs.lemmas.Slice.Eq.{bytes_eq-Decides}
@@ -31,6 +31,7 @@ use Rattle.trace_instance.specs.Instances.{InstanceSeen, InstanceStandsFor, IsSp
 use Rattle.hist_entries.specs.Hits.{Hit}
 use Rattle.trace_instance.specs.KeptHists.{AreHit, IsHitIf, KeptTable, TableStandsFor, is_used, kept_at, kept_hists}
 use Rattle.trace_instance.specs.Deliveries.{CanFire, IsDelivered, counted_down, recorded_in, row_of}
+use Rattle.trace_instance.proofs.Calm.{kept-as_left}
 use Rattle.trace_instance.proofs.HistSteps.{KeepsHists, fitting-calm}
 use Rattle.trace_instance.proofs.KeptLists.{AllOfEach}
 use Rattle.trace_instance.proofs.TableStands.{table-hit}
@@ -40,24 +41,6 @@ use Rattle.trace_instance.specs.declared.change.Reach.{Reach}
 use Rattle.trace_instance.specs.declared.trigger.Trigger.{Trigger}
 
 -- ---- triggers
-
--- a trigger that acts as often as before is kept as it was
-kept-same : (past : List Request) (request : Request) (event : Definition) (o : Option triggers.Trigger)
-    → ((t : triggers.Trigger) → o ≡ Some t → times_left event t (request ∷ past) ≡ times_left event t past)
-    → option_map (kept_as (request ∷ past) event) o ≡ option_map (kept_as past event) o
-kept-same past request event None same = refl
-kept-same past request event (Some t) same =
-    ap (λ (left : Option ℕ). Some (let kept : Trigger = record { number = t.number; left = left; filter = t.spec.filter } in kept)) (same t refl)
-
--- an emission of another event does not meet it
-other-kept : (name : Option (List ℕ)) (past : List Request) (ename : List ℕ) (cpu : ℕ) (pid : ℤ) (pairs : List Pair) (e : Emitted) (event : Definition)
-    → emitted past (Emission ename cpu pid pairs) ≡ Some e → bytes_eq event.name e.k.event.name ≡ false
-    → kept_trigger name (Emission ename cpu pid pairs ∷ past) event ≡ kept_trigger name past event
-other-kept name past ename cpu pid pairs e event is differ =
-    let request : Request = Emission ename cpu pid pairs in
-    kept-same past request event (trigger_of name event past) (λ t there.
-    let none : met_by event t.spec.filter (emitted past request) ≡ [] = rw (is, differ) refl in
-    times_left-same event t past request (number-before name event past t there) none)
 
 pub self : (name : List ℕ) → bytes_eq name name ≡ true
 self name = (bytes_eq-Decides name name).1 refl
@@ -84,47 +67,12 @@ idle-left past request e t left true is before remains filter idle =
     and-true true = refl
     and-true false = refl
 
-idle-kept : (name : Option (List ℕ)) (past : List Request) (ename : List ℕ) (cpu : ℕ) (pid : ℤ) (pairs : List Pair) (e : Emitted)
-    → emitted past (Emission ename cpu pid pairs) ≡ Some e → is_exchanged_by name past (Some e) ≡ false
-    → kept_trigger name (Emission ename cpu pid pairs ∷ past) e.k.event ≡ kept_trigger name past e.k.event
-idle-kept name past ename cpu pid pairs e is idle =
-    let request : Request = Emission ename cpu pid pairs in
-    kept-same past request e.k.event (trigger_of name e.k.event past) (λ t there.
-    let no : (is_left (times_left e.k.event t past) && passes t.spec.filter e) ≡ false = rw there at idle in
-    idle-left past request e t (times_left e.k.event t past) (passes t.spec.filter e) is (number-before name e.k.event past t there) refl refl no)
-
--- and one that makes it act leaves it with one time less
-both-true : (a b : Bool) → (a && b) ≡ true → b ≡ true
-both-true true b both = both
-both-true false b both = absurd (cc)
-
-acting-kept : (name : Option (List ℕ)) (past : List Request) (ename : List ℕ) (cpu : ℕ) (pid : ℤ) (pairs : List Pair) (e : Emitted)
-    → emitted past (Emission ename cpu pid pairs) ≡ Some e → is_exchanged_by name past (Some e) ≡ true
-    → kept_trigger name (Emission ename cpu pid pairs ∷ past) e.k.event ≡ counted_down (kept_trigger name past e.k.event)
-acting-kept name past ename cpu pid pairs e is acting = by (trigger_of name e.k.event past) refl acting
-  where
-    request : Request
-    request = Emission ename cpu pid pairs
-
-    by : (o : Option triggers.Trigger) → trigger_of name e.k.event past ≡ o → triggers.acts past e o ≡ true
-        → option_map (kept_as (request ∷ past) e.k.event) o ≡ counted_down (option_map (kept_as past e.k.event) o)
-    by None there acts = refl
-    by (Some t) there acts =
-        let holds = both-true (is_left (times_left e.k.event t past)) (passes t.spec.filter e) acts in
-        let one : met_by e.k.event t.spec.filter (emitted past request) ≡ e ∷ [] = rw (is, self e.k.event.name, holds) refl in
-        ap (λ (left : Option ℕ). Some (let kept : Trigger = record { number = t.number; left = left; filter = t.spec.filter } in kept))
-        (times_left-less e.k.event t past request e (number-before name e.k.event past t there) one)
-
 -- no other event has the name
 differs-at : (events : List Definition) (i j : ℕ) (d event : Definition) → AreEvents [] events → i < length events → event ≡ get_or events i event
     → j < length events → (j ≡ i → ⊥) → bytes_eq (get_or events j d).name event.name ≡ false
-differs-at events i j d event are first there second other = by (bytes_eq (get_or events j d).name event.name) refl
-  where
-    by : (same : Bool) → bytes_eq (get_or events j d).name event.name ≡ same → bytes_eq (get_or events j d).name event.name ≡ false
-    by false is = is
-    by true is =
-        let e : (get_or events j d).name ≡ event.name = (bytes_eq-Decides (get_or events j d).name event.name).0 is in
-        absurd (other (one_index events j i d event are second first (e ∙ ap (λ (v : Definition). v.name) there)))
+differs-at events i j d event are first there second other = false_from_ne_true (bytes_eq (get_or events j d).name event.name) (λ is.
+    let e : (get_or events j d).name ≡ event.name = (bytes_eq-Decides (get_or events j d).name event.name).0 is in
+    other (one_index events j i d event are second first (e ∙ ap (λ (v : Definition). v.name) there)))
 
 -- the trigger of an event at an index
 pub trigger-at : (name : Option (List ℕ)) (past : List Request) (kept : List (Option Trigger)) (ename : List ℕ) (index : ℕ) (event : Definition)
@@ -133,41 +81,6 @@ pub trigger-at : (name : Option (List ℕ)) (past : List Request) (kept : List (
 trigger-at name past kept ename index event are indexed =
     rw are (get_or-map (kept_trigger name past) (declared_events past) index event None indexed.inside
     ∙ ap (kept_trigger name past) (sym indexed.there))
-
--- the triggers after an emission, by whether it makes its event's act
-triggers-after : (name : Option (List ℕ)) (past : List Request) (ename : List ℕ) (cpu : ℕ) (pid : ℤ) (pairs : List Pair) (e : Emitted) (index : ℕ)
-    (kept : List (Option Trigger)) (fires : Bool) → emitted past (Emission ename cpu pid pairs) ≡ Some e → AreEvents [] (declared_events past)
-    → IsIndexOf (declared_events past) e.k.event.name index e.k.event → kept ≡ map (kept_trigger name past) (declared_events past)
-    → is_exchanged_by name past (Some e) ≡ fires
-    → (if fires then set kept index (counted_down (get_or kept index None)) else kept)
-    ≡ map (kept_trigger name (Emission ename cpu pid pairs ∷ past)) (declared_events past)
-triggers-after name past ename cpu pid pairs e index kept true is are indexed stood acting =
-    let request : Request = Emission ename cpu pid pairs in
-    let events = declared_events past in
-    let here = trigger-at name past kept e.k.event.name index e.k.event stood indexed in
-    let changed : map (kept_trigger name (request ∷ past)) events
-    ≡ set (map (kept_trigger name past) events) index (counted_down (kept_trigger name past e.k.event)) =
-    map-set (kept_trigger name past) (kept_trigger name (request ∷ past)) (counted_down (kept_trigger name past e.k.event)) events index e.k.event
-    indexed.inside (ap (kept_trigger name (request ∷ past)) (sym indexed.there) ∙ acting-kept name past ename cpu pid pairs e is acting)
-    (λ j inside other. other-kept name past ename cpu pid pairs e (get_or events j e.k.event) is
-    (differs-at events index j e.k.event e.k.event are indexed.inside indexed.there inside other)) in
-    ap (λ (t : Option Trigger). set kept index (counted_down t)) here
-    ∙ ap (λ (l : List (Option Trigger)). set l index (counted_down (kept_trigger name past e.k.event))) stood
-    ∙ sym changed
-triggers-after name past ename cpu pid pairs e index kept false is are indexed stood idle =
-    let request : Request = Emission ename cpu pid pairs in
-    let events = declared_events past in
-    let same : map (kept_trigger name (request ∷ past)) events ≡ map (kept_trigger name past) events =
-    map-agrees (kept_trigger name (request ∷ past)) (kept_trigger name past) events e.k.event
-    (λ j inside. ⊎_elim
-    (λ (at : j ≡ index).
-    let it : get_or events j e.k.event ≡ e.k.event = ap (λ (k : ℕ). get_or events k e.k.event) at ∙ sym indexed.there in
-    subst (λ (event : Definition). kept_trigger name (request ∷ past) event ≡ kept_trigger name past event) (sym it)
-    (idle-kept name past ename cpu pid pairs e is idle))
-    (λ (other : j ≡ index → ⊥). other-kept name past ename cpu pid pairs e (get_or events j e.k.event) is
-    (differs-at events index j e.k.event e.k.event are indexed.inside indexed.there inside other))
-    (cases_eq j index)) in
-    stood ∙ sym same
 
 -- ---- sides
 
@@ -206,49 +119,106 @@ written-rings name past e true overwrite cpu bytes family is over on_cpu own =
     let same = own refl in
     rw (← is, over, on_cpu, same) refl
 
--- the families of both sides after an emission
-sides-after : (g : Config) (name : Option (List ℕ)) (past : List Request) (ename : List ℕ) (cpu : ℕ) (pid : ℤ) (pairs : List Pair) (e : Emitted)
-    (written : List (List ring.Event)) (fires : Bool) → emitted past (Emission ename cpu pid pairs) ≡ Some e
-    → written ≡ with_emitted name past (Some e) (rings g name past)
-    → is_exchanged_by name past (Some e) ≡ fires → (fires ≡ true → has_spare name past ≡ true)
-    → (let f : SideFamilies = record { live = written; spare = spare_rings g name past } in if fires then exchanged f else f)
-    ≡ side_families g name (Emission ename cpu pid pairs ∷ past)
-sides-after g name past ename cpu pid pairs e written false is wrote stays spare =
-    let request : Request = Emission ename cpu pid pairs in
-    let after = rings-stay g name past request refl (ap (is_exchanged_by name past) is ∙ stays) in
-    let live : written ≡ rings g name (request ∷ past) =
-    wrote ∙ ap (λ (o : Option Emitted). with_emitted name past o (rings g name past)) (sym is) ∙ sym after.live in
-    ap (λ (l : List (List ring.Event)). let f : SideFamilies = record { live = l; spare = spare_rings g name past } in f) live
-    ∙ ap (λ (l : List (List ring.Event)). let f : SideFamilies =
-    record { live = rings g name (request ∷ past); spare = if has_spare name past then Some l else None } in f) (sym after.spare)
-sides-after g name past ename cpu pid pairs e written true is wrote flips spare =
-    let request : Request = Emission ename cpu pid pairs in
-    let after = rings-exchanged g name past request refl (ap (is_exchanged_by name past) is ∙ flips) in
-    let there : has_spare name past ≡ true = spare refl in
-    let other : written ≡ other_rings g name (request ∷ past) =
-    wrote ∙ ap (λ (o : Option Emitted). with_emitted name past o (rings g name past)) (sym is) ∙ sym after.spare in
-    let was : spare_rings g name past ≡ Some (other_rings g name past) = rw there refl in
-    let now : spare_rings g name (request ∷ past) ≡ Some (other_rings g name (request ∷ past)) = rw there refl in
-    ap (λ (o : Option (List (List ring.Event))). exchanged_with written o) was
-    ∙ ap (λ (l : List (List ring.Event)). let f : SideFamilies = record { live = other_rings g name past; spare = Some l } in f) other
-    ∙ ap (λ (l : List (List ring.Event)). let f : SideFamilies = record { live = l; spare = Some (other_rings g name (request ∷ past)) } in f) (sym after.live)
-    ∙ ap (λ (o : Option (List (List ring.Event))). let f : SideFamilies = record { live = rings g name (request ∷ past); spare = o } in f) (sym now)
+-- ---- what an emission leaves
 
--- a side that is no spare stays empty
-spared-after : (g : Config) (name : Option (List ℕ)) (past : List Request) (ename : List ℕ) (cpu : ℕ) (pid : ℤ) (pairs : List Pair) (e : Emitted)
-    (fires : Bool) → emitted past (Emission ename cpu pid pairs) ≡ Some e → is_exchanged_by name past (Some e) ≡ fires
-    → (fires ≡ true → has_spare name past ≡ true) → IsSpared g name (declared_events past) past
-    → IsSpared g name (declared_events past) (Emission ename cpu pid pairs ∷ past)
-spared-after g name past ename cpu pid pairs e fires is by_trigger spare spared = record {
-  unused = λ none. by fires by_trigger spare none;
-  armed = λ some. spared.armed some;
-}
-  where
-    by : (f : Bool) → is_exchanged_by name past (Some e) ≡ f → (f ≡ true → has_spare name past ≡ true) → has_spare name past ≡ false
-        → other_rings g name (Emission ename cpu pid pairs ∷ past) ≡ replicate g.cpus []
-    by false stays there none =
-        (rings-stay g name past (Emission ename cpu pid pairs) refl (ap (is_exchanged_by name past) is ∙ stays)).spare ∙ spared.unused none
-    by true flips there none = absurd (false≢true (sym none ∙ there refl))
+module _ (name : Option (List ℕ)) (past : List Request) (ename : List ℕ) (cpu : ℕ) (pid : ℤ) (pairs : List Pair) (e : Emitted)
+    (is : emitted past (Emission ename cpu pid pairs) ≡ Some e) where
+  abbrev request : Request
+  request = Emission ename cpu pid pairs
+
+  -- it does not meet the trigger of another event
+  other-kept : (event : Definition) → bytes_eq event.name e.k.event.name ≡ false → kept_trigger name (request ∷ past) event ≡ kept_trigger name past event
+  other-kept event differ =
+      kept-as_left past request event (trigger_of name event past) (λ t there.
+      let none : met_by event t.spec.filter (emitted past request) ≡ [] = rw (is, differ) refl in
+      times_left-same event t past request (number-before name event past t there) none)
+
+  -- nor does that of its own event change which it does not make act
+  idle-kept : is_exchanged_by name past (Some e) ≡ false → kept_trigger name (request ∷ past) e.k.event ≡ kept_trigger name past e.k.event
+  idle-kept idle =
+      kept-as_left past request e.k.event (trigger_of name e.k.event past) (λ t there.
+      let no : (is_left (times_left e.k.event t past) && passes t.spec.filter e) ≡ false = rw there at idle in
+      idle-left past request e t (times_left e.k.event t past) (passes t.spec.filter e) is (number-before name e.k.event past t there) refl refl no)
+
+  -- and one that it makes act is left with one time less
+  acting-kept : is_exchanged_by name past (Some e) ≡ true → kept_trigger name (request ∷ past) e.k.event ≡ counted_down (kept_trigger name past e.k.event)
+  acting-kept acting = by (trigger_of name e.k.event past) refl acting
+    where
+      by : (o : Option triggers.Trigger) → trigger_of name e.k.event past ≡ o → triggers.acts past e o ≡ true
+          → option_map (kept_as (request ∷ past) e.k.event) o ≡ counted_down (option_map (kept_as past e.k.event) o)
+      by None there acts = refl
+      by (Some t) there acts =
+          let holds = (and_parts (is_left (times_left e.k.event t past)) (passes t.spec.filter e) acts).1 in
+          let one : met_by e.k.event t.spec.filter (emitted past request) ≡ e ∷ [] = rw (is, self e.k.event.name, holds) refl in
+          ap (λ (left : Option ℕ). Some (let kept : Trigger = record { number = t.number; left = left; filter = t.spec.filter } in kept))
+          (times_left-less e.k.event t past request e (number-before name e.k.event past t there) one)
+
+  -- the triggers, by whether it makes its event's act
+  triggers-after : (index : ℕ) (kept : List (Option Trigger)) (fires : Bool) → AreEvents [] (declared_events past)
+      → IsIndexOf (declared_events past) e.k.event.name index e.k.event → kept ≡ map (kept_trigger name past) (declared_events past)
+      → is_exchanged_by name past (Some e) ≡ fires
+      → (if fires then set kept index (counted_down (get_or kept index None)) else kept) ≡ map (kept_trigger name (request ∷ past)) (declared_events past)
+  triggers-after index kept true are indexed stood acting =
+      let events = declared_events past in
+      let here = trigger-at name past kept e.k.event.name index e.k.event stood indexed in
+      let changed : map (kept_trigger name (request ∷ past)) events
+      ≡ set (map (kept_trigger name past) events) index (counted_down (kept_trigger name past e.k.event)) =
+      map-set (kept_trigger name past) (kept_trigger name (request ∷ past)) (counted_down (kept_trigger name past e.k.event)) events index e.k.event
+      indexed.inside (ap (kept_trigger name (request ∷ past)) (sym indexed.there) ∙ acting-kept acting)
+      (λ j inside other. other-kept (get_or events j e.k.event)
+      (differs-at events index j e.k.event e.k.event are indexed.inside indexed.there inside other)) in
+      ap (λ (t : Option Trigger). set kept index (counted_down t)) here
+      ∙ ap (λ (l : List (Option Trigger)). set l index (counted_down (kept_trigger name past e.k.event))) stood
+      ∙ sym changed
+  triggers-after index kept false are indexed stood idle =
+      let events = declared_events past in
+      let same : map (kept_trigger name (request ∷ past)) events ≡ map (kept_trigger name past) events =
+      map-agrees (kept_trigger name (request ∷ past)) (kept_trigger name past) events e.k.event
+      (λ j inside. ⊎_elim
+      (λ (at : j ≡ index).
+      let it : get_or events j e.k.event ≡ e.k.event = ap (λ (k : ℕ). get_or events k e.k.event) at ∙ sym indexed.there in
+      subst (λ (event : Definition). kept_trigger name (request ∷ past) event ≡ kept_trigger name past event) (sym it) (idle-kept idle))
+      (λ (other : j ≡ index → ⊥). other-kept (get_or events j e.k.event)
+      (differs-at events index j e.k.event e.k.event are indexed.inside indexed.there inside other))
+      (cases_eq j index)) in
+      stood ∙ sym same
+
+  -- the families of both sides
+  sides-after : (g : Config) (written : List (List ring.Event)) (fires : Bool) → written ≡ with_emitted name past (Some e) (rings g name past)
+      → is_exchanged_by name past (Some e) ≡ fires → (fires ≡ true → has_spare name past ≡ true)
+      → (let f : SideFamilies = record { live = written; spare = spare_rings g name past } in if fires then exchanged f else f)
+      ≡ side_families g name (request ∷ past)
+  sides-after g written false wrote stays spare =
+      let after = rings-stay g name past request refl (ap (is_exchanged_by name past) is ∙ stays) in
+      let live : written ≡ rings g name (request ∷ past) =
+      wrote ∙ ap (λ (o : Option Emitted). with_emitted name past o (rings g name past)) (sym is) ∙ sym after.live in
+      ap (λ (l : List (List ring.Event)). let f : SideFamilies = record { live = l; spare = spare_rings g name past } in f) live
+      ∙ ap (λ (l : List (List ring.Event)). let f : SideFamilies =
+      record { live = rings g name (request ∷ past); spare = if has_spare name past then Some l else None } in f) (sym after.spare)
+  sides-after g written true wrote flips spare =
+      let after = rings-exchanged g name past request refl (ap (is_exchanged_by name past) is ∙ flips) in
+      let there : has_spare name past ≡ true = spare refl in
+      let other : written ≡ other_rings g name (request ∷ past) =
+      wrote ∙ ap (λ (o : Option Emitted). with_emitted name past o (rings g name past)) (sym is) ∙ sym after.spare in
+      let was : spare_rings g name past ≡ Some (other_rings g name past) = rw there refl in
+      let now : spare_rings g name (request ∷ past) ≡ Some (other_rings g name (request ∷ past)) = rw there refl in
+      ap (λ (o : Option (List (List ring.Event))). exchanged_with written o) was
+      ∙ ap (λ (l : List (List ring.Event)). let f : SideFamilies = record { live = other_rings g name past; spare = Some l } in f) other
+      ∙ ap (λ (l : List (List ring.Event)). let f : SideFamilies = record { live = l; spare = Some (other_rings g name (request ∷ past)) } in f) (sym after.live)
+      ∙ ap (λ (o : Option (List (List ring.Event))). let f : SideFamilies = record { live = rings g name (request ∷ past); spare = o } in f) (sym now)
+
+  -- a side that is no spare stays empty
+  spared-after : (g : Config) (fires : Bool) → is_exchanged_by name past (Some e) ≡ fires → (fires ≡ true → has_spare name past ≡ true)
+      → IsSpared g name (declared_events past) past → IsSpared g name (declared_events past) (request ∷ past)
+  spared-after g fires by_trigger spare spared = record {
+    unused = λ none. by fires by_trigger spare none;
+    armed = λ some. spared.armed some;
+  }
+    where
+      by : (f : Bool) → is_exchanged_by name past (Some e) ≡ f → (f ≡ true → has_spare name past ≡ true) → has_spare name past ≡ false
+          → other_rings g name (request ∷ past) ≡ replicate g.cpus []
+      by false stays there none = (rings-stay g name past request refl (ap (is_exchanged_by name past) is ∙ stays)).spare ∙ spared.unused none
+      by true flips there none = absurd (false≢true (sym none ∙ there refl))
 
 -- ---- hist triggers
 
@@ -289,13 +259,13 @@ delivered-stands g name past (Emission ename cpu pid pairs) e d reach old new is
     let request : Request = Emission ename cpu pid pairs in
     let spare : reach.fires ≡ true → has_spare name past ≡ true = λ on. spare-there g name past e d.event stands.spared indexed (sym fires ∙ on) in
     let written = written-rings name past e reach.records old.overwrite d.cpu d.record.items (rings g name past) records stands.overwrite on_cpu bytes in
-    let families = sides-after g name past ename cpu pid pairs e (recorded_in reach.records old.overwrite d.cpu d.record.items (rings g name past)) reach.fires is written
+    let families = sides-after name past ename cpu pid pairs e is g (recorded_in reach.records old.overwrite d.cpu d.record.items (rings g name past)) reach.fires written
     (sym fires) spare in
     let keeps : KeepsHists name past request = record { alive = refl; unwritten = refl } in
     let one : length past + 1 ≡ suc (length past) = omega arith in record {
       enabled = rw append-nil (came.enabled ∙ stands.enabled);
       filters = rw append-nil (came.filters ∙ stands.filters);
-      triggers = rw append-nil (came.triggers ∙ triggers-after name past ename cpu pid pairs e d.event old.triggers reach.fires is are indexed stands.triggers
+      triggers = rw append-nil (came.triggers ∙ triggers-after name past ename cpu pid pairs e is d.event old.triggers reach.fires are indexed stands.triggers
           (sym fires));
       hists = rw append-nil (came.hists ∙ stands.hists);
       tables = tables-after name past request e d.event old new keeps is indexed stands.hists stands.tables came.hists
@@ -308,6 +278,6 @@ delivered-stands g name past (Emission ename cpu pid pairs) e d reach old new is
       sides = subst (λ (f : SideFamilies). snapshot.StandsFor new.sides f) families (came.sides (side_families g name past) stands.sides);
       shaped = came.shaped g stands.shaped;
       offered = subst (λ (n : ℕ). WereOffered n new.sides) one (came.offered (length past) stands.offered);
-      spared = rw append-nil (spared-after g name past ename cpu pid pairs e reach.fires is (sym fires) spare stands.spared);
+      spared = rw append-nil (spared-after name past ename cpu pid pairs e is g reach.fires (sym fires) spare stands.spared);
     }
 delivered-stands g name past request e d reach old new is are stands indexed records fires on_cpu bytes row came = absurd (cc)

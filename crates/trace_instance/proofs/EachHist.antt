@@ -1,7 +1,7 @@
 -- Hist triggers that an emission reaches one after the other: what a loop over those of its event keeps of their tables.
-use Rattle.std.proofs.Common.{◌≡◌, ◌≢◌, ℕ, zero, suc, ◌+◌, ◌<◌, ◌≤◌, ◌==◌, Bool, true, false, ◌&&◌, if◌then◌else◌, List, [], ◌∷◌, ◌++◌, length, map, take, get_or, IfSome, Option, None, Some, option_map, ⊎_elim, refl, sym, ap, ◌∙◌, subst, arith, below_more, append-nil}
+use Rattle.std.proofs.Common.{◌≡◌, ◌≢◌, ℕ, zero, suc, ◌+◌, ◌<◌, ◌≤◌, ◌==◌, Bool, true, false, ◌&&◌, if◌then◌else◌, List, [], ◌∷◌, ◌++◌, length, map, take, get_or, IfSome, Option, None, Some, option_map, ⊎_elim, refl, sym, ap, ◌∙◌, subst, arith, below_more, eq-eqb, append-nil}
 use Rattle.std.specs.List.{flat_map, Any}
-use Rattle.std.proofs.lemmas.Bool.{cases_eq, false≢true}
+use Rattle.std.proofs.lemmas.Bool.{and_right, cases_eq, false≢true, ne_eqb}
 use Rattle.std.proofs.lemmas.List.{append_assoc, get_or_default}
 use Rattle.trace_format.specs.Cells.{Datum}
 use Rattle.trace_format.specs.Operands.{Emission}
@@ -14,11 +14,10 @@ use Rattle.hist_entries.specs.HistEntries.{Entry}
 use Rattle.hist_entries.specs.RowPlaces.{Place, Unknown, In, Nowhere, IsPlaceOf, most_rows}
 use Rattle.trace_hist.specs.Hists.{IsCountedFor, IsReservedAs, Seen, StandsFor, counted}
 use Rattle.trace_trigger.specs.SameSpecs.{is_passed}
-use Rattle.trace_instance.specs.KeptHists.{AreHit, CanCount, HasRoomToCount, IsHit, IsHitIf, KeptTable, KeysAgree, NeedsMemory, NeedsMemoryIn, is_passed_at, kept_at, kept_table, passed, row_counted, rows_counted, table_numbered}
+use Rattle.trace_instance.specs.KeptHists.{CanCount, IsHit, IsHitIf, KeptTable, KeysAgree, NeedsMemory, NeedsMemoryIn, is_passed_at, kept_at, kept_table, passed, row_counted, rows_counted, table_numbered}
 use Rattle.trace_instance.specs.private.Tables.{IsCounted}
 use Rattle.trace_instance.specs.declared.hists.AttachedHist.{AttachedHist}
 use Rattle.trace_instance.specs.declared.tables.Table.{Table}
-use Rattle.trace_instance.proofs.Lookups.{differ, itself}
 
 -- the one at an index
 pub element : (hists : List AttachedHist) (i : ℕ) → i < length hists → (a : AttachedHist) × (a ≡ get_or hists i a)
@@ -173,10 +172,8 @@ none-hit-yet rows (Some k) none = none-hit k.paused (rows k.paused) k (none k.pa
 -- the same rows in other words
 same-hit : (rows more : Bool → List Hit) (old new : Option KeptTable) → ((paused : Bool) → rows paused ≡ more paused) → IsHitIf rows old new
     → IsHitIf more old new
-same-hit rows more None None same hit = hit
-same-hit rows more None (Some new) same hit = hit
-same-hit rows more (Some old) None same hit = hit
 same-hit rows more (Some old) (Some new) same hit = subst (λ (r : List Hit). IsHit r old new) (same old.paused) hit
+same-hit rows more old new same hit = hit
 
 -- and one row more
 kept-counted : (by : SpecSeen) (emission : Emission) (rows more : Bool → List Hit) (old : Option KeptTable) (now new : Option Seen)
@@ -249,26 +246,6 @@ room-some : (n i : ℕ) (found : Option Seen) → IfSome found (λ (hist : Seen)
 room-some n i None few = tt
 room-some n i (Some hist) few = omega (arith, few)
 
-room-first : (found : Option Seen) → IfSome found (λ (hist : Seen). counted hist + 4 ≤ most_rows)
-    → IfSome found (λ (hist : Seen). counted hist + 4 ≤ most_rows + 0)
-room-first None few = tt
-room-first (Some hist) few = omega (arith, few)
-
--- there is room for the row of one
-pub room-here : (i : ℕ) (found : Option Seen) → i < 4 → IfSome found (λ (hist : Seen). counted hist + 4 ≤ most_rows + i)
-    → IfSome found (λ (hist : Seen). counted hist < most_rows)
-room-here i None small few = tt
-room-here i (Some hist) small few = omega (arith, small, few)
-
-pub none-reached : (emission : Emission) (hists : List AttachedHist) (tables : List Table)
-    → ((k : ℕ) (d : AttachedHist) → k < length hists → CanCount emission tables (get_or hists k d))
-    → ((k : ℕ) (d : AttachedHist) → k < length hists → HasRoomToCount tables (get_or hists k d)) → AreReached emission hists 0 tables tables
-none-reached emission hists tables ready few = record {
-  hit = λ number. none-hit-yet (first_counted 0 emission hists number) (kept_at number tables) (λ paused. nothing-counted number emission paused);
-  ready = λ k d from inside. ready k d inside;
-  few = λ k d inside. room-first (table_numbered (get_or hists k d).table tables) (few k d inside);
-}
-
 -- one that an emission does not reach
 counted-none : (number i : ℕ) (emission : Emission) (hists : List AttachedHist) (a : AttachedHist) (paused : Bool) → i < length hists
     → a ≡ get_or hists i a → row_counted number emission a ≡ []
@@ -278,18 +255,13 @@ counted-none number i emission hists a false inside is none =
     sym (rows-more number emission hists i a inside is ∙ ap (λ (r : List Hit). flat_map (row_counted number emission) (take i hists) ++ r) none
     ∙ append-nil (flat_map (row_counted number emission) (take i hists)))
 
-and-off : (b : Bool) → (b && false) ≡ false
-and-off true = refl
-and-off false = refl
-
 pub unreached-more : (emission : Emission) (hists : List AttachedHist) (i : ℕ) (a : AttachedHist) (old now : List Table) → i < length hists
     → a ≡ get_or hists i a → is_passed a.spec.filter emission ≡ false → AreReached emission hists i old now
     → AreReached emission hists (i + 1) old now
 unreached-more emission hists i a old now inside is off was = record {
   hit = λ number.
       let none : row_counted number emission a ≡ [] =
-      ap (λ (b : Bool). (let r : List Hit = if (a.table == number) && b then hit_of a.spec emission ∷ [] else [] in r)) off
-      ∙ ap (λ (b : Bool). (let r : List Hit = if b then hit_of a.spec emission ∷ [] else [] in r)) (and-off (a.table == number)) in
+      ap (λ (b : Bool). (let r : List Hit = if b then hit_of a.spec emission ∷ [] else [] in r)) (and_right (a.table == number) _ off) in
       same-hit (first_counted i emission hists number) (first_counted (i + 1) emission hists number) (kept_at number old) (kept_at number now)
       (λ paused. counted-none number i emission hists a paused inside is none) (was.hit number);
   ready = λ k d from within. was.ready k d (omega (arith, from)) within;
@@ -299,17 +271,15 @@ unreached-more emission hists i a old now inside is off was = record {
 -- what was counted leaves what another one with its keys needs
 still-ready : (by other : SpecSeen) (emission : Emission) (now new : Option Seen) → by.keys ≡ other.keys → IsCounted by emission now new
     → IfSome new (λ (hist : Seen). IsReservedAs hist other emission)
-still-ready by other emission None None same came = tt
+still-ready by other emission now None same came = tt
 still-ready by other emission None (Some new) same came = absurd came
-still-ready by other emission (Some now) None same came = absurd came
 still-ready by other emission (Some now) (Some new) same came =
     came.still other emission (ap (λ (keys : List Key). map (key_cell emission) keys) (sym same))
 
 room-more : (by : SpecSeen) (emission : Emission) (i : ℕ) (now new : Option Seen) → IsCounted by emission now new
     → IfSome now (λ (hist : Seen). counted hist + 4 ≤ most_rows + i) → IfSome new (λ (hist : Seen). counted hist + 4 ≤ most_rows + (i + 1))
-room-more by emission i None None came few = tt
+room-more by emission i now None came few = tt
 room-more by emission i None (Some new) came few = absurd came
-room-more by emission i (Some now) None came few = absurd came
 room-more by emission i (Some now) (Some new) came few = omega (arith, few, counted-few by emission now new came)
 
 -- one that was reached has counted its row
@@ -340,7 +310,7 @@ reached-more emission hists i a old now new agree inside is on came others was =
 }
   where
     counts : row_counted a.table emission a ≡ hit_of a.spec emission ∷ []
-    counts = rw (itself a.table, on) refl
+    counts = rw (eq-eqb a.table a.table refl, on) refl
 
     here : IsHitIf (first_counted (i + 1) emission hists a.table) (kept_at a.table old) (kept_at a.table new)
     here = kept-counted a.spec emission (first_counted i emission hists a.table) (first_counted (i + 1) emission hists a.table) (kept_at a.table old)
@@ -354,24 +324,8 @@ reached-more emission hists i a old now new agree inside is on came others was =
     elsewhere number apart =
         let none : row_counted number emission a ≡ [] =
         ap (λ (b : Bool). (let r : List Hit = if b && is_passed a.spec.filter emission then hit_of a.spec emission ∷ [] else [] in r))
-        (differ a.table number (λ same. apart (sym same))) in
+        (ne_eqb a.table number (λ same. apart (sym same))) in
         subst (λ (o : Option Seen). IsHitIf (first_counted (i + 1) emission hists number) (kept_at number old) (option_map kept_table o))
         (sym (others number apart))
         (same-hit (first_counted i emission hists number) (first_counted (i + 1) emission hists number) (kept_at number old) (kept_at number now)
         (λ paused. counted-none number i emission hists a paused inside is none) (was.hit number))
-
--- and all
-abbrev all_counted : Emission → List AttachedHist → ℕ → Bool → List Hit
-all_counted emission hists number paused = rows_counted number paused hists emission
-
-pub all-reached : (emission : Emission) (hists : List AttachedHist) (old new : List Table) (i : ℕ) → length hists ≤ i
-    → AreReached emission hists i old new → AreHit emission hists old new
-all-reached emission hists old new i past was = λ number.
-    same-hit (first_counted i emission hists number) (all_counted emission hists number) (kept_at number old) (kept_at number new)
-    (λ paused. ap (λ (l : List AttachedHist). rows_counted number paused l emission) (take-all i hists past)) (was.hit number)
-  where
-    take-all : (n : ℕ) (l : List AttachedHist) → length l ≤ n → take n l ≡ l
-    take-all zero [] past = refl
-    take-all (suc n) [] past = refl
-    take-all zero (b ∷ l) past = absurd (omega (arith, past))
-    take-all (suc n) (b ∷ l) past = ap (λ (t : List AttachedHist). b ∷ t) (take-all n l (omega (arith, past)))

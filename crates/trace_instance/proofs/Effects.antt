@@ -19,10 +19,10 @@ use Rattle.trace_instance.specs.FileAnswers.{IsReading}
 use Rattle.trace_instance.specs.Files.{IsThere, file_at, name_at}
 use Rattle.trace_instance.specs.Instances.{IsUsableInstance, InstanceSeen}
 use Rattle.trace_instance.specs.declared.change.InstanceChange.{InstanceChange}
-use Rattle.trace_instance.specs.declared.change.InstanceChange.TheVariants.{Keep, Take, TakeCpu, Switch, SwitchAll, SetFilter, SetFilters, ClearFilters, SetOverwrite, SetTracing, Clear, ClearCpu, Triggers, TakeSnapshot, FreeSpare, ClearSpare}
+use Rattle.trace_instance.specs.declared.change.InstanceChange.TheVariants.{Keep, Take, TakeCpu}
 use Rattle.trace_instance.specs.declared.file.File.{File}
 use Rattle.trace_instance.specs.declared.file.File.TheVariants as file
-use Rattle.trace_instance.proofs.Calm.{IsQuiet, IsQuietFile, IsWriteEffect, calm-effect, calm-other_write, calm-read, calm-write, quiet-keep}
+use Rattle.trace_instance.proofs.Calm.{IsQuiet, IsQuietFile, IsWriteEffect, calm-effect, calm-other_write, calm-read, calm-write, no_event, quiet-keep}
 use Rattle.trace_instance.proofs.EventReads.{name-at_place}
 
 -- an instance is the same as itself
@@ -114,19 +114,7 @@ own_read g name past named limit (TakeCpu cpu most) reading is =
     calm-effect g name past (ReadFile name (Some named) limit) (TakeCpu cpu most) (calm-read name name past (Some named) limit)
     (record { triggers = λ old. refl; hists = λ old. refl; asks = λ table. refl; joined = λ name past. tt; sides = λ cpus pages page_bytes f. refl })
     (record { enabled = refl; filters = refl; overwrite = refl; tracing = refl; rings = rw (same_instance name) is })
-own_read g name past named limit (Switch event flag) reading is = absurd reading
-own_read g name past named limit (SwitchAll flag) reading is = absurd reading
-own_read g name past named limit (SetFilter event filter) reading is = absurd reading
-own_read g name past named limit (SetFilters changes) reading is = absurd reading
-own_read g name past named limit ClearFilters reading is = absurd reading
-own_read g name past named limit (SetOverwrite flag) reading is = absurd reading
-own_read g name past named limit (SetTracing flag) reading is = absurd reading
-own_read g name past named limit Clear reading is = absurd reading
-own_read g name past named limit (ClearCpu cpu) reading is = absurd reading
-own_read g name past named limit (Triggers event append change) reading is = absurd reading
-own_read g name past named limit TakeSnapshot reading is = absurd reading
-own_read g name past named limit FreeSpare reading is = absurd reading
-own_read g name past named limit ClearSpare reading is = absurd reading
+own_read g name past named limit change reading is = absurd reading
 
 -- a read of the declarations changes no instance
 declarations_rings : (g : Config) (other name : Option (List ℕ)) (past : List Request) (limit : Option ℕ) (family : List (List Event))
@@ -149,24 +137,9 @@ pub lawful_read : (g : Config) (events : ℕ) (i : InstanceSeen) (change : Insta
 lawful_read g events i Keep usable reading = tt
 lawful_read g events i (Take counts) usable reading = tt
 lawful_read g events i (TakeCpu cpu most) usable reading = omega (arith, reading, usable.shaped.live.cpus)
-lawful_read g events i (Switch event flag) usable reading = absurd reading
-lawful_read g events i (SwitchAll flag) usable reading = absurd reading
-lawful_read g events i (SetFilter event filter) usable reading = absurd reading
-lawful_read g events i (SetFilters changes) usable reading = absurd reading
-lawful_read g events i ClearFilters usable reading = absurd reading
-lawful_read g events i (SetOverwrite flag) usable reading = absurd reading
-lawful_read g events i (SetTracing flag) usable reading = absurd reading
-lawful_read g events i Clear usable reading = absurd reading
-lawful_read g events i (ClearCpu cpu) usable reading = absurd reading
-lawful_read g events i (Triggers event append change) usable reading = absurd reading
-lawful_read g events i TakeSnapshot usable reading = absurd reading
-lawful_read g events i FreeSpare usable reading = absurd reading
-lawful_read g events i ClearSpare usable reading = absurd reading
+lawful_read g events i change usable reading = absurd reading
 
 -- ---- nothing that was found is missing
-
-no_event : Definition
-no_event = record { name = []; fields = [] }
 
 named_at_place : (events : List Definition) (index : ℕ) → AreEvents [] events → index < length events
     → is_some (event_named_in events (name_at events index)) ≡ true

@@ -30,10 +30,7 @@ use Rattle.trace_instance.specs.declared.hists.AttachedHist.{AttachedHist}
 use Rattle.trace_instance.specs.declared.read.FileSource.{FileSource}
 use Rattle.trace_instance.specs.declared.tables.Table.{Table}
 use Rattle.trace_instance.specs.declared.trigger.Trigger.{Trigger}
-
--- an event for places outside of a list
-no_event : Definition
-no_event = record { name = []; fields = [] }
+use Rattle.trace_instance.proofs.Calm.{no_event}
 
 -- the name of the event at an index
 pub name-at_place : (events : List Definition) (i : ℕ) (d : Definition) → i < length events → name_at events i ≡ (get_or events i d).name
@@ -41,64 +38,11 @@ name-at_place [] i d inside = absurd (omega arith)
 name-at_place (event ∷ events) zero d inside = refl
 name-at_place (event ∷ events) (suc i) d inside = name-at_place events i d (omega arith)
 
--- the name of the event at an index
-pub name_at-is : (events : List Definition) (index : ℕ) (d : Definition) → index < length events → (get_or events index d).name ≡ name_at events index
-name_at-is [] index d inside = absurd (omega arith)
-name_at-is (event ∷ events) zero d inside = refl
-name_at-is (event ∷ events) (suc index) d inside = name_at-is events index d (omega arith)
-
--- an index of the catalog is one of the declared events
-inside-declared : (g : Config) (name : Option (List ℕ)) (past : List Request) (source : FileSource) (event : ℕ) → IsSource g name past source
-    → event < length source.catalog.now → event < length (declared_events past)
-inside-declared g name past source event is inside = rw (← is.events) inside
-
-name-declared : (g : Config) (name : Option (List ℕ)) (past : List Request) (source : FileSource) (event : ℕ) → IsSource g name past source
-    → event < length source.catalog.now → (get_or (declared_events past) event no_event).name ≡ name_at source.catalog.now event
-name-declared g name past source event is inside =
-    sym (name-at_place (declared_events past) event no_event (inside-declared g name past source event is inside))
-    ∙ ap (λ (events : List Definition). name_at events event) (sym is.events)
-
--- an event's switch
-pub enabled-at_place : (g : Config) (name : Option (List ℕ)) (past : List Request) (source : FileSource) (event : ℕ) → IsSource g name past source
-    → event < length source.catalog.now
-    → get_or source.instance.now.enabled event false ≡ is_enabled name (name_at source.catalog.now event) past
-enabled-at_place g name past source event is inside =
-    ap (λ (flags : List Bool). get_or flags event false) is.instance.enabled
-    ∙ get_or-map (λ (e : Definition). is_enabled name e.name past) (declared_events past) event no_event false
-    (inside-declared g name past source event is inside)
-    ∙ ap (λ (n : List ℕ). is_enabled name n past) (name-declared g name past source event is inside)
-
 -- the text of a kept filter is that of the filter as it was written
 shown-filter : (event : Definition) (filter : Option (List ℕ)) → shown_filter (option_map (parsed_of event) filter) ≡ filter_text filter
 unfolding shown_filter filter_text
 shown-filter event None = refl
 shown-filter event (Some text) = refl
-
--- an event's filter
-pub filter-at_place : (g : Config) (name : Option (List ℕ)) (past : List Request) (source : FileSource) (event : ℕ) → IsSource g name past source
-    → event < length source.catalog.now
-    → shown_filter (get_or source.instance.now.filters event None) ≡ filter_text (filter_of name (name_at source.catalog.now event) past)
-filter-at_place g name past source event is inside =
-    rw is.instance.filters
-    (ap shown_filter (get_or-map (kept_filter name past) (declared_events past) event no_event None
-    (inside-declared g name past source event is inside))
-    ∙ shown-filter at_place (filter_of name at_place.name past)
-    ∙ ap (λ (n : List ℕ). filter_text (filter_of name n past)) (name-declared g name past source event is inside))
-  where
-    at_place : Definition
-    at_place = get_or (declared_events past) event no_event
-
--- an event's format
-pub format-at_place : (g : Config) (name : Option (List ℕ)) (past : List Request) (source : FileSource) (event : ℕ) (d : Definition)
-    → IsSource g name past source → event < length source.catalog.now
-    → format_text (event + 1) (get_or source.catalog.now event d) ≡ format_of_event (event_named (name_at source.catalog.now event) past)
-format-at_place g name past source event d is inside =
-    let within = inside-declared g name past source event is inside in
-    let named = named_at (declared_events past) event d is.distinct within in
-    let called : name_at source.catalog.now event ≡ (get_or (declared_events past) event d).name =
-    ap (λ (events : List Definition). name_at events event) is.events ∙ name-at_place (declared_events past) event d within in
-    let next : event + 1 ≡ suc event = omega arith in
-    rw (called, named, next, is.events) refl
 
 -- ---- hist triggers
 
@@ -166,65 +110,84 @@ shown-in_order name past tables event (Some t) hists all =
     let newer = shown-hists name past tables (λ (a : AttachedHist). not (nat_lt a.number t.number)) hists all in
     λ i. older i ++ shown_trigger past event t ∷ newer i
 
--- an event's hist triggers
-kept-at_place : (g : Config) (name : Option (List ℕ)) (past : List Request) (source : FileSource) (event : ℕ) → IsSource g name past source
-    → event < length source.catalog.now
-    → get_or source.instance.now.hists event [] ≡ kept_hists name past (get_or (declared_events past) event no_event)
-kept-at_place g name past source event is inside =
-    ap (λ (hists : List (List AttachedHist)). get_or hists event []) is.instance.hists
-    ∙ get_or-map (kept_hists name past) (declared_events past) event no_event [] (inside-declared g name past source event is inside)
+-- ---- the event at an index of what is read
 
--- and their tables
-tables-at_place : (g : Config) (name : Option (List ℕ)) (past : List Request) (source : FileSource) (event : ℕ) → IsSource g name past source
-    → event < length source.catalog.now → event < length source.instance.now.hists
-    → All (TableStandsFor name past source.instance.now.tables) (kept_hists name past (get_or (declared_events past) event no_event))
-tables-at_place g name past source event is inside there =
-    subst (λ (attached : List AttachedHist). All (TableStandsFor name past source.instance.now.tables) attached)
-    (kept-at_place g name past source event is inside) (is.instance.tables event [] there)
+abbrev pub event_at : List Request → ℕ → Definition
+event_at past index = get_or (declared_events past) index no_event
 
--- an event's triggers
-pub triggers-at_place : (g : Config) (name : Option (List ℕ)) (past : List Request) (source : FileSource) (event : ℕ) → IsSource g name past source
-    → event < length source.catalog.now → event < length source.instance.now.hists
-    → trigger_text (kept_in_order source.instance.now.tables (get_or source.instance.now.triggers event None) (get_or source.instance.now.hists event []))
-    ≡ triggers_of_event name past (event_named (name_at source.catalog.now event) past)
-triggers-at_place g name past source event is inside there =
-    let within = inside-declared g name past source event is inside in
-    let named = named_at (declared_events past) event no_event is.distinct within in
-    let called : name_at source.catalog.now event ≡ at_place.name = sym (name-declared g name past source event is inside) in
-    let kept : get_or source.instance.now.triggers event None ≡ kept_trigger name past at_place =
-    ap (λ (ts : List (Option Trigger)). get_or ts event None) is.instance.triggers
-    ∙ get_or-map (kept_trigger name past) (declared_events past) event no_event None within in
-    let shown : trigger_text (kept_in_order tables (get_or source.instance.now.triggers event None) (get_or source.instance.now.hists event []))
-    ≡ trigger_text (in_order name past at_place (trigger_of name at_place past) (hists_of name at_place past)) =
-    (λ i. trigger_text (kept_in_order tables (kept i) (kept-at_place g name past source event is inside i)))
-    ∙ ap trigger_text (shown-in_order name past tables at_place (trigger_of name at_place past) (hists_of name at_place past)
-    (tables-at_place g name past source event is inside there)) in
-    shown ∙ sym (ap (λ (n : List ℕ). triggers_of_event name past (event_named n past)) called ∙ ap (triggers_of_event name past) named)
-  where
-    at_place : Definition
-    at_place = get_or (declared_events past) event no_event
+module _ (g : Config) (name : Option (List ℕ)) (past : List Request) (source : FileSource) (event : ℕ) (is : IsSource g name past source)
+    (inside : event < length source.catalog.now) where
+  declared : event < length (declared_events past)
+  declared = rw (← is.events) inside
 
-    tables : List Table
-    tables = source.instance.now.tables
+  called : (event_at past event).name ≡ name_at source.catalog.now event
+  called =
+      sym (name-at_place (declared_events past) event no_event declared) ∙ ap (λ (events : List Definition). name_at events event) (sym is.events)
 
--- and its histograms
-pub hists-at_place : (g : Config) (name : Option (List ℕ)) (past : List Request) (source : FileSource) (event : ℕ) → IsSource g name past source
-    → event < length source.catalog.now → event < length source.instance.now.hists
-    → hist_text (map (shown_attached source.instance.now.tables) (get_or source.instance.now.hists event []))
-    ≡ hists_of_event name past (event_named (name_at source.catalog.now event) past)
-hists-at_place g name past source event is inside there =
-    let within = inside-declared g name past source event is inside in
-    let named = named_at (declared_events past) event no_event is.distinct within in
-    let called : name_at source.catalog.now event ≡ at_place.name = sym (name-declared g name past source event is inside) in
-    ap (λ (attached : List AttachedHist). hist_text (map (shown_attached tables) attached)) (kept-at_place g name past source event is inside)
-    ∙ ap hist_text (all-hists name past tables (hists_of name at_place past) (tables-at_place g name past source event is inside there))
-    ∙ sym (ap (λ (n : List ℕ). hists_of_event name past (event_named n past)) called ∙ ap (hists_of_event name past) named)
-  where
-    at_place : Definition
-    at_place = get_or (declared_events past) event no_event
+  -- its switch
+  pub enabled-at_place : get_or source.instance.now.enabled event false ≡ is_enabled name (name_at source.catalog.now event) past
+  enabled-at_place =
+      ap (λ (flags : List Bool). get_or flags event false) is.instance.enabled
+      ∙ get_or-map (λ (e : Definition). is_enabled name e.name past) (declared_events past) event no_event false declared
+      ∙ ap (λ (n : List ℕ). is_enabled name n past) called
 
-    tables : List Table
-    tables = source.instance.now.tables
+  -- its filter
+  pub filter-at_place : shown_filter (get_or source.instance.now.filters event None) ≡ filter_text (filter_of name (name_at source.catalog.now event) past)
+  filter-at_place =
+      rw is.instance.filters
+      (ap shown_filter (get_or-map (kept_filter name past) (declared_events past) event no_event None declared)
+      ∙ shown-filter (event_at past event) (filter_of name (event_at past event).name past)
+      ∙ ap (λ (n : List ℕ). filter_text (filter_of name n past)) called)
+
+  -- its format
+  pub format-at_place : (d : Definition)
+      → format_text (event + 1) (get_or source.catalog.now event d) ≡ format_of_event (event_named (name_at source.catalog.now event) past)
+  format-at_place d =
+      let found = named_at (declared_events past) event d is.distinct declared in
+      let own : name_at source.catalog.now event ≡ (get_or (declared_events past) event d).name =
+      ap (λ (events : List Definition). name_at events event) is.events ∙ name-at_place (declared_events past) event d declared in
+      let next : event + 1 ≡ suc event = omega arith in
+      rw (own, found, next, is.events) refl
+
+  -- its hist triggers
+  kept-at_place : get_or source.instance.now.hists event [] ≡ kept_hists name past (event_at past event)
+  kept-at_place =
+      ap (λ (hists : List (List AttachedHist)). get_or hists event []) is.instance.hists
+      ∙ get_or-map (kept_hists name past) (declared_events past) event no_event [] declared
+
+  -- and their tables
+  tables-at_place : event < length source.instance.now.hists
+      → All (TableStandsFor name past source.instance.now.tables) (kept_hists name past (event_at past event))
+  tables-at_place there =
+      subst (λ (attached : List AttachedHist). All (TableStandsFor name past source.instance.now.tables) attached) kept-at_place
+      (is.instance.tables event [] there)
+
+  -- its triggers
+  pub triggers-at_place : event < length source.instance.now.hists
+      → trigger_text (kept_in_order source.instance.now.tables (get_or source.instance.now.triggers event None) (get_or source.instance.now.hists event []))
+      ≡ triggers_of_event name past (event_named (name_at source.catalog.now event) past)
+  triggers-at_place there =
+      let at_place = event_at past event in
+      let tables = source.instance.now.tables in
+      let found = named_at (declared_events past) event no_event is.distinct declared in
+      let kept : get_or source.instance.now.triggers event None ≡ kept_trigger name past at_place =
+      ap (λ (ts : List (Option Trigger)). get_or ts event None) is.instance.triggers
+      ∙ get_or-map (kept_trigger name past) (declared_events past) event no_event None declared in
+      (λ i. trigger_text (kept_in_order tables (kept i) (kept-at_place i)))
+      ∙ ap trigger_text (shown-in_order name past tables at_place (trigger_of name at_place past) (hists_of name at_place past) (tables-at_place there))
+      ∙ sym (ap (λ (n : List ℕ). triggers_of_event name past (event_named n past)) (sym called) ∙ ap (triggers_of_event name past) found)
+
+  -- and its histograms
+  pub hists-at_place : event < length source.instance.now.hists
+      → hist_text (map (shown_attached source.instance.now.tables) (get_or source.instance.now.hists event []))
+      ≡ hists_of_event name past (event_named (name_at source.catalog.now event) past)
+  hists-at_place there =
+      let at_place = event_at past event in
+      let tables = source.instance.now.tables in
+      let found = named_at (declared_events past) event no_event is.distinct declared in
+      ap (λ (attached : List AttachedHist). hist_text (map (shown_attached tables) attached)) kept-at_place
+      ∙ ap hist_text (all-hists name past tables (hists_of name at_place past) (tables-at_place there))
+      ∙ sym (ap (λ (n : List ℕ). hists_of_event name past (event_named n past)) (sym called) ∙ ap (hists_of_event name past) found)
 
 -- the spare, if there is one, has the shape that the configuration says
 pub spare-shape : (g : Config) (spare : Option Seen) → IfSome spare (HasShape g) → SpareHasShape g.pages g.page_bytes spare

@@ -40,20 +40,14 @@ filter-late text event early = by (clears_filter text) (answer_of event text) re
     by : (off : Bool) (answered : Result Parsed FilterFault) → clears_filter text ≡ off → answer_of event text ≡ answered → ⊥
     by true answered off is = rw off at early
     by false (Ok kept) off is = rw (off, is) at early
-    by false (Err filter_fault.TooMany) off is = absurd (let h = rw (off, is) at early in cc)
-    by false (Err (filter_fault.FilterSyntax at)) off is = absurd (let h = rw (off, is) at early in cc)
-    by false (Err (filter_fault.NoSuchField at)) off is = absurd (let h = rw (off, is) at early in cc)
-    by false (Err (filter_fault.WrongOperator at)) off is = absurd (let h = rw (off, is) at early in cc)
     by false (Err filter_fault.Memory) off is = absurd (let h = rw (off, is) at early in cc)
+    by false (Err fault) off is = absurd (let h = rw (off, is) at early in cc)
 
 pub filter-refuses : (text : List ℕ) (event : Definition) (fault : FilterFault) → clears_filter text ≡ false → IsAnswered (Err fault) (answer_of event text)
     → IsWrittenFilter text event (Err (refusal_of_filter fault))
 unfolding filter_answer
-filter-refuses text event filter_fault.TooMany on is = (λ other. rw (on, is) refl, λ early. rw (on, is) refl)
-filter-refuses text event (filter_fault.FilterSyntax at) on is = (λ other. rw (on, is) refl, λ early. rw (on, is) refl)
-filter-refuses text event (filter_fault.NoSuchField at) on is = (λ other. rw (on, is) refl, λ early. rw (on, is) refl)
-filter-refuses text event (filter_fault.WrongOperator at) on is = (λ other. rw (on, is) refl, λ early. rw (on, is) refl)
 filter-refuses text event filter_fault.Memory on is = (λ other. absurd (other refl), λ early. absurd (filter-late text event early))
+filter-refuses text event fault on is = (λ other. rw (on, is) refl, λ early. rw (on, is) refl)
 
 -- ---- a filter of all events
 
@@ -71,11 +65,8 @@ change-takes text event kept is answered = rw (takes text event kept answered) (
 
 pub change-keeps : (text : List ℕ) (event : Definition) (fault : FilterFault) → IsAnswered (Err fault) (answer_of event text)
     → fault ≢ filter_fault.Memory → change.Keep ≡ change_of text event
-change-keeps text event filter_fault.TooMany is other = rw (takes_not text event filter_fault.TooMany is) refl
-change-keeps text event (filter_fault.FilterSyntax at) is other = rw (takes_not text event (filter_fault.FilterSyntax at) is) refl
-change-keeps text event (filter_fault.NoSuchField at) is other = rw (takes_not text event (filter_fault.NoSuchField at) is) refl
-change-keeps text event (filter_fault.WrongOperator at) is other = rw (takes_not text event (filter_fault.WrongOperator at) is) refl
 change-keeps text event filter_fault.Memory is other = absurd (other refl)
+change-keeps text event fault is other = rw (takes_not text event fault is) refl
 
 -- an event gets a filter exactly where it can take it
 set-can : (text : List ℕ) (event : Definition) → is_set (change_of text event) ≡ can_take text event

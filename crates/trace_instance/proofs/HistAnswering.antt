@@ -31,7 +31,8 @@ use Rattle.trace_instance.proofs.Attached.{IsNamed, all-are, all_left, hists-ask
 use Rattle.trace_history.proofs.NamedTables.{fit-fewer}
 use Rattle.trace_instance.proofs.FittingTables.{fit-tables, left-fit}
 use Rattle.trace_instance.proofs.OneSays.{one-removed, some-position, without_same}
-use Rattle.trace_instance.proofs.Answering.{answered, count-left, fit-stays, has-same, has-same_left, only-left, refused, room-full, room-had, same_left}
+use Rattle.trace_instance.proofs.Snapshotting.{refused}
+use Rattle.trace_instance.proofs.Answering.{answered, count-left, fit-stays, has-same, has-same_left, only-left, room-full, room-had, same_left}
 
 -- ---- what is asked of one that is attached
 
@@ -60,9 +61,7 @@ ask-refused spec event kept written same attach = λ name past number are is.
 
 asked-done : (asked : Action) → (asked ≡ action.Attach → ⊥) → asked_answer asked ≡ Ok Done
 asked-done action.Attach other = absurd (other refl)
-asked-done action.Pause other = refl
-asked-done action.Continue other = refl
-asked-done action.Clear other = refl
+asked-done asked other = refl
 
 -- where one of the event says the same, all are left as they are
 said-same : (name : Option (List ℕ)) (past : List Request) (event : Definition) (append : Bool) (spec : SpecSeen)
@@ -90,12 +89,12 @@ ask-done spec event kept written index d found other = λ name past number are i
       ask-answer spec kept written true event name past same are is ∙ asked-done spec.action other,
       record {
         snapshot = snapshot-stays name past event written.append written.text.now (Ok (said.Hist spec)) is refl;
-        hists = hists-asked name past event are.id written.append written.text.now spec are.named is there;
+        hists = hists-asked name past event are.id written.append written.text.now are.named spec is there;
         possible = tt;
         tables = λ table. subst
             (λ (hists : List AttachedHist). IsAskedOf name past (text_request name event written.append written.text.now)
             (if (get_or hists index d).table == table then Some spec.action else None) table)
-            now (tables-asked name past event are.id written.append written.text.now spec index d table are.named is there only);
+            now (tables-asked name past event are.id written.append written.text.now are.named spec index d table is there only);
         joined = tt;
         fitting = fit-stays name past event are.id written.append written.text.now (Ok (said.Hist spec)) are.named is
             (said-same name past event written.append spec there);
@@ -118,9 +117,7 @@ ask-again spec event kept written index d found = by spec.action refl
 
     by : (a : Action) → spec.action ≡ a → IsAsked spec event kept written (asked_change table a)
     by action.Attach is = ask-refused spec event kept written (ap is_some found) is
-    by action.Pause is = done action.Pause is (λ other. absurd (cc))
-    by action.Continue is = done action.Continue is (λ other. absurd (cc))
-    by action.Clear is = done action.Clear is (λ other. absurd (cc))
+    by a is = done a is (λ other. absurd (cc))
 
 -- ---- where none says the same
 
@@ -128,15 +125,13 @@ new-lacks : (attached : Option triggers.Trigger) (hists : List HistTrigger) (fit
     → new_hist_answer attached hists fits asked ≡ Err refusal.NoSuchTrigger
 new-lacks attached hists fits action.Attach lacking = absurd (cc)
 new-lacks attached hists fits action.Pause lacking = absurd (cc)
-new-lacks attached hists fits action.Continue lacking = refl
-new-lacks attached hists fits action.Clear lacking = refl
+new-lacks attached hists fits asked lacking = refl
 
 new-attaches : (attached : Option triggers.Trigger) (hists : List HistTrigger) (fits : Bool) (asked : Action) → attaches asked ≡ true
     → new_hist_answer attached hists fits asked ≡ fitting_answer fits (room_answer attached hists)
 new-attaches attached hists fits action.Attach attaching = refl
 new-attaches attached hists fits action.Pause attaching = refl
-new-attaches attached hists fits action.Continue attaching = absurd (cc)
-new-attaches attached hists fits action.Clear attaching = absurd (cc)
+new-attaches attached hists fits asked attaching = absurd (cc)
 
 pub ask-lacks : (spec : SpecSeen) (event : Definition) (kept : EventTriggers) (written : WrittenText) → same_left spec kept written.append ≡ None
     → attaches spec.action ≡ false → IsAsked spec event kept written (Err refusal.NoSuchTrigger)
@@ -202,7 +197,7 @@ fit-removed : (name : Option (List ℕ)) (past : List Request) (event : Definiti
 fit-removed name past event id append text spec named is fit =
     let request = text_request name event append text in
     let left = all_left name past event append in
-    let fewer = all-are name past event id append text (Ok (said.RemoveHist spec)) named is in
+    let fewer = all-are name past event id append text named (Ok (said.RemoveHist spec)) is in
     fit-tables name (request ∷ past)
     (fit-fewer (hist_triggers name (request ∷ past)) left
     (λ t there. (in-filter t (λ (u : HistTrigger). not (is_of event u && says_same_as spec u)) left (subst (IsIn t) fewer there)).0)
@@ -218,10 +213,10 @@ remove-done spec kept written index appends found = λ event name past number ar
       removed-answer true true event kept written spec name past appends same are is,
       record {
         snapshot = snapshot-stays name past event written.append written.text.now (Ok (said.RemoveHist spec)) is refl;
-        hists = hists-removed name past event are.id written.append written.text.now spec are.named is
+        hists = hists-removed name past event are.id written.append written.text.now are.named spec is
             ∙ one-removed spec (if written.append then kept_hists name past event else []) index only;
         possible = only.inside;
-        tables = λ table. tables-stay name past event are.id written.append written.text.now (Ok (said.RemoveHist spec)) table are.named is refl;
+        tables = λ table. tables-stay name past event are.id written.append written.text.now are.named (Ok (said.RemoveHist spec)) table is refl;
         joined = tt;
         fitting = fit-removed name past event are.id written.append written.text.now spec are.named is;
         spare = rw is refl;
@@ -247,9 +242,9 @@ remove-keeps spec kept written anew = λ event name past number are is. (
   removed-answer false (list_any (says_same spec) kept.own.now.hists) event kept written spec name past anew refl are is,
   record {
     snapshot = snapshot-stays name past event written.append written.text.now (Ok (said.RemoveHist spec)) is refl;
-    hists = hists-removed name past event are.id written.append written.text.now spec are.named is ∙ none-left spec written.append (kept_hists name past event) anew;
+    hists = hists-removed name past event are.id written.append written.text.now are.named spec is ∙ none-left spec written.append (kept_hists name past event) anew;
     possible = tt;
-    tables = λ table. tables-stay name past event are.id written.append written.text.now (Ok (said.RemoveHist spec)) table are.named is refl;
+    tables = λ table. tables-stay name past event are.id written.append written.text.now are.named (Ok (said.RemoveHist spec)) table is refl;
     joined = tt;
     fitting = fit-removed name past event are.id written.append written.text.now spec are.named is;
     spare = rw is refl;

@@ -28,14 +28,15 @@ use Rattle.trace_instance.specs.KeptHists.{attached_as, kept_hists}
 use Rattle.trace_instance.specs.declared.attach.EventTriggers.{EventTriggers}
 use Rattle.trace_instance.specs.declared.change.NewHist.{NewHist}
 use Rattle.trace_instance.specs.declared.change.TriggerChange.{TriggerChange}
-use Rattle.trace_instance.specs.declared.change.TriggerChange.TheVariants.{Keep, Attach, Detach, AttachHist, MakeHist, DetachHist, AskTable}
+use Rattle.trace_instance.specs.declared.change.TriggerChange.TheVariants.{AttachHist, MakeHist}
 use Rattle.trace_instance.specs.declared.hists.AttachedHist.{AttachedHist}
 use Rattle.trace_instance.specs.declared.write.WrittenText.{WrittenText}
 use Rattle.trace_instance.proofs.Attached.{IsNamed, all-are, all_left, hists-attached, new_of, own_left, snapshot-stays, tables-attached, text_request}
 use Rattle.trace_instance.proofs.FittingTables.{fit-tables, left-fit, left-there}
 use Rattle.trace_instance.proofs.Named.{book-alike, book-there, book_left, found-as}
-use Rattle.trace_instance.proofs.Answering.{done-late, has-same_left, refused, same_left}
+use Rattle.trace_instance.proofs.Answering.{done-late, has-same_left, same_left}
 use Rattle.trace_instance.proofs.HistAnswering.{few-left, fit-answer, fits_named}
+use Rattle.trace_instance.proofs.Snapshotting.{refused}
 
 -- ---- one that is attached
 
@@ -54,7 +55,7 @@ fit-attached : (name : Option (List ℕ)) (past : List Request) (event : Definit
 fit-attached name past event id append text spec named is none fits fit =
     let request = text_request name event append text in
     let left = all_left name past event append in
-    let more = all-are name past event id append text (Ok (said.Hist spec)) named is ∙ said-new name past event append spec none in
+    let more = all-are name past event id append text named (Ok (said.Hist spec)) is ∙ said-new name past event append spec none in
     fit-tables name (request ∷ past)
     (fit-fewer (hist_triggers name (request ∷ past)) (left ++ new_of name past event append spec ∷ []) (λ t there. subst (IsIn t) more there)
     (fit-new (length past) event left spec (left-old name past event append) (left-fit name past event append fit) fits))
@@ -67,15 +68,6 @@ pub attached-as : (name : Option (List ℕ)) (past : List Request) (event : Defi
     → length past ≡ number → table_or (length past) (named_by spec (all_left name past event append)) ≡ table
     → attached_as (new_of name past event append spec) ≡ new_as number table spec
 attached-as name past event append spec number table one other = λ i. record { number = one i; table = other i; spec = spec }
-
-tables-as : (name : Option (List ℕ)) (past : List Request) (event : Definition) (kept : EventTriggers) (written : WrittenText) (spec : SpecSeen) (table number : ℕ)
-    → AreKept name past event kept → said_of event written.text.now ≡ Ok (said.Hist spec)
-    → has_same spec (own_left name past event written.append) ≡ false
-    → table_or (length past) (named_by spec (all_left name past event written.append)) ≡ table
-    → IsAskedOf name past (text_request name event written.append written.text.now) (if table == number then Some spec.action else None) number
-tables-as name past event kept written spec table number are is none at =
-    subst (λ (k : ℕ). IsAskedOf name past (text_request name event written.append written.text.now) (if k == number then Some spec.action else None) number) at
-    (tables-attached name past event are.id written.append written.text.now spec number are.named is none)
 
 -- the one whose table a text names is one of the instance
 record IsNamedThere (name : Option (List ℕ)) (past : List Request) (kept : EventTriggers) (append : Bool) (spec : SpecSeen) (other : AttachedHist) : Type 0 where
@@ -108,145 +100,140 @@ none-there name past event kept append spec are lost =
     by None is = refl
     by (Some t) is = absurd (cc)
 
--- it counts in a table that is there
-join-done : (spec : SpecSeen) (event : Definition) (kept : EventTriggers) (written : WrittenText) (other : AttachedHist) (attached : Box AttachedHist)
-    → same_left spec kept written.append ≡ None → attaches spec.action ≡ true → kept_count kept written.append < 4
-    → named_in spec (left_of kept written.append) ≡ Some other → is_fitting spec other.spec ≡ true
-    → attached.value ≡ new_as written.number other.table spec → IsAsked spec event kept written (Ok (AttachHist attached))
-join-done spec event kept written other attached none attaching few found fits same = λ name past number are is.
-    let lacks : has_same spec (own_left name past event written.append) ≡ false = has-same_left name past event kept spec written.append are ∙ ap is_some none in
-    let joined = named-there name past event kept written.append spec other are found in
-    let alike = book-alike name past event kept written.append spec are in
-    let table : table_or (length past) (named_by spec (all_left name past event written.append)) ≡ other.table =
-    sym alike.table ∙ ap (table_or (length past)) joined.found ∙ ap (λ (a : AttachedHist). a.table) joined.seen in
-    let here : is_fitting spec joined.t.spec ≡ true = ap (λ (a : AttachedHist). is_fitting spec a.spec) joined.seen ∙ fits in
-    let fitting : fits_named name past event written.append spec ≡ true = sym alike.fits ∙ ap (fits_that spec) joined.found ∙ here in
-    let before : List AttachedHist = if written.append then kept_hists name past event else [] in (
-      fit-answer spec kept written event name past none attaching few are is ∙ ap (λ (b : Bool). fitting_answer b (Ok Done)) fitting,
-      record {
-        snapshot = snapshot-stays name past event written.append written.text.now (Ok (said.Hist spec)) is refl;
-        hists = hists-attached name past event are.id written.append written.text.now spec are.named is lacks
-            ∙ ap (λ (a : AttachedHist). before ++ a ∷ [])
-            (attached-as name past event written.append spec written.number other.table number table ∙ sym same);
-        possible = few-left name past event kept written.append are few;
-        tables = λ k. subst
-            (λ (a : AttachedHist). IsAskedOf name past (text_request name event written.append written.text.now)
-            (if a.table == k then Some a.spec.action else None) k)
-            (sym same) (tables-as name past event kept written spec other.table k are is lacks table);
-        joined = subst (Joins name past) (sym same) (record {
-          t = joined.t;
-          there = in-contains joined.t (hist_triggers name past) joined.there;
-          table = ap (λ (a : AttachedHist). a.table) joined.seen;
-          alike = said-alike name past event written.text.now spec joined.t (in-contains joined.t (hist_triggers name past) joined.there) is here;
-        });
-        fitting = fit-attached name past event are.id written.append written.text.now spec are.named is lacks fitting;
-        spare = rw is refl;
-      },
-    )
+-- ---- a text for which there is room
 
--- there is no memory for it
-join-memory : (spec : SpecSeen) (event : Definition) (kept : EventTriggers) (written : WrittenText) (other : AttachedHist)
-    → same_left spec kept written.append ≡ None → attaches spec.action ≡ true → kept_count kept written.append < 4
-    → named_in spec (left_of kept written.append) ≡ Some other → is_fitting spec other.spec ≡ true
-    → IsAsked spec event kept written (Err refusal.Memory)
-join-memory spec event kept written other none attaching few found fits = λ name past number are is.
-    let joined = named-there name past event kept written.append spec other are found in
-    let alike = book-alike name past event kept written.append spec are in
-    let here : is_fitting spec joined.t.spec ≡ true = ap (λ (a : AttachedHist). is_fitting spec a.spec) joined.seen ∙ fits in
-    let fitting : fits_named name past event written.append spec ≡ true = sym alike.fits ∙ ap (fits_that spec) joined.found ∙ here in
-    done-late (trigger_answer name past written.append written.text.now event)
-    (fit-answer spec kept written event name past none attaching few are is ∙ ap (λ (b : Bool). fitting_answer b (Ok Done)) fitting)
+module _ (spec : SpecSeen) (event : Definition) (kept : EventTriggers) (written : WrittenText) (none : same_left spec kept written.append ≡ None)
+    (attaching : attaches spec.action ≡ true) (few : kept_count kept written.append < 4) where
+  module _ (name : Option (List ℕ)) (past : List Request) (number : length past ≡ written.number) (are : AreKept name past event kept)
+      (is : said_of event written.text.now ≡ Ok (said.Hist spec)) where
+    abbrev request : Request
+    request = text_request name event written.append written.text.now
 
--- a text that does not fit the table that it names
-join-refused : (spec : SpecSeen) (event : Definition) (kept : EventTriggers) (written : WrittenText) (other : AttachedHist)
-    → same_left spec kept written.append ≡ None → attaches spec.action ≡ true → kept_count kept written.append < 4
-    → named_in spec (left_of kept written.append) ≡ Some other → is_fitting spec other.spec ≡ false
-    → IsAsked spec event kept written (Err refusal.TriggerExists)
-join-refused spec event kept written other none attaching few found fits = λ name past number are is.
-    let joined = named-there name past event kept written.append spec other are found in
-    let alike = book-alike name past event kept written.append spec are in
-    let here : is_fitting spec joined.t.spec ≡ false = ap (λ (a : AttachedHist). is_fitting spec a.spec) joined.seen ∙ fits in
-    let fitting : fits_named name past event written.append spec ≡ false = sym alike.fits ∙ ap (fits_that spec) joined.found ∙ here in
-    refused refusal.TriggerExists (trigger_answer name past written.append written.text.now event)
-    (fit-answer spec kept written event name past none attaching few are is ∙ ap (λ (b : Bool). fitting_answer b (Ok Done)) fitting)
+    lacks : has_same spec (own_left name past event written.append) ≡ false
+    lacks = has-same_left name past event kept spec written.append are ∙ ap is_some none
 
-pub ask-joined : (spec : SpecSeen) (event : Definition) (kept : EventTriggers) (written : WrittenText) (other : AttachedHist)
-    (result : Result TriggerChange Refusal)
-    → same_left spec kept written.append ≡ None → attaches spec.action ≡ true → kept_count kept written.append < 4
-    → named_in spec (left_of kept written.append) ≡ Some other → IsJoinedChange written.number spec other result
-    → IsAsked spec event kept written result
-ask-joined spec event kept written other (Ok (AttachHist attached)) none attaching few found is =
-    join-done spec event kept written other attached none attaching few found is.0 is.1
-ask-joined spec event kept written other (Ok Keep) none attaching few found is = absurd is
-ask-joined spec event kept written other (Ok (Attach trigger)) none attaching few found is = absurd is
-ask-joined spec event kept written other (Ok Detach) none attaching few found is = absurd is
-ask-joined spec event kept written other (Ok (MakeHist made)) none attaching few found is = absurd is
-ask-joined spec event kept written other (Ok (DetachHist at)) none attaching few found is = absurd is
-ask-joined spec event kept written other (Ok (AskTable table asked)) none attaching few found is = absurd is
-ask-joined spec event kept written other (Err refused) none attaching few found is =
-    subst (λ (r : Refusal). IsAsked spec event kept written (Err r)) (sym is) (by (is_fitting spec other.spec) refl)
-  where
-    by : (fits : Bool) → is_fitting spec other.spec ≡ fits
-        → IsAsked spec event kept written (Err (if fits then refusal.Memory else refusal.TriggerExists))
-    by true fits = join-memory spec event kept written other none attaching few found fits
-    by false fits = join-refused spec event kept written other none attaching few found fits
+    -- it is answered by whether it fits the table that it names
+    fitting-answer : (fits : Bool) → fits_named name past event written.append spec ≡ fits
+        → trigger_answer name past written.append written.text.now event ≡ fitting_answer fits (Ok Done)
+    fitting-answer fits at = fit-answer spec kept written event name past none attaching few are is ∙ ap (λ (b : Bool). fitting_answer b (Ok Done)) at
 
--- a table is made with it
-make-done : (spec : SpecSeen) (event : Definition) (kept : EventTriggers) (written : WrittenText) (made : Box NewHist)
-    → same_left spec kept written.append ≡ None → attaches spec.action ≡ true → kept_count kept written.append < 4
-    → named_in spec (left_of kept written.append) ≡ None
-    → made.value.attached ≡ new_as written.number written.number spec → made.value.hist.spec ≡ spec → StandsFor made.value.hist []
-    → made.value.hist.paused ≡ is_pause spec.action → IsAsked spec event kept written (Ok (MakeHist made))
-make-done spec event kept written made none attaching few lost same says empty paused = λ name past number are is.
-    let lacks : has_same spec (own_left name past event written.append) ≡ false = has-same_left name past event kept spec written.append are ∙ ap is_some none in
-    let alike = book-alike name past event kept written.append spec are in
-    let nothing = none-there name past event kept written.append spec are lost in
-    let table : table_or (length past) (named_by spec (all_left name past event written.append)) ≡ written.number =
-    sym alike.table ∙ ap (table_or (length past)) nothing ∙ number in
-    let fitting : fits_named name past event written.append spec ≡ true = sym alike.fits ∙ ap (fits_that spec) nothing in
-    let before : List AttachedHist = if written.append then kept_hists name past event else [] in (
-      fit-answer spec kept written event name past none attaching few are is ∙ ap (λ (b : Bool). fitting_answer b (Ok Done)) fitting,
-      record {
-        snapshot = snapshot-stays name past event written.append written.text.now (Ok (said.Hist spec)) is refl;
-        hists = hists-attached name past event are.id written.append written.text.now spec are.named is lacks
-            ∙ ap (λ (a : AttachedHist). before ++ a ∷ []) (attached-as name past event written.append spec written.number written.number number table ∙ sym same);
-        possible = few-left name past event kept written.append are few;
-        tables = λ k. subst
-            (λ (a : AttachedHist). IsAskedOf name past (text_request name event written.append written.text.now)
-            (if a.table == k then Some a.spec.action else None) k)
-            (sym same) (tables-as name past event kept written spec written.number k are is lacks table);
-        joined = record {
-          table = ap (λ (a : AttachedHist). a.table) same ∙ sym number;
-          spec = says ∙ sym (ap (λ (a : AttachedHist). a.spec) same);
-          empty = empty;
-          paused = paused ∙ sym (ap (λ (a : AttachedHist). is_pause a.spec.action) same);
-        };
-        fitting = fit-attached name past event are.id written.append written.text.now spec are.named is lacks fitting;
-        spare = rw is refl;
-      },
-    )
+    -- the trigger that is attached, which counts in this table
+    hists-now : (a : AttachedHist) (table : ℕ) → a ≡ new_as written.number table spec
+        → table_or (length past) (named_by spec (all_left name past event written.append)) ≡ table
+        → kept_hists name (request ∷ past) event ≡ (if written.append then kept_hists name past event else []) ++ a ∷ []
+    hists-now a table same at =
+        hists-attached name past event are.id written.append written.text.now are.named spec is lacks
+        ∙ ap (λ (b : AttachedHist). (if written.append then kept_hists name past event else []) ++ b ∷ [])
+        (attached-as name past event written.append spec written.number table number at ∙ sym same)
 
--- there is no memory for it
-make-memory : (spec : SpecSeen) (event : Definition) (kept : EventTriggers) (written : WrittenText)
-    → same_left spec kept written.append ≡ None → attaches spec.action ≡ true → kept_count kept written.append < 4
-    → named_in spec (left_of kept written.append) ≡ None → IsAsked spec event kept written (Err refusal.Memory)
-make-memory spec event kept written none attaching few lost = λ name past number are is.
-    let alike = book-alike name past event kept written.append spec are in
-    let nothing = none-there name past event kept written.append spec are lost in
-    let fitting : fits_named name past event written.append spec ≡ true = sym alike.fits ∙ ap (fits_that spec) nothing in
-    done-late (trigger_answer name past written.append written.text.now event)
-    (fit-answer spec kept written event name past none attaching few are is ∙ ap (λ (b : Bool). fitting_answer b (Ok Done)) fitting)
+    asked-now : (a : AttachedHist) (table : ℕ) → a ≡ new_as written.number table spec
+        → table_or (length past) (named_by spec (all_left name past event written.append)) ≡ table
+        → (k : ℕ) → IsAskedOf name past request (if a.table == k then Some a.spec.action else None) k
+    asked-now a table same at k =
+        subst (λ (b : AttachedHist). IsAskedOf name past request (if b.table == k then Some b.spec.action else None) k) (sym same)
+        (subst (λ (n : ℕ). IsAskedOf name past request (if n == k then Some spec.action else None) k) at
+        (tables-attached name past event are.id written.append written.text.now are.named spec k is lacks))
 
-pub ask-made : (spec : SpecSeen) (event : Definition) (kept : EventTriggers) (written : WrittenText) (result : Result TriggerChange Refusal)
-    → same_left spec kept written.append ≡ None → attaches spec.action ≡ true → kept_count kept written.append < 4
-    → named_in spec (left_of kept written.append) ≡ None → IsMadeChange written.number spec result → IsAsked spec event kept written result
-ask-made spec event kept written (Ok (MakeHist made)) none attaching few lost is =
-    make-done spec event kept written made none attaching few lost is.0 is.1 is.2 is.3
-ask-made spec event kept written (Ok Keep) none attaching few lost is = absurd is
-ask-made spec event kept written (Ok (Attach trigger)) none attaching few lost is = absurd is
-ask-made spec event kept written (Ok Detach) none attaching few lost is = absurd is
-ask-made spec event kept written (Ok (AttachHist attached)) none attaching few lost is = absurd is
-ask-made spec event kept written (Ok (DetachHist at)) none attaching few lost is = absurd is
-ask-made spec event kept written (Ok (AskTable table asked)) none attaching few lost is = absurd is
-ask-made spec event kept written (Err refused) none attaching few lost is =
-    subst (λ (r : Refusal). IsAsked spec event kept written (Err r)) (sym is) (make-memory spec event kept written none attaching few lost)
+  -- ---- one that names the table of another trigger
+
+  module _ (other : AttachedHist) (found : named_in spec (left_of kept written.append) ≡ Some other) where
+    joined-fits : (name : Option (List ℕ)) (past : List Request) → AreKept name past event kept → (fits : Bool) → is_fitting spec other.spec ≡ fits
+        → fits_named name past event written.append spec ≡ fits
+    joined-fits name past are fits at =
+        let joined = named-there name past event kept written.append spec other are found in
+        let here : is_fitting spec joined.t.spec ≡ fits = ap (λ (a : AttachedHist). is_fitting spec a.spec) joined.seen ∙ at in
+        sym (book-alike name past event kept written.append spec are).fits ∙ ap (fits_that spec) joined.found ∙ here
+
+    -- it counts in that table
+    join-done : (attached : Box AttachedHist) → is_fitting spec other.spec ≡ true → attached.value ≡ new_as written.number other.table spec
+        → IsAsked spec event kept written (Ok (AttachHist attached))
+    join-done attached fits same = λ name past number are is.
+        let joined = named-there name past event kept written.append spec other are found in
+        let table : table_or (length past) (named_by spec (all_left name past event written.append)) ≡ other.table =
+        sym (book-alike name past event kept written.append spec are).table ∙ ap (table_or (length past)) joined.found
+        ∙ ap (λ (a : AttachedHist). a.table) joined.seen in
+        let here : is_fitting spec joined.t.spec ≡ true = ap (λ (a : AttachedHist). is_fitting spec a.spec) joined.seen ∙ fits in
+        let there = in-contains joined.t (hist_triggers name past) joined.there in
+        let fitting = joined-fits name past are true fits in (
+          fitting-answer name past number are is true fitting,
+          record {
+            snapshot = snapshot-stays name past event written.append written.text.now (Ok (said.Hist spec)) is refl;
+            hists = hists-now name past number are is attached.value other.table same table;
+            possible = few-left name past event kept written.append are few;
+            tables = asked-now name past number are is attached.value other.table same table;
+            joined = subst (Joins name past) (sym same) (record {
+              t = joined.t;
+              there = there;
+              table = ap (λ (a : AttachedHist). a.table) joined.seen;
+              alike = said-alike name past event written.text.now spec joined.t there is here;
+            });
+            fitting = fit-attached name past event are.id written.append written.text.now spec are.named is (lacks name past number are is) fitting;
+            spare = rw is refl;
+          },
+        )
+
+    -- there is no memory for it
+    join-memory : is_fitting spec other.spec ≡ true → IsAsked spec event kept written (Err refusal.Memory)
+    join-memory fits = λ name past number are is.
+        done-late (trigger_answer name past written.append written.text.now event)
+        (fitting-answer name past number are is true (joined-fits name past are true fits))
+
+    -- it does not fit that table
+    join-refused : is_fitting spec other.spec ≡ false → IsAsked spec event kept written (Err refusal.TriggerExists)
+    join-refused fits = λ name past number are is.
+        refused refusal.TriggerExists (trigger_answer name past written.append written.text.now event)
+        (fitting-answer name past number are is false (joined-fits name past are false fits))
+
+    pub ask-joined : (result : Result TriggerChange Refusal) → IsJoinedChange written.number spec other result → IsAsked spec event kept written result
+    ask-joined (Ok (AttachHist attached)) is = join-done attached is.0 is.1
+    ask-joined (Ok change) is = absurd is
+    ask-joined (Err refused) is = subst (λ (r : Refusal). IsAsked spec event kept written (Err r)) (sym is) (by (is_fitting spec other.spec) refl)
+      where
+        by : (fits : Bool) → is_fitting spec other.spec ≡ fits
+            → IsAsked spec event kept written (Err (if fits then refusal.Memory else refusal.TriggerExists))
+        by true fits = join-memory fits
+        by false fits = join-refused fits
+
+  -- ---- one that names none
+
+  module _ (lost : named_in spec (left_of kept written.append) ≡ None) where
+    made-fits : (name : Option (List ℕ)) (past : List Request) → AreKept name past event kept → fits_named name past event written.append spec ≡ true
+    made-fits name past are =
+        sym (book-alike name past event kept written.append spec are).fits
+        ∙ ap (fits_that spec) (none-there name past event kept written.append spec are lost)
+
+    -- a table is made with it
+    make-done : (made : Box NewHist) → made.value.attached ≡ new_as written.number written.number spec → made.value.hist.spec ≡ spec
+        → StandsFor made.value.hist [] → made.value.hist.paused ≡ is_pause spec.action → IsAsked spec event kept written (Ok (MakeHist made))
+    make-done made same says empty paused = λ name past number are is.
+        let table : table_or (length past) (named_by spec (all_left name past event written.append)) ≡ written.number =
+        sym (book-alike name past event kept written.append spec are).table
+        ∙ ap (table_or (length past)) (none-there name past event kept written.append spec are lost) ∙ number in
+        let fitting = made-fits name past are in (
+          fitting-answer name past number are is true fitting,
+          record {
+            snapshot = snapshot-stays name past event written.append written.text.now (Ok (said.Hist spec)) is refl;
+            hists = hists-now name past number are is made.value.attached written.number same table;
+            possible = few-left name past event kept written.append are few;
+            tables = asked-now name past number are is made.value.attached written.number same table;
+            joined = record {
+              table = ap (λ (a : AttachedHist). a.table) same ∙ sym number;
+              spec = says ∙ sym (ap (λ (a : AttachedHist). a.spec) same);
+              empty = empty;
+              paused = paused ∙ sym (ap (λ (a : AttachedHist). is_pause a.spec.action) same);
+            };
+            fitting = fit-attached name past event are.id written.append written.text.now spec are.named is (lacks name past number are is) fitting;
+            spare = rw is refl;
+          },
+        )
+
+    -- there is no memory for it
+    make-memory : IsAsked spec event kept written (Err refusal.Memory)
+    make-memory = λ name past number are is.
+        done-late (trigger_answer name past written.append written.text.now event)
+        (fitting-answer name past number are is true (made-fits name past are))
+
+    pub ask-made : (result : Result TriggerChange Refusal) → IsMadeChange written.number spec result → IsAsked spec event kept written result
+    ask-made (Ok (MakeHist made)) is = make-done made is.0 is.1 is.2 is.3
+    ask-made (Ok change) is = absurd is
+    ask-made (Err refused) is = subst (λ (r : Refusal). IsAsked spec event kept written (Err r)) (sym is) make-memory

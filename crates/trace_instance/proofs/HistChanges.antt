@@ -11,14 +11,14 @@ use Rattle.trace_hist.specs.Hists.{Seen}
 use Rattle.trace_snapshot.specs.Sides.{HasShapeOf, IsSpareOf, SideFamilies, SidesSeen, StandsFor, with_spare}
 use Rattle.trace_instance.specs.Changes.{IsApplied, hists_changed, sides_changed, table_changed, trigger_changed, triggers_after}
 use Rattle.trace_instance.specs.Instances.{InstanceSeen, IsAlike, IsShaped, WereOffered}
-use Rattle.trace_instance.specs.KeptHists.{AreHit, KeptTable, asked, asked_if, is_used, kept_at, kept_table, table_numbered}
+use Rattle.trace_instance.specs.KeptHists.{AreHit, KeptTable, asked, asked_if, is_used, kept_at, kept_table}
 use Rattle.trace_instance.specs.Deliveries.{IsOffered, row_of}
 use Rattle.trace_instance.specs.private.EventLists.{all_hists, all_triggers}
 use Rattle.trace_instance.specs.private.Tables.{AreSet}
 use Rattle.trace_instance.specs.declared.change.Delivery.{Delivery}
 use Rattle.trace_instance.specs.declared.change.InstanceChange.TheVariants.{Triggers}
 use Rattle.trace_instance.specs.declared.change.TriggerChange.{TriggerChange}
-use Rattle.trace_instance.specs.declared.change.TriggerChange.TheVariants.{AskTable, Attach, AttachHist, Detach, DetachHist, Keep, MakeHist}
+use Rattle.trace_instance.specs.declared.change.TriggerChange.TheVariants.{Attach, Detach}
 use Rattle.trace_instance.specs.declared.event.InstanceEvent.{InstanceEvent}
 use Rattle.trace_instance.specs.declared.hists.AttachedHist.{AttachedHist}
 use Rattle.trace_instance.specs.declared.instance.Instance.TheInside.{Inside}
@@ -96,11 +96,7 @@ triggers-changed events at append change one is = by change
     by : (c : TriggerChange) → all_triggers (set events at (event_changed append c one)) ≡ triggers_after (Triggers at append c) (all_triggers events)
     by (Attach new) = map-set (λ (e : InstanceEvent). e.trigger) events at (event_changed append (Attach new) one)
     by Detach = map-set (λ (e : InstanceEvent). e.trigger) events at (event_changed append Detach one)
-    by Keep = still (λ (e : InstanceEvent). e.trigger) events at one (event_changed append Keep one) is refl
-    by (AttachHist new) = still (λ (e : InstanceEvent). e.trigger) events at one (event_changed append (AttachHist new) one) is refl
-    by (MakeHist new) = still (λ (e : InstanceEvent). e.trigger) events at one (event_changed append (MakeHist new) one) is refl
-    by (DetachHist index) = still (λ (e : InstanceEvent). e.trigger) events at one (event_changed append (DetachHist index) one) is refl
-    by (AskTable table asked) = still (λ (e : InstanceEvent). e.trigger) events at one (event_changed append (AskTable table asked) one) is refl
+    by c = still (λ (e : InstanceEvent). e.trigger) events at one (event_changed append c one) is refl
 
 -- its hist triggers that a text leaves
 left-now : (append : Bool) (at : ℕ) (value : InstanceSeen) (old : Inside) (one : InstanceEvent) → view_of old ≡ value → at < length value.hists

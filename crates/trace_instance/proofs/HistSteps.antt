@@ -27,10 +27,6 @@ triggers-calm name past request is =
 
 -- ---- triggers
 
-pub kept-hists-calm : (name : Option (List ℕ)) (past : List Request) (request : Request) (event : Definition) → KeepsHists name past request
-    → kept_hists name (request ∷ past) event ≡ kept_hists name past event
-kept-hists-calm name past request event is = ap (λ (hists : List HistTrigger). map attached_as (those_of event hists)) (triggers-calm name past request is)
-
 pub all-hists-calm : (name : Option (List ℕ)) (past : List Request) (request : Request) (events : List Definition) → KeepsHists name past request
     → map (kept_hists name (request ∷ past)) events ≡ map (kept_hists name past) events
 all-hists-calm name past request events is =

@@ -17,14 +17,8 @@ use Rattle.trace_history.proofs.SaidHists.{snapshot-no_hist}
 
 -- a fault that is not out of memory becomes no such refusal
 pub other-fault : (faulty : TriggerFault) → faulty ≢ fault.Memory → refusal_of_trigger faulty ≢ Memory
-other-fault fault.BadText other is = cc
-other-fault fault.TooMany other is = cc
-other-fault (fault.FilterSyntax at) other is = cc
-other-fault (fault.NoSuchField at) other is = cc
-other-fault (fault.WrongOperator at) other is = cc
-other-fault (fault.HistSyntax at) other is = cc
-other-fault fault.BadSize other is = cc
 other-fault fault.Memory other is = other refl
+other-fault faulty other is = cc
 
 -- a string that says something of a hist trigger begins so
 pub hist-begins : (definition : Definition) (text : List ℕ) (spec : SpecSeen) → said_of definition text ≡ Ok (said.Hist spec) → is_hist_text text ≡ true

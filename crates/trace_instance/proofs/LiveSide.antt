@@ -152,16 +152,14 @@ taken_offered most old new live spare all = (
 -- ---- a spare that is emptied
 
 emptied-shape : (g : Config) (old new : Option buffers.Seen) → IsSpareCleared old new → IfSome old (HasShape g) → IfSome new (HasShape g)
-emptied-shape g None None is kept = tt
+emptied-shape g old None is kept = tt
 emptied-shape g None (Some new) is kept = absurd is
-emptied-shape g (Some old) None is kept = absurd is
 emptied-shape g (Some old) (Some new) is kept =
     record { cpus = is.0 ∙ kept.cpus; pages = is.1 ∙ kept.pages; page_bytes = is.2 ∙ kept.page_bytes }
 
 emptied-offers : (most : ℕ) (old new : Option buffers.Seen) → IsSpareCleared old new → IfSome new (WasOffered most)
-emptied-offers most None None is = tt
+emptied-offers most old None is = tt
 emptied-offers most None (Some new) is = absurd is
-emptied-offers most (Some old) None is = absurd is
 emptied-offers most (Some old) (Some new) is =
     subst (AllByRecursion (λ n. n ≤ most)) (sym is.3) (all-none most (buffers.cpus old))
 

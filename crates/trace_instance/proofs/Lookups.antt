@@ -3,7 +3,7 @@ use Rattle.std.proofs.Common.{◌≡◌, ℕ, zero, suc, ◌<◌, ◌==◌, Bool
 use Rattle.std.specs.Prelude.{Result, Ok, Err, OnOk, OnErr}
 use Rattle.std.specs.List.{list_any, position}
 use Rattle.std.specs.declared.alloc.AllocError.{AllocError}
-use Rattle.std.proofs.lemmas.Bool.{false≢true}
+use Rattle.std.proofs.lemmas.Bool.{false≢true, ne_eqb}
 use Rattle.std.proofs.lemmas.List.Quantifiers.{position-Some}
 use Rattle.trace_format.specs.Operands.{Emission}
 use Rattle.trace_hist.specs.Groups.{grouped}
@@ -19,16 +19,6 @@ use Rattle.trace_instance.proofs.OneSays.{some-position}
 -- whether a table has a number
 abbrev pub is_numbered : ℕ → Table → Bool
 is_numbered number t = t.number == number
-
-pub differ : (a b : ℕ) → (a ≡ b → ⊥) → (a == b) ≡ false
-differ a b apart = by (a == b) refl
-  where
-    by : (same : Bool) → (a == b) ≡ same → same ≡ false
-    by true at = absurd (apart (eqb-true a b at))
-    by false at = refl
-
-pub itself : (a : ℕ) → (a == a) ≡ true
-itself a = eq-eqb a a refl
 
 -- ---- the first of a number
 
@@ -110,7 +100,7 @@ pub here-at : (number : ℕ) (tables : List Table) (i : ℕ) (d read new : Table
     → read ≡ get_or tables i d → new.number ≡ read.number → table_numbered number (set tables i new) ≡ Some new.hist
 here-at number tables i d read new found here called =
     set-at number tables i d read new found here called number
-    ∙ ap (λ (b : Bool). (let o : Option Seen = if b then Some new.hist else table_numbered number tables in o)) (itself number)
+    ∙ ap (λ (b : Bool). (let o : Option Seen = if b then Some new.hist else table_numbered number tables in o)) (eq-eqb number number refl)
 
 -- and the others
 pub others-at : (number : ℕ) (tables : List Table) (i : ℕ) (d read new : Table) → position (is_numbered number) tables ≡ Some i
@@ -119,7 +109,7 @@ pub others-at : (number : ℕ) (tables : List Table) (i : ℕ) (d read new : Tab
 others-at number tables i d read new found here called other apart =
     set-at number tables i d read new found here called other
     ∙ ap (λ (b : Bool). (let o : Option Seen = if b then Some new.hist else table_numbered other tables in o))
-    (differ number other (λ same. apart (sym same)))
+    (ne_eqb number other (λ same. apart (sym same)))
 
 -- what a text asks of it was done
 pub asked-at : (number : ℕ) (tables : List Table) (i : ℕ) (d read new : Table) (action : Action) → position (is_numbered number) tables ≡ Some i
@@ -193,7 +183,7 @@ still-numbered number hists (t ∷ tables) used = by (is_used t.number hists) re
     by true is same = ap (λ (o : Option Seen). (let p : Option Seen = if t.number == number then Some t.hist else o in p)) same
     by false is same =
         let other : (t.number == number) ≡ false =
-        differ t.number number (λ named. false≢true (sym is ∙ ap (λ (n : ℕ). is_used n hists) named ∙ used)) in
+        ne_eqb t.number number (λ named. false≢true (sym is ∙ ap (λ (n : ℕ). is_used n hists) named ∙ used)) in
         rw other same
 
 -- what is kept of it
@@ -213,7 +203,7 @@ none-numbered number hists (t ∷ tables) unused = by (is_used t.number hists) r
     by : (kept : Bool) → is_used t.number hists ≡ kept → table_numbered number rest ≡ None → table_numbered number (if kept then t ∷ rest else rest) ≡ None
     by true is none =
         let other : (t.number == number) ≡ false =
-        differ t.number number (λ named. false≢true (sym unused ∙ ap (λ (n : ℕ). is_used n hists) (sym named) ∙ is)) in
+        ne_eqb t.number number (λ named. false≢true (sym unused ∙ ap (λ (n : ℕ). is_used n hists) (sym named) ∙ is)) in
         rw other none
     by false is none = none
 

@@ -2,7 +2,7 @@
 use Rattle.std.proofs.Common.{◌≡◌, ◌⊎◌, inl, inr, ℕ, suc, ◌+◌, ◌<◌, Bool, true, false, List, [], length, drop, get_or, set, is_some, Bor, Option, None, Some, refl, sym, ap, ◌∙◌, arith}
 use Rattle.std.specs.List.{find, flat_map}
 use Rattle.std.specs.Option.{option_copied, option_or}
-use Rattle.std.proofs.Math.Seq.{drop-cons, drop-length}
+use Rattle.std.proofs.Math.Seq.{drop-cons}
 use Rattle.std.proofs.lemmas.List.{get_or-set_other, get_or-set_same, length-map, length-set}
 use Rattle.std.proofs.lemmas.List.Folds.{find-append}
 use Rattle.trace_trigger.specs.HistSpecs.{SpecSeen}
@@ -34,13 +34,6 @@ left-at : (triggers : EventTriggers) (append : Bool) (i : ℕ) → (append ≡ t
 left-at triggers true i which = refl
 left-at triggers false i (inl is) = absurd (cc)
 left-at triggers false i (inr other) = get_or-set_other (all_hists triggers.all.now) triggers.event i [] [] other
-
--- nothing is found from the end on
-pub named-end : (spec : SpecSeen) (triggers : EventTriggers) (append : Bool) (i : ℕ) → i ≡ length triggers.all.now
-    → named_in spec (drop i (left_of triggers append)) ≡ None
-named-end spec triggers append i is =
-    ap (λ (k : ℕ). named_in spec (drop k (left_of triggers append))) (is ∙ sym (many-left triggers append))
-    ∙ ap (named_in spec) (drop-length (left_of triggers append))
 
 list-next : (spec : SpecSeen) (triggers : EventTriggers) (append : Bool) (i : ℕ) (one : InstanceEvent)
     → i < length triggers.all.now → one ≡ get_or triggers.all.now i one → (append ≡ true) ⊎ (i ≡ triggers.event → ⊥)

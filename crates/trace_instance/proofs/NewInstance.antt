@@ -21,6 +21,7 @@ use Rattle.trace_snapshot.specs.Sides.{IsNewSide, SpareStandsFor}
 use Rattle.trace_instance.specs.Instances.{HasShape, InstanceSeen, InstanceStandsFor, IsShaped, TablesFit, WasOffered, WereOffered, kept_trigger}
 use Rattle.trace_instance.specs.KeptHists.{TableStandsFor, kept_at, kept_hists}
 use Rattle.trace_instance.specs.declared.hists.AttachedHist.{AttachedHist}
+use Rattle.trace_instance.proofs.Calm.{no_event}
 use Rattle.trace_instance.proofs.KeptLists.{AllOfEach}
 use Rattle.trace_instance.proofs.LiveSide.{all-none}
 
@@ -100,9 +101,6 @@ none_any test (event ∷ events) off = rw (off event) (none_any test events off)
 no_spare : (has : Bool) (family : List (List Event)) → has ≡ false → (if has then Some family else None) ≡ None
 no_spare false family is = refl
 no_spare true family is = absurd (false≢true (sym is))
-
-no_event : Definition
-no_event = record { name = []; fields = [] }
 
 -- an instance stands for the request that makes it: it is as new
 pub made-stands : (g : Config) (past : List Request) (name : List ℕ) (i : InstanceSeen) → IsNew g (length (declared_events past)) i

@@ -3,7 +3,7 @@ use Rattle.std.proofs.Common.{◌≡◌, inl, inr, ℕ, zero, suc, ◌+◌, ◌<
 use Rattle.std.specs.Bool.{beq}
 use Rattle.std.specs.Cmp.Lexicographic.{pointwise, pointwise_decides}
 use Rattle.std.specs.List.{list_any, position, position_or_len, remove}
-use Rattle.std.proofs.lemmas.Bool.{cases_order, false≢true, ltb-false}
+use Rattle.std.proofs.lemmas.Bool.{and_parts, cases_order, false_from_ne_true, false≢true, ltb-false}
 use Rattle.std.proofs.lemmas.List.{get_or-map, length-map}
 use Rattle.std.proofs.lemmas.List.Quantifiers.{position-Some}
 use Rattle.std.proofs.lemmas.Slice.Eq.{bytes_eq-Decides}
@@ -19,19 +19,14 @@ use Rattle.trace_instance.specs.declared.hists.AttachedHist.{AttachedHist}
 
 -- ---- two that say the same as a text say the same
 
-and-both : (a b : Bool) → (a && b) ≡ true → (a ≡ true) × (b ≡ true)
-and-both true b is = (refl, is)
-and-both false b is = absurd (false≢true is)
-
 flags-same : (a b : Bool) → beq a b ≡ true → a ≡ b
 flags-same true true is = refl
-flags-same true false is = absurd (false≢true is)
-flags-same false true is = absurd (false≢true is)
 flags-same false false is = refl
+flags-same a b is = absurd (false≢true is)
 
 sort_key-same : (a b : SortKey) → same_sort_key a b ≡ true → a ≡ b
 sort_key-same a b is =
-    let both = and-both (bytes_eq a.name b.name) (beq a.descending b.descending) is in
+    let both = and_parts (bytes_eq a.name b.name) (beq a.descending b.descending) is in
     let names : a.name ≡ b.name = (bytes_eq-Decides a.name b.name).0 both.0 in
     let orders : a.descending ≡ b.descending = flags-same a.descending b.descending both.1 in
     λ i. record { name = names i; descending = orders i }
@@ -47,17 +42,16 @@ keys-itself key =
 
 text-same : (a b : Option (List ℕ)) → same_text a b ≡ true → a ≡ b
 text-same None None is = refl
-text-same None (Some b) is = absurd (false≢true is)
-text-same (Some a) None is = absurd (false≢true is)
 text-same (Some a) (Some b) is = ap (λ (text : List ℕ). (let o : Option (List ℕ) = Some text in o)) ((bytes_eq-Decides a b).0 is)
+text-same a b is = absurd (false≢true is)
 
 says-same : (left right : SpecSeen) → is_same left right ≡ true → IsSame left right
 unfolding is_same
 says-same left right is =
-    let name = and-both (same_text left.name right.name) _ is in
-    let keys = and-both (pointwise bytes_eq (written_of left.keys) (written_of right.keys)) _ name.1 in
-    let values = and-both (pointwise bytes_eq left.values right.values) _ keys.1 in
-    let sort = and-both (pointwise same_sort_key left.sort right.sort) (same_text (filter_text left.filter) (filter_text right.filter)) values.1 in
+    let name = and_parts (same_text left.name right.name) _ is in
+    let keys = and_parts (pointwise bytes_eq (written_of left.keys) (written_of right.keys)) _ name.1 in
+    let values = and_parts (pointwise bytes_eq left.values right.values) _ keys.1 in
+    let sort = and_parts (pointwise same_sort_key left.sort right.sort) (same_text (filter_text left.filter) (filter_text right.filter)) values.1 in
     record {
       name = text-same left.name right.name name.0;
       keys = (pointwise_decides (λ a b. bytes_eq-Decides a b) (written_of left.keys) (written_of right.keys)).0 keys.0;
@@ -189,7 +183,7 @@ pub found-only : (name : Option (List ℕ)) (past : List Request) (event : Defin
 found-only name past event spec attached index are found = record {
   inside = (there (none_kept spec)).0;
   same = λ d. (there d).1;
-  others = λ k d within other. by k d within other (is_same spec (get_or kept k d).spec) refl;
+  others = λ k d within other. false_from_ne_true (is_same spec (get_or kept k d).spec) (apart k d within other);
 }
   where
     kept : List AttachedHist
@@ -219,8 +213,3 @@ found-only name past event spec attached index are found = record {
           | inr (inl before) ↦ hist_triggers_differ name event past k index t before inside (both-same spec _ _ one found)
           | inr (inr after) ↦ hist_triggers_differ name event past index k t after below (both-same spec _ _ found one)
         ]
-
-    by : (k : ℕ) (d : AttachedHist) → k < length kept → (k ≡ index → ⊥) → (same : Bool) → is_same spec (get_or kept k d).spec ≡ same
-        → is_same spec (get_or kept k d).spec ≡ false
-    by k d within other true is = absurd (apart k d within other is)
-    by k d within other false is = is

@@ -1,9 +1,8 @@
 -- What writes to `snapshot` and to an event's trigger file answer and change.
-use Rattle.std.proofs.Common.{◌≡◌, ℕ, zero, suc, ◌-◌, ◌<◌, ◌==◌, Bool, true, false, if◌then◌else◌, unwrap_or, List, [], ◌∷◌, length, map, replicate, get_or, is_some, Option, Some, None, Result, Ok, Err, refl, sym, ap, ◌∙◌, arith, eqb-true}
+use Rattle.std.proofs.Common.{◌≡◌, ℕ, ◌-◌, ◌==◌, Bool, true, false, if◌then◌else◌, unwrap_or, List, [], ◌∷◌, map, replicate, get_or, is_some, Option, Some, None, Result, Ok, Err, refl, sym, ap, ◌∙◌, eqb-true}
 use Rattle.std.specs.List.{list_any}
 use Rattle.std.specs.Option.{option_map}
 use Rattle.std.proofs.lemmas.Bool.{false≢true}
-use Rattle.std.proofs.lemmas.List.{get_or-map}
 use Rattle.page_ring.specs.Events.{Event}
 use Rattle.trace_buffer.specs.Families.{all_cleared}
 use Rattle.trace_lex.specs.Decimals.{written_number}
@@ -50,12 +49,6 @@ pub none-is : {A : Type 0} (o : Option A) → is_some o ≡ false → o ≡ None
 none-is None is = refl
 none-is (Some x) is = absurd (cc)
 
--- a default outside of a list does not matter inside of it
-pub same-at : {A : Type 0} (xs : List A) (i : ℕ) (d e : A) → i < length xs → get_or xs i d ≡ get_or xs i e
-same-at [] i d e inside = absurd (omega arith)
-same-at (x ∷ xs) zero d e inside = refl
-same-at (x ∷ xs) (suc i) d e inside = same-at xs i d e (omega arith)
-
 -- ---- which triggers there are
 
 any-kept : (name : Option (List ℕ)) (past : List Request) (events : List Definition)
@@ -71,15 +64,6 @@ trigger-there : (g : Config) (name : Option (List ℕ)) (past : List Request) (i
     → list_any is_some i.triggers ≡ has_trigger name past
 trigger-there g name past i stands =
     ap (λ (ts : List (Option Trigger)). list_any is_some ts) stands.triggers ∙ any-kept name past (declared_events past)
-
--- and this event has one where it is kept at its index
-pub trigger-at : (g : Config) (name : Option (List ℕ)) (past : List Request) (i : InstanceSeen) (index : ℕ) → InstanceStandsFor g name past i
-    → index < length (declared_events past)
-    → is_some (get_or i.triggers index None) ≡ is_some (trigger_of name (get_or (declared_events past) index no_event) past)
-trigger-at g name past i index stands inside =
-    ap (λ (ts : List (Option Trigger)). is_some (get_or ts index None)) stands.triggers
-    ∙ ap is_some (get_or-map (kept_trigger name past) (declared_events past) index no_event None inside)
-    ∙ some-mapped (kept_as past (get_or (declared_events past) index no_event)) (trigger_of name (get_or (declared_events past) index no_event) past)
 
 -- ---- the spare
 
@@ -119,15 +103,6 @@ pub record KeepsSettings (name : Option (List ℕ)) (past : List Request) (reque
   pub overwrite : overwrites name (request ∷ past) ≡ overwrites name past
   pub tracing : is_tracing name (request ∷ past) ≡ is_tracing name past
 
-snapshot-keeps : (name : Option (List ℕ)) (past : List Request) (append : Bool) (text : List ℕ)
-    → KeepsSettings name past (WriteFile name (Some (paths.OfInstance top.Snapshot)) append text)
-snapshot-keeps name past append text =
-    let same = same_instance name in
-    let request : Request = WriteFile name (Some (paths.OfInstance top.Snapshot)) append text in
-    let kept : map (λ (event : Definition). option_map (parsed_of event) (filter_of name event.name (request ∷ past))) (declared_events past)
-    ≡ map (λ (event : Definition). option_map (parsed_of event) (filter_of name event.name past)) (declared_events past) = rw same refl in
-    record { enabled = rw same refl; filters = kept; overwrite = rw same refl; tracing = rw same refl }
-
 pub trigger-keeps : (name : Option (List ℕ)) (past : List Request) (event : List ℕ) (append : Bool) (text : List ℕ)
     → KeepsSettings name past (WriteFile name (Some (paths.OfEvent event per_event.Trigger)) append text)
 trigger-keeps name past event append text =
@@ -139,176 +114,13 @@ trigger-keeps name past event append text =
 
 -- ---- writes to `snapshot`
 
--- its request
-abbrev pub snapshot_request : Option (List ℕ) → Bool → List ℕ → Request
-snapshot_request name append text = WriteFile name (Some (paths.OfInstance top.Snapshot)) append text
-
-snapshot-quiet : (name : Option (List ℕ)) (past : List Request) (append : Bool) (text : List ℕ) (event : Definition)
-    → KeepsTrigger name past (snapshot_request name append text) event
-snapshot-quiet name past append text event = record { alive = refl; sets = rw (same_instance name) refl; quiet = refl }
-
-snapshot-triggers : (name : Option (List ℕ)) (past : List Request) (append : Bool) (text : List ℕ)
-    → map (kept_trigger name (snapshot_request name append text ∷ past)) (declared_events past) ≡ map (kept_trigger name past) (declared_events past)
-snapshot-triggers name past append text =
-    map-agrees (kept_trigger name (snapshot_request name append text ∷ past)) (kept_trigger name past) (declared_events past) no_event
-    (λ j inside. kept-stays name past (snapshot_request name append text) (get_or (declared_events past) j no_event)
-    (snapshot-quiet name past append text (get_or (declared_events past) j no_event)))
-
-snapshot-keeps_hists : (name : Option (List ℕ)) (past : List Request) (append : Bool) (text : List ℕ)
-    → KeepsHists name past (snapshot_request name append text)
-snapshot-keeps_hists name past append text = record { alive = refl; unwritten = refl }
-
--- an event has a trigger after it only where it had one
-snapshot-has_trigger : (name : Option (List ℕ)) (past : List Request) (append : Bool) (text : List ℕ)
-    → list_any (λ (e : Definition). is_some (trigger_of name e (snapshot_request name append text ∷ past))) (declared_events past) ≡ true
-    → has_trigger name past ≡ true
-snapshot-has_trigger name past append text some =
-    any-passes (λ (e : Definition). is_some (trigger_of name e (snapshot_request name append text ∷ past)))
-    (λ (e : Definition). is_some (trigger_of name e past)) (declared_events past) no_event
-    (λ j inside one. ap is_some (sym (trigger-stays name past (snapshot_request name append text) (get_or (declared_events past) j no_event)
-    (snapshot-quiet name past append text (get_or (declared_events past) j no_event)))) ∙ one) some
-
 snapshot-stay : (append : Bool) (family : List (List Event)) → rings_after_write append (Some (paths.OfInstance top.Snapshot)) family ≡ family
 snapshot-stay true family = refl
 snapshot-stay false family = refl
 
-snapshot-live : (g : Config) (name : Option (List ℕ)) (past : List Request) (append : Bool) (text : List ℕ) (family : List (List Event))
-    → rings_after g name past (snapshot_request name append text) family ≡ family
-snapshot-live g name past append text family = rw (same_instance name) (snapshot-stay append family)
-
-takes-effect : (g : Config) (name : Option (List ℕ)) (past : List Request) (append : Bool) (text : List ℕ) → written_snapshot text ≡ Some Takes
-    → IsEffect g name past (snapshot_request name append text) TakeSnapshot
-takes-effect g name past append text takes =
-    let same = same_instance name in
-    let request : Request = snapshot_request name append text in
-    let flips : exchanges name past request ≡ true = rw (same, takes) refl in
-    let swapped = rings-exchanged g name past request refl flips in
-    let untouched : spare_after g name request (other_rings g name past) ≡ other_rings g name past = rw (same, takes) refl in
-    let live = swapped.live ∙ untouched in
-    let rest = swapped.spare ∙ snapshot-live g name past append text (rings g name past) in
-    let there : has_spare name (request ∷ past) ≡ true = rw (same, takes) refl in
-    let families = same_families (other_rings g name past) (rings g name (request ∷ past)) true (has_spare name (request ∷ past)) (rings g name past)
-    (other_rings g name (request ∷ past)) live there rest in
-    let settings = snapshot-keeps name past append text in
-    record {
-      enabled = settings.enabled;
-      filters = settings.filters;
-      triggers = snapshot-triggers name past append text;
-      hists = all-hists-calm name past request (declared_events past) (snapshot-keeps_hists name past append text);
-      tables = λ table. unasked name past request table (snapshot-keeps_hists name past append text) refl;
-      joined = tt;
-      fitting = fitting-calm name past request (snapshot-keeps_hists name past append text);
-      overwrite = settings.overwrite;
-      tracing = settings.tracing;
-      sides = λ spared. families
-          ∙ ap (λ (l : List (List Event)). (let f : SideFamilies = record { live = l; spare = Some (rings g name past) } in f)) (sym (spare-or-new g name past spared));
-      spared = λ spared. spared-new g name past request there;
-    }
-
-frees-effect : (g : Config) (name : Option (List ℕ)) (past : List Request) (append : Bool) (text : List ℕ) → written_snapshot text ≡ Some Frees
-    → has_trigger name past ≡ false → IsEffect g name past (snapshot_request name append text) FreeSpare
-frees-effect g name past append text frees unarmed =
-    let same = same_instance name in
-    let request : Request = snapshot_request name append text in
-    let stays : exchanges name past request ≡ false = rw (same, frees) refl in
-    let staying = rings-stay g name past request refl stays in
-    let cleared : spare_after g name request (other_rings g name past) ≡ all_cleared (other_rings g name past) = rw (same, frees) refl in
-    let live = staying.live ∙ snapshot-live g name past append text (rings g name past) in
-    let rest = staying.spare ∙ cleared in
-    let gone : has_spare name (request ∷ past) ≡ false = rw (same, frees) refl in
-    let families = same_families (rings g name past) (rings g name (request ∷ past)) false (has_spare name (request ∷ past)) (all_cleared (other_rings g name past))
-    (other_rings g name (request ∷ past)) live gone rest in
-    let settings = snapshot-keeps name past append text in
-    record {
-      enabled = settings.enabled;
-      filters = settings.filters;
-      triggers = snapshot-triggers name past append text;
-      hists = all-hists-calm name past request (declared_events past) (snapshot-keeps_hists name past append text);
-      tables = λ table. unasked name past request table (snapshot-keeps_hists name past append text) refl;
-      joined = tt;
-      fitting = fitting-calm name past request (snapshot-keeps_hists name past append text);
-      overwrite = settings.overwrite;
-      tracing = settings.tracing;
-      sides = λ spared. families;
-      spared = λ spared. record {
-        unused = λ none. rest ∙ emptied g name past;
-        armed = λ some. absurd (false≢true (sym unarmed ∙ snapshot-has_trigger name past append text some));
-      };
-    }
-
-empties-effect : (g : Config) (name : Option (List ℕ)) (past : List Request) (append : Bool) (text : List ℕ) → written_snapshot text ≡ Some Empties
-    → IsEffect g name past (snapshot_request name append text) ClearSpare
-empties-effect g name past append text empties =
-    let same = same_instance name in
-    let request : Request = snapshot_request name append text in
-    let stays : exchanges name past request ≡ false = rw (same, empties) refl in
-    let staying = rings-stay g name past request refl stays in
-    let cleared : spare_after g name request (other_rings g name past) ≡ all_cleared (other_rings g name past) = rw (same, empties) refl in
-    let live = staying.live ∙ snapshot-live g name past append text (rings g name past) in
-    let rest = staying.spare ∙ cleared in
-    let spare : has_spare name (request ∷ past) ≡ has_spare name past = rw (same, empties) refl in
-    let families = same_families (rings g name past) (rings g name (request ∷ past)) (has_spare name past) (has_spare name (request ∷ past))
-    (all_cleared (other_rings g name past)) (other_rings g name (request ∷ past)) live spare rest in
-    let settings = snapshot-keeps name past append text in
-    record {
-      enabled = settings.enabled;
-      filters = settings.filters;
-      triggers = snapshot-triggers name past append text;
-      hists = all-hists-calm name past request (declared_events past) (snapshot-keeps_hists name past append text);
-      tables = λ table. unasked name past request table (snapshot-keeps_hists name past append text) refl;
-      joined = tt;
-      fitting = fitting-calm name past request (snapshot-keeps_hists name past append text);
-      overwrite = settings.overwrite;
-      tracing = settings.tracing;
-      sides = λ spared. families
-          ∙ ap (λ (o : Option (List (List Event))). (let f : SideFamilies = record { live = rings g name past; spare = o } in f))
-          (emptied-spare (has_spare name past) (other_rings g name past));
-      spared = λ spared. record {
-        unused = λ none. rest ∙ emptied g name past;
-        armed = λ some. spare ∙ spared.armed (snapshot-has_trigger name past append text some);
-      };
-    }
-
--- ---- what they answer
-
 written-is : (text : List ℕ) (n : ℕ) → written_number text ≡ Some n → written_snapshot text ≡ Some (snapshot_write n)
 unfolding written_snapshot
 written-is text n is = ap (option_map snapshot_write) is
-
-refused : (refusal : Refusal) (answered : Result Reply Refusal) → answered ≡ Err refusal → IsRefusal refusal answered
-refused refusal answered is = (λ other. is, λ early. is)
-
-pub snapshot-frees : (g : Config) (name : Option (List ℕ)) (past : List Request) (append : Bool) (text : List ℕ) (i : InstanceSeen)
-    → InstanceStandsFor g name past i → written_number text ≡ Some 0 → list_any is_some i.triggers ≡ false
-    → IsWriteChange g name past append text (paths.OfInstance top.Snapshot) (Ok FreeSpare)
-unfolding snapshot_answer
-snapshot-frees g name past append text i stands number none =
-    let is = written-is text 0 number in
-    let unarmed : has_trigger name past ≡ false = sym (trigger-there g name past i stands) ∙ none in (
-      ap (spare_answer (has_trigger name past)) is ∙ ap (λ (in_use : Bool). spare_answer in_use (Some Frees)) unarmed,
-      frees-effect g name past append text is unarmed,
-      λ i stands. tt,
-    )
-
-pub snapshot-busy : (g : Config) (name : Option (List ℕ)) (past : List Request) (append : Bool) (text : List ℕ) (i : InstanceSeen)
-    → InstanceStandsFor g name past i → written_number text ≡ Some 0 → list_any is_some i.triggers ≡ true
-    → IsWriteChange g name past append text (paths.OfInstance top.Snapshot) (Err refusal.Busy)
-unfolding snapshot_answer
-snapshot-busy g name past append text i stands number some =
-    let is = written-is text 0 number in
-    let armed : has_trigger name past ≡ true = sym (trigger-there g name past i stands) ∙ some in
-    refused refusal.Busy (snapshot_answer name past text)
-    (ap (spare_answer (has_trigger name past)) is ∙ ap (λ (in_use : Bool). spare_answer in_use (Some Frees)) armed)
-
-pub snapshot-takes : (g : Config) (name : Option (List ℕ)) (past : List Request) (append : Bool) (text : List ℕ) → written_number text ≡ Some 1
-    → IsWriteChange g name past append text (paths.OfInstance top.Snapshot) (Ok TakeSnapshot)
-unfolding snapshot_answer
-snapshot-takes g name past append text number =
-    let is = written-is text 1 number in (
-      ap (spare_answer (has_trigger name past)) is,
-      takes-effect g name past append text is,
-      λ i stands. tt,
-    )
 
 -- neither 0 nor 1
 other-number : (n : ℕ) → (n ≡ 0 → ⊥) → (n ≡ 1 → ⊥) → snapshot_write n ≡ Empties
@@ -319,19 +131,167 @@ other-number n none one = by (n == 0) (n == 1) refl refl
     by false true is at = absurd (one (eqb-true n 1 at))
     by false false is at = rw (is, at) refl
 
-pub snapshot-empties : (g : Config) (name : Option (List ℕ)) (past : List Request) (append : Bool) (text : List ℕ) (n : ℕ)
-    → written_number text ≡ Some n → (n ≡ 0 → ⊥) → (n ≡ 1 → ⊥) → IsWriteChange g name past append text (paths.OfInstance top.Snapshot) (Ok ClearSpare)
-unfolding snapshot_answer
-snapshot-empties g name past append text n number none one =
-    let is = written-is text n number ∙ ap Some (other-number n none one) in (
-      ap (spare_answer (has_trigger name past)) is,
-      empties-effect g name past append text is,
-      λ i stands. tt,
-    )
+pub refused : (refusal : Refusal) (answered : Result Reply Refusal) → answered ≡ Err refusal → IsRefusal refusal answered
+refused refusal answered is = (λ other. is, λ early. is)
 
-pub snapshot-bad : (g : Config) (name : Option (List ℕ)) (past : List Request) (append : Bool) (text : List ℕ) → written_number text ≡ None
-    → IsWriteChange g name past append text (paths.OfInstance top.Snapshot) (Err refusal.BadValue)
-unfolding snapshot_answer written_snapshot
-snapshot-bad g name past append text none =
-    refused refusal.BadValue (snapshot_answer name past text)
-    (ap (λ (o : Option ℕ). spare_answer (has_trigger name past) (option_map snapshot_write o)) none)
+module _ (g : Config) (name : Option (List ℕ)) (past : List Request) (append : Bool) (text : List ℕ) where
+  abbrev request : Request
+  request = WriteFile name (Some (paths.OfInstance top.Snapshot)) append text
+
+  snapshot-keeps : KeepsSettings name past request
+  snapshot-keeps =
+      let same = same_instance name in
+      let kept : map (λ (event : Definition). option_map (parsed_of event) (filter_of name event.name (request ∷ past))) (declared_events past)
+      ≡ map (λ (event : Definition). option_map (parsed_of event) (filter_of name event.name past)) (declared_events past) = rw same refl in
+      record { enabled = rw same refl; filters = kept; overwrite = rw same refl; tracing = rw same refl }
+
+  snapshot-quiet : (event : Definition) → KeepsTrigger name past request event
+  snapshot-quiet event = record { alive = refl; sets = rw (same_instance name) refl; quiet = refl }
+
+  snapshot-triggers : map (kept_trigger name (request ∷ past)) (declared_events past) ≡ map (kept_trigger name past) (declared_events past)
+  snapshot-triggers =
+      map-agrees (kept_trigger name (request ∷ past)) (kept_trigger name past) (declared_events past) no_event
+      (λ j inside. kept-stays name past request (get_or (declared_events past) j no_event) (snapshot-quiet (get_or (declared_events past) j no_event)))
+
+  snapshot-keeps_hists : KeepsHists name past request
+  snapshot-keeps_hists = record { alive = refl; unwritten = refl }
+
+  -- an event has a trigger after it only where it had one
+  snapshot-has_trigger : list_any (λ (e : Definition). is_some (trigger_of name e (request ∷ past))) (declared_events past) ≡ true
+      → has_trigger name past ≡ true
+  snapshot-has_trigger some =
+      any-passes (λ (e : Definition). is_some (trigger_of name e (request ∷ past))) (λ (e : Definition). is_some (trigger_of name e past))
+      (declared_events past) no_event
+      (λ j inside one. ap is_some (sym (trigger-stays name past request (get_or (declared_events past) j no_event)
+      (snapshot-quiet (get_or (declared_events past) j no_event)))) ∙ one) some
+
+  snapshot-live : rings_after g name past request (rings g name past) ≡ rings g name past
+  snapshot-live = rw (same_instance name) (snapshot-stay append (rings g name past))
+
+  takes-effect : written_snapshot text ≡ Some Takes → IsEffect g name past request TakeSnapshot
+  takes-effect takes =
+      let same = same_instance name in
+      let flips : exchanges name past request ≡ true = rw (same, takes) refl in
+      let swapped = rings-exchanged g name past request refl flips in
+      let untouched : spare_after g name request (other_rings g name past) ≡ other_rings g name past = rw (same, takes) refl in
+      let live = swapped.live ∙ untouched in
+      let rest = swapped.spare ∙ snapshot-live in
+      let there : has_spare name (request ∷ past) ≡ true = rw (same, takes) refl in
+      let families = same_families (other_rings g name past) (rings g name (request ∷ past)) true (has_spare name (request ∷ past)) (rings g name past)
+      (other_rings g name (request ∷ past)) live there rest in
+      let settings = snapshot-keeps in
+      record {
+        enabled = settings.enabled;
+        filters = settings.filters;
+        triggers = snapshot-triggers;
+        hists = all-hists-calm name past request (declared_events past) snapshot-keeps_hists;
+        tables = λ table. unasked name past request table snapshot-keeps_hists refl;
+        joined = tt;
+        fitting = fitting-calm name past request snapshot-keeps_hists;
+        overwrite = settings.overwrite;
+        tracing = settings.tracing;
+        sides = λ spared. families
+            ∙ ap (λ (l : List (List Event)). (let f : SideFamilies = record { live = l; spare = Some (rings g name past) } in f)) (sym (spare-or-new g name past spared));
+        spared = λ spared. spared-new g name past request there;
+      }
+
+  frees-effect : written_snapshot text ≡ Some Frees → has_trigger name past ≡ false → IsEffect g name past request FreeSpare
+  frees-effect frees unarmed =
+      let same = same_instance name in
+      let stays : exchanges name past request ≡ false = rw (same, frees) refl in
+      let staying = rings-stay g name past request refl stays in
+      let cleared : spare_after g name request (other_rings g name past) ≡ all_cleared (other_rings g name past) = rw (same, frees) refl in
+      let live = staying.live ∙ snapshot-live in
+      let rest = staying.spare ∙ cleared in
+      let gone : has_spare name (request ∷ past) ≡ false = rw (same, frees) refl in
+      let families = same_families (rings g name past) (rings g name (request ∷ past)) false (has_spare name (request ∷ past)) (all_cleared (other_rings g name past))
+      (other_rings g name (request ∷ past)) live gone rest in
+      let settings = snapshot-keeps in
+      record {
+        enabled = settings.enabled;
+        filters = settings.filters;
+        triggers = snapshot-triggers;
+        hists = all-hists-calm name past request (declared_events past) snapshot-keeps_hists;
+        tables = λ table. unasked name past request table snapshot-keeps_hists refl;
+        joined = tt;
+        fitting = fitting-calm name past request snapshot-keeps_hists;
+        overwrite = settings.overwrite;
+        tracing = settings.tracing;
+        sides = λ spared. families;
+        spared = λ spared. record {
+          unused = λ none. rest ∙ emptied g name past;
+          armed = λ some. absurd (false≢true (sym unarmed ∙ snapshot-has_trigger some));
+        };
+      }
+
+  empties-effect : written_snapshot text ≡ Some Empties → IsEffect g name past request ClearSpare
+  empties-effect empties =
+      let same = same_instance name in
+      let stays : exchanges name past request ≡ false = rw (same, empties) refl in
+      let staying = rings-stay g name past request refl stays in
+      let cleared : spare_after g name request (other_rings g name past) ≡ all_cleared (other_rings g name past) = rw (same, empties) refl in
+      let live = staying.live ∙ snapshot-live in
+      let rest = staying.spare ∙ cleared in
+      let spare : has_spare name (request ∷ past) ≡ has_spare name past = rw (same, empties) refl in
+      let families = same_families (rings g name past) (rings g name (request ∷ past)) (has_spare name past) (has_spare name (request ∷ past))
+      (all_cleared (other_rings g name past)) (other_rings g name (request ∷ past)) live spare rest in
+      let settings = snapshot-keeps in
+      record {
+        enabled = settings.enabled;
+        filters = settings.filters;
+        triggers = snapshot-triggers;
+        hists = all-hists-calm name past request (declared_events past) snapshot-keeps_hists;
+        tables = λ table. unasked name past request table snapshot-keeps_hists refl;
+        joined = tt;
+        fitting = fitting-calm name past request snapshot-keeps_hists;
+        overwrite = settings.overwrite;
+        tracing = settings.tracing;
+        sides = λ spared. families
+            ∙ ap (λ (o : Option (List (List Event))). (let f : SideFamilies = record { live = rings g name past; spare = o } in f))
+            (emptied-spare (has_spare name past) (other_rings g name past));
+        spared = λ spared. record {
+          unused = λ none. rest ∙ emptied g name past;
+          armed = λ some. spare ∙ spared.armed (snapshot-has_trigger some);
+        };
+      }
+
+  -- ---- what they answer
+
+  pub snapshot-frees : (i : InstanceSeen) → InstanceStandsFor g name past i → written_number text ≡ Some 0 → list_any is_some i.triggers ≡ false
+      → IsWriteChange g name past append text (paths.OfInstance top.Snapshot) (Ok FreeSpare)
+  unfolding snapshot_answer
+  snapshot-frees i stands number none =
+      let is = written-is text 0 number in
+      let unarmed : has_trigger name past ≡ false = sym (trigger-there g name past i stands) ∙ none in (
+        ap (spare_answer (has_trigger name past)) is ∙ ap (λ (in_use : Bool). spare_answer in_use (Some Frees)) unarmed,
+        frees-effect is unarmed,
+        λ i stands. tt,
+      )
+
+  pub snapshot-busy : (i : InstanceSeen) → InstanceStandsFor g name past i → written_number text ≡ Some 0 → list_any is_some i.triggers ≡ true
+      → IsWriteChange g name past append text (paths.OfInstance top.Snapshot) (Err refusal.Busy)
+  unfolding snapshot_answer
+  snapshot-busy i stands number some =
+      let is = written-is text 0 number in
+      let armed : has_trigger name past ≡ true = sym (trigger-there g name past i stands) ∙ some in
+      refused refusal.Busy (snapshot_answer name past text)
+      (ap (spare_answer (has_trigger name past)) is ∙ ap (λ (in_use : Bool). spare_answer in_use (Some Frees)) armed)
+
+  pub snapshot-takes : written_number text ≡ Some 1 → IsWriteChange g name past append text (paths.OfInstance top.Snapshot) (Ok TakeSnapshot)
+  unfolding snapshot_answer
+  snapshot-takes number =
+      let is = written-is text 1 number in (
+        ap (spare_answer (has_trigger name past)) is,
+        takes-effect is,
+        λ i stands. tt,
+      )
+
+  pub snapshot-empties : (n : ℕ) → written_number text ≡ Some n → (n ≡ 0 → ⊥) → (n ≡ 1 → ⊥)
+      → IsWriteChange g name past append text (paths.OfInstance top.Snapshot) (Ok ClearSpare)
+  unfolding snapshot_answer
+  snapshot-empties n number none one =
+      let is = written-is text n number ∙ ap Some (other-number n none one) in (
+        ap (spare_answer (has_trigger name past)) is,
+        empties-effect is,
+        λ i stands. tt,
+      )

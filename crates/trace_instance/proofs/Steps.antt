@@ -1,6 +1,6 @@
 -- What one request more leaves of settings, and of an instance.
 use Rattle.std.proofs.Common.{◌≡◌, ℕ, suc, ◌+◌, ◌<◌, ◌==◌, Bool, true, false, ◌||◌, ◌&&◌, cond, if◌then◌else◌, List, [], ◌∷◌, ◌++◌, length, map, get_or, All, is_some, Option, Some, None, unwrap_or, Result, Ok, Err, refl, sym, ap, ◌∙◌, subst, arith, append-nil, eq-eqb, eqb-true}
-use Rattle.std.proofs.lemmas.Bool.{false≢true}
+use Rattle.std.proofs.lemmas.Bool.{and_right, false_from_ne_true, false≢true}
 use Rattle.std.proofs.lemmas.List.{map-append}
 use Rattle.std.proofs.lemmas.List.Elements.{All-nil, All-push}
 use Rattle.std.proofs.lemmas.List.Folds.{list_any-append}
@@ -16,6 +16,7 @@ use Rattle.trace_command.specs.Paths.{File, OfInstance, OfEvent}
 use Rattle.trace_command.specs.Requests.{Request, WriteFile}
 use Rattle.trace_command.specs.declared.command.Config.{Config}
 use Rattle.trace_command.specs.declared.command.Reply.{Reply}
+use Rattle.trace_command.specs.declared.file_name.EventFile.{EventFile}
 use Rattle.trace_command.specs.declared.file_name.EventFile.TheVariants as per_event
 use Rattle.trace_command.specs.declared.file_name.TopFile.TheVariants as top
 use Rattle.trace_command.specs.declared.refusal.Refusal.{Refusal}
@@ -42,6 +43,7 @@ use Rattle.trace_instance.specs.declared.change.TriggerChange.TheVariants.{Attac
 use Rattle.trace_instance.specs.declared.trigger.Trigger.{Trigger}
 use Rattle.trace_instance.proofs.KeptLists.{AllOfEach, OfNew, after-all, kept-all, kept-one, used-all}
 use Rattle.trace_instance.proofs.LiveSide.{offered_more}
+use Rattle.trace_instance.proofs.OneSays.{or-none}
 use Rattle.trace_instance.proofs.TableStands.{none-asked, table-asked, table-joined, table-made}
 
 -- ---- events that were not declared
@@ -59,89 +61,66 @@ is_known false known missing absent answered reply given = cc
 
 -- a name that is not there is not that of an event that is
 other_name : (past : List Request) (event name : List ℕ) → event_named event past ≡ None → is_some (event_named name past) ≡ true → bytes_eq event name ≡ false
-other_name past event name none there = by_same (bytes_eq event name) refl
-  where
-    by_same : (same : Bool) → bytes_eq event name ≡ same → bytes_eq event name ≡ false
-    by_same false is = is
-    by_same true is =
-        let e : event ≡ name = (bytes_eq-Decides event name).0 is in
-        let gone : event_named name past ≡ None = subst (λ (n : List ℕ). event_named n past ≡ None) e none in
-        let impossible : false ≡ true = rw gone at there in
-        absurd (false≢true impossible)
+other_name past event name none there = false_from_ne_true (bytes_eq event name) (λ is.
+    let e : event ≡ name = (bytes_eq-Decides event name).0 is in
+    let gone : event_named name past ≡ None = subst (λ (n : List ℕ). event_named n past ≡ None) e none in
+    let impossible : false ≡ true = rw gone at there in
+    false≢true impossible)
 
 cond_none : {A : Type 0} (b : Bool) (o : Option A) → o ≡ None → cond b o None ≡ None
 cond_none true o none = none
 cond_none false o none = refl
 
--- no write switches an event that is not declared, if its own file would be refused
-file-switches_none : (past : List Request) (file : File) (text event : List ℕ) → event_named event past ≡ None
-    → ((name : List ℕ) → file ≡ OfEvent name per_event.Enable → is_some (event_named name past) ≡ true) → switches event past file text ≡ None
-file-switches_none past (OfEvent name per_event.Enable) text event none there = rw (other_name past event name none (there name refl)) refl
+-- an event's file is of an event that is declared
+abbrev IsOfDeclared : List Request → File → Type 0
+IsOfDeclared past file = (name : List ℕ) (kind : EventFile) → file ≡ OfEvent name kind → is_some (event_named name past) ≡ true
+
+-- as it is where a write is done
+declared-file : (g : Config) (past : List Request) (name : Option (List ℕ)) (file : File) (append : Bool) (text : List ℕ) (reply : Reply)
+    → answer_with_room g past (WriteFile name (Some file) append text) ≡ Ok reply → IsOfDeclared past file
+declared-file g past name file append text reply given event kind is =
+    let own : answer_with_room g past (WriteFile name (Some (OfEvent event kind)) append text) ≡ Ok reply =
+    subst (λ (f : File). answer_with_room g past (WriteFile name (Some f) append text) ≡ Ok reply) is given in
+    is_known _ _ NoSuchEvent NoSuchInstance _ reply own
+
+-- then it does not switch an event that is not declared
+file-switches_none : (past : List Request) (file : File) (text event : List ℕ) → event_named event past ≡ None → IsOfDeclared past file
+    → switches event past file text ≡ None
+file-switches_none past (OfEvent name per_event.Enable) text event none there = rw (other_name past event name none (there name per_event.Enable refl)) refl
 file-switches_none past (OfInstance top.EventsEnable) text event none there = rw none refl
 file-switches_none past file text event none there = refl
 
--- nor sets its filter
-file-sets_none : (past : List Request) (file : File) (text event : List ℕ) → event_named event past ≡ None
-    → ((name : List ℕ) → file ≡ OfEvent name per_event.Filter → is_some (event_named name past) ≡ true) → sets_filter event past file text ≡ None
-file-sets_none past (OfEvent name per_event.Filter) text event none there = rw (other_name past event name none (there name refl)) refl
+-- nor set its filter
+file-sets_none : (past : List Request) (file : File) (text event : List ℕ) → event_named event past ≡ None → IsOfDeclared past file
+    → sets_filter event past file text ≡ None
+file-sets_none past (OfEvent name per_event.Filter) text event none there = rw (other_name past event name none (there name per_event.Filter refl)) refl
 file-sets_none past (OfInstance top.EventsFilter) text event none there = rw none refl
 file-sets_none past file text event none there = refl
 
--- nor sets its trigger
+-- nor set its trigger
 file-triggers_none : (past : List Request) (file : File) (text : List ℕ) (event : Definition) → event_named event.name past ≡ None
-    → ((name : List ℕ) → file ≡ OfEvent name per_event.Trigger → is_some (event_named name past) ≡ true) → sets_trigger event past file text ≡ None
-file-triggers_none past (OfEvent name per_event.Trigger) text event none there = rw (other_name past event.name name none (there name refl)) refl
+    → IsOfDeclared past file → sets_trigger event past file text ≡ None
+file-triggers_none past (OfEvent name per_event.Trigger) text event none there =
+    rw (other_name past event.name name none (there name per_event.Trigger refl)) refl
 file-triggers_none past file text event none there = refl
 
--- so no request that is done switches it
-not_switched : (g : Config) (past : List Request) (request : Request) (reply : Reply) (name : Option (List ℕ)) (event : List ℕ)
-    → answer_with_room g past request ≡ Ok reply → event_named event past ≡ None → set_by name (switches event past) request ≡ None
-not_switched g past (WriteFile other (Some file) append text) reply name event given none =
-    cond_none (is_same name other) (switches event past file text)
-    (file-switches_none past file text event none
-    (λ n is.
-    let own : answer_with_room g past (WriteFile other (Some (OfEvent n per_event.Enable)) append text) ≡ Ok reply =
-    subst (λ (f : File). answer_with_room g past (WriteFile other (Some f) append text) ≡ Ok reply) is given in
-    is_known _ _ NoSuchEvent NoSuchInstance _ reply own))
-not_switched g past request reply name event given none = refl
-
-not_filtered : (g : Config) (past : List Request) (request : Request) (reply : Reply) (name : Option (List ℕ)) (event : List ℕ)
-    → answer_with_room g past request ≡ Ok reply → event_named event past ≡ None → set_by name (sets_filter event past) request ≡ None
-not_filtered g past (WriteFile other (Some file) append text) reply name event given none =
-    cond_none (is_same name other) (sets_filter event past file text)
-    (file-sets_none past file text event none
-    (λ n is.
-    let own : answer_with_room g past (WriteFile other (Some (OfEvent n per_event.Filter)) append text) ≡ Ok reply =
-    subst (λ (f : File). answer_with_room g past (WriteFile other (Some f) append text) ≡ Ok reply) is given in
-    is_known _ _ NoSuchEvent NoSuchInstance _ reply own))
-not_filtered g past request reply name event given none = refl
-
-not_triggered : (g : Config) (past : List Request) (request : Request) (reply : Reply) (name : Option (List ℕ)) (event : Definition)
-    → answer_with_room g past request ≡ Ok reply → event_named event.name past ≡ None → set_by name (sets_trigger event past) request ≡ None
-not_triggered g past (WriteFile other (Some file) append text) reply name event given none =
-    cond_none (is_same name other) (sets_trigger event past file text)
-    (file-triggers_none past file text event none
-    (λ n is.
-    let own : answer_with_room g past (WriteFile other (Some (OfEvent n per_event.Trigger)) append text) ≡ Ok reply =
-    subst (λ (f : File). answer_with_room g past (WriteFile other (Some f) append text) ≡ Ok reply) is given in
-    is_known _ _ NoSuchEvent NoSuchInstance _ reply own))
-not_triggered g past request reply name event given none = refl
-
-and-false : (b : Bool) → (b && false) ≡ false
-and-false true = refl
-and-false false = refl
-
--- nor writes its trigger file
+-- nor write its trigger file
 not_written : (g : Config) (past : List Request) (request : Request) (reply : Reply) (name : Option (List ℕ)) (event : Definition)
     → answer_with_room g past request ≡ Ok reply → event_named event.name past ≡ None → own_written name event request ≡ None
 not_written g past (WriteFile other (Some (OfEvent n per_event.Trigger)) append text) reply name event given none =
     let differ : bytes_eq event.name n ≡ false = other_name past event.name n none (is_known _ _ NoSuchEvent NoSuchInstance _ reply given) in
-    let unwritten : (is_same name other && bytes_eq event.name n) ≡ false =
-    ap (λ (b : Bool). is_same name other && b) differ ∙ and-false (is_same name other) in
+    let unwritten : (is_same name other && bytes_eq event.name n) ≡ false = and_right (is_same name other) _ differ in
     rw unwritten refl
 not_written g past request reply name event given none = refl
 
--- a setting that no request set keeps its default
+-- a setting that no write to such a file sets keeps its default
+not_set : {A : Type 0} (g : Config) (past : List Request) (request : Request) (reply : Reply) (name : Option (List ℕ)) (sets : File → List ℕ → Option A)
+    → answer_with_room g past request ≡ Ok reply → ((file : File) (text : List ℕ) → IsOfDeclared past file → sets file text ≡ None)
+    → set_by name sets request ≡ None
+not_set g past (WriteFile other (Some file) append text) reply name sets given none =
+    cond_none (is_same name other) (sets file text) (none file text (declared-file g past other file append text reply given))
+not_set g past request reply name sets given none = refl
+
 cond_default : {A : Type 0} (b : Bool) (default : A) (set : Option A) (old : A) → set ≡ None → old ≡ default → cond b default (unwrap_or set old) ≡ default
 cond_default true default set old none is = refl
 cond_default false default set old none is = rw none is
@@ -151,21 +130,21 @@ pub unknown_after : (g : Config) (past : List Request) (request : Request) (repl
     → is_enabled name event (request ∷ past) ≡ false
 unknown_after g past request reply name event given none is =
     cond_default (makes name request) false (set_by name (switches event past) request) (is_enabled name event past)
-    (not_switched g past request reply name event given none) is
+    (not_set g past request reply name (switches event past) given (λ file text. file-switches_none past file text event none)) is
 
 pub unfiltered_after : (g : Config) (past : List Request) (request : Request) (reply : Reply) (name : Option (List ℕ)) (event : List ℕ)
     → answer_with_room g past request ≡ Ok reply → event_named event past ≡ None → filter_of name event past ≡ None
     → filter_of name event (request ∷ past) ≡ None
 unfiltered_after g past request reply name event given none is =
     cond_default (makes name request) None (set_by name (sets_filter event past) request) (filter_of name event past)
-    (not_filtered g past request reply name event given none) is
+    (not_set g past request reply name (sets_filter event past) given (λ file text. file-sets_none past file text event none)) is
 
 pub untriggered_after : (g : Config) (past : List Request) (request : Request) (reply : Reply) (name : Option (List ℕ)) (event : Definition)
     → answer_with_room g past request ≡ Ok reply → event_named event.name past ≡ None → trigger_of name event past ≡ None
     → trigger_of name event (request ∷ past) ≡ None
 untriggered_after g past request reply name event given none is =
     cond_default (makes name request) None (set_by name (sets_trigger event past) request) (trigger_of name event past)
-    (not_triggered g past request reply name event given none) is
+    (not_set g past request reply name (sets_trigger event past) given (λ file text. file-triggers_none past file text event none)) is
 
 pub unwatched_after : (g : Config) (past : List Request) (request : Request) (reply : Reply) (name : Option (List ℕ)) (event : Definition)
     → answer_with_room g past request ≡ Ok reply → event_named event.name past ≡ None → hists_of name event past ≡ []
@@ -242,7 +221,6 @@ new-stands name past request (Triggers index append (MakeHist one)) hists old ne
     (subst (λ (told : Option Action). IsAsked name past request told a.table)
     (ap (λ (same : Bool). (let told : Option Action = if same then Some a.spec.action else None in told)) itself) (asked a.table))
     (came a.table used ∙ ap (λ (same : Bool). if same then Some (kept_table hist) else kept_at a.table old) itself)
-new-stands name past request (Triggers index append change) hists old new came asked joined are all = tt
 new-stands name past request change hists old new came asked joined are all = tt
 
 -- each of the triggers that a change leaves
@@ -315,10 +293,6 @@ pub kept-stands : (g : Config) (name : Option (List ℕ)) (past : List Request) 
     → declares request ≡ None → IsEffect g name past request Keep → InstanceStandsFor g name past i → InstanceStandsFor g name (request ∷ past) i
 kept-stands g name past request i nothing effect stands = effect-stands g name past request Keep i i nothing effect stands (keeps i)
 
-or-false : (b : Bool) → (b || false) ≡ b
-or-false true = refl
-or-false false = refl
-
 -- one more event without a trigger
 spared-more : (g : Config) (name : Option (List ℕ)) (past : List Request) (events : List Definition) (event : Definition) → trigger_of name event past ≡ None
     → IsSpared g name events past → IsSpared g name (events ++ event ∷ []) past
@@ -334,11 +308,11 @@ spared-more g name past events event none spared = record {
     last = rw none refl
 
     without : list_any test (events ++ event ∷ []) ≡ list_any test events
-    without = list_any-append test events (event ∷ []) ∙ ap (λ (b : Bool). list_any test events || b) last ∙ or-false (list_any test events)
+    without = list_any-append test events (event ∷ []) ∙ ap (λ (b : Bool). list_any test events || b) last ∙ or-none (list_any test events)
 
 -- one more event without a hist trigger
 used-more : (number : ℕ) (hists : List (List AttachedHist)) → is_used number (hists ++ [] ∷ []) ≡ is_used number hists
-used-more number hists = list_any-append (uses_table number) hists ([] ∷ []) ∙ or-false (is_used number hists)
+used-more number hists = list_any-append (uses_table number) hists ([] ∷ []) ∙ or-none (is_used number hists)
 
 -- one more event is declared
 pub declared-stands : (g : Config) (name : Option (List ℕ)) (past : List Request) (request : Request) (event : Definition) (i : InstanceSeen)

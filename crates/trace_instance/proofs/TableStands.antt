@@ -141,9 +141,8 @@ row-own table e t own =
         → (if same then map (counted_hit t) (if true && one then e ∷ [] else []) else []) ≡ (if same && other then counted_hit t e ∷ [] else [])
     by true true true agree = refl
     by true false false agree = refl
-    by true true false agree = absurd (cc)
-    by true false true agree = absurd (cc)
     by false one other agree = refl
+    by true one other agree = absurd (cc)
 
 -- one of another event counts none
 row-other : (table : ℕ) (e : Emitted) (t : HistTrigger) → is_of e.k.event t ≡ false → met_in table (Some e) t ≡ []

@@ -1,7 +1,7 @@
 -- What writes to an event's trigger file answer and change of an instance.
 use Rattle.std.proofs.Common.{◌≡◌, ℕ, suc, ◌<◌, ◌==◌, Bool, true, false, if◌then◌else◌, unwrap_or, List, [], ◌∷◌, length, map, get_or, set, is_some, Option, Some, None, Result, Ok, Err, refl, sym, ap, ◌∙◌, subst, eq-eqb, eqb-true}
 use Rattle.std.proofs.lemmas.Bool.{false≢true}
-use Rattle.std.proofs.lemmas.List.{get_or-map, set-get_or}
+use Rattle.std.proofs.lemmas.List.{get_or-map, get_or_default, set-get_or}
 use Rattle.std.proofs.lemmas.Slice.Eq.{bytes_eq-Decides}
 use Rattle.page_ring.specs.Events.{Event}
 use Rattle.trace_format.specs.Catalogs.{AreEvents}
@@ -36,14 +36,14 @@ use Rattle.trace_instance.specs.private.EventLists.{all_hists}
 use Rattle.trace_instance.specs.declared.attach.EventTriggers.{EventTriggers}
 use Rattle.trace_instance.specs.declared.change.InstanceChange.TheVariants.{Triggers}
 use Rattle.trace_instance.specs.declared.change.TriggerChange.{TriggerChange}
-use Rattle.trace_instance.specs.declared.change.TriggerChange.TheVariants.{Keep, Attach, Detach, AttachHist, MakeHist, DetachHist, AskTable}
+use Rattle.trace_instance.specs.declared.change.TriggerChange.TheVariants.{Attach, Detach}
 use Rattle.trace_instance.specs.declared.hists.AttachedHist.{AttachedHist}
 use Rattle.trace_instance.specs.declared.trigger.Trigger.{Trigger}
 use Rattle.trace_instance.specs.declared.write.WrittenText.{WrittenText}
 use Rattle.trace_instance.proofs.Calm.{KeepsTrigger, kept-stays, no_event, same_families, spared-stays, trigger-stays}
 use Rattle.trace_instance.proofs.Effects.{same_instance}
-use Rattle.trace_instance.proofs.EventReads.{name_at-is}
-use Rattle.trace_instance.proofs.Snapshotting.{KeepsSettings, same-at, some-mapped, spare-or-new, spared-new, trigger-keeps}
+use Rattle.trace_instance.proofs.EventReads.{event_at, name-at_place}
+use Rattle.trace_instance.proofs.Snapshotting.{KeepsSettings, some-mapped, spare-or-new, spared-new, trigger-keeps}
 use Rattle.trace_instance.proofs.UsableInstance.{usable-stands}
 use Rattle.trace_instance.proofs.Writes.{other-name}
 
@@ -53,15 +53,11 @@ use Rattle.trace_instance.proofs.Writes.{other-name}
 abbrev pub trigger_request : Option (List ℕ) → List Request → ℕ → Bool → List ℕ → Request
 trigger_request name past index append text = WriteFile name (Some (paths.OfEvent (name_at (declared_events past) index) per_event.Trigger)) append text
 
--- the event
-abbrev event_at : List Request → ℕ → Definition
-event_at past index = get_or (declared_events past) index no_event
-
 -- the event of the file is found by its name
 found-event : (past : List Request) (index : ℕ) → AreEvents [] (declared_events past) → index < length (declared_events past)
     → event_named (name_at (declared_events past) index) past ≡ Some (record { id = suc index; event = event_at past index })
 found-event past index distinct inside =
-    rw (← name_at-is (declared_events past) index no_event inside) (named_at (declared_events past) index no_event distinct inside)
+    rw (name-at_place (declared_events past) index no_event inside) (named_at (declared_events past) index no_event distinct inside)
 
 -- what it sets of the spare
 sets-spare : (name : Option (List ℕ)) (past : List Request) (index : ℕ) (append : Bool) (text : List ℕ) → AreEvents [] (declared_events past)
@@ -105,23 +101,15 @@ trigger-live g name past event append text family = rw (same_instance name) (tri
 -- the triggers after a change of one
 set-changed : (index : ℕ) (append : Bool) (change : TriggerChange) (olds : List (Option Trigger)) (old : Option Trigger) → get_or olds index None ≡ old
     → set olds index (trigger_changed change old) ≡ triggers_after (Triggers index append change) olds
-set-changed index append Keep olds old is = ap (set olds index) (sym is) ∙ set-get_or olds index None
 set-changed index append (Attach trigger) olds old is = refl
 set-changed index append Detach olds old is = refl
-set-changed index append (AttachHist attached) olds old is = ap (set olds index) (sym is) ∙ set-get_or olds index None
-set-changed index append (MakeHist made) olds old is = ap (set olds index) (sym is) ∙ set-get_or olds index None
-set-changed index append (DetachHist at) olds old is = ap (set olds index) (sym is) ∙ set-get_or olds index None
-set-changed index append (AskTable table asked) olds old is = ap (set olds index) (sym is) ∙ set-get_or olds index None
+set-changed index append change olds old is = ap (set olds index) (sym is) ∙ set-get_or olds index None
 
 -- a trigger for snapshots that is there after a change that attaches none was there before it
 some-before : (change : TriggerChange) (old : Option Trigger) → arms change ≡ None → is_some (trigger_changed change old) ≡ true → is_some old ≡ true
-some-before Keep old none some = some
 some-before (Attach trigger) old none some = absurd (cc)
 some-before Detach old none some = absurd (cc)
-some-before (AttachHist attached) old none some = some
-some-before (MakeHist made) old none some = some
-some-before (DetachHist at) old none some = some
-some-before (AskTable table asked) old none some = some
+some-before change old none some = some
 
 pub trigger-effect : (g : Config) (name : Option (List ℕ)) (past : List Request) (index : ℕ) (written : WrittenText) (change : TriggerChange)
     → AreEvents [] (declared_events past) → index < length (declared_events past)
@@ -163,7 +151,7 @@ trigger-effect g name past index written change distinct inside is = record {
 
     same_request : write_of name here written ≡ request
     same_request =
-        ap (λ (n : List ℕ). (let r : Request = WriteFile name (Some (paths.OfEvent n per_event.Trigger)) append text in r)) (name_at-is (declared_events past) index no_event inside)
+        ap (λ (n : List ℕ). (let r : Request = WriteFile name (Some (paths.OfEvent n per_event.Trigger)) append text in r)) (sym (name-at_place (declared_events past) index no_event inside))
 
     settings : KeepsSettings name past request
     settings = trigger-keeps name past (name_at (declared_events past) index) append text
@@ -204,15 +192,10 @@ trigger-effect g name past index written change distinct inside is = record {
     sides : (c : TriggerChange) → set_by name (sets_spare past) request ≡ arms c → IsSpared g name (declared_events past) past
         → side_families g name (request ∷ past)
         ≡ sides_changed g.cpus g.pages g.page_bytes (Triggers index append c) (side_families g name past)
-    sides Keep sets spared = same_sides sets
     sides (Attach trigger) sets spared =
         new_sides sets
         ∙ ap (λ (l : List (List Event)). (let f : SideFamilies = record { live = rings g name past; spare = Some l } in f)) (sym (spare-or-new g name past spared))
-    sides Detach sets spared = same_sides sets
-    sides (AttachHist attached) sets spared = same_sides sets
-    sides (MakeHist made) sets spared = same_sides sets
-    sides (DetachHist at) sets spared = same_sides sets
-    sides (AskTable table asked) sets spared = same_sides sets
+    sides c sets spared = same_sides sets
 
     -- this event has a trigger after it only where it had one
     was_there : (c : TriggerChange) → arms c ≡ None → kept_trigger name (request ∷ past) here ≡ trigger_changed c (kept_trigger name past here)
@@ -241,20 +224,15 @@ trigger-effect g name past index written change distinct inside is = record {
     spared : (c : TriggerChange) → set_by name (sets_spare past) request ≡ arms c
         → kept_trigger name (request ∷ past) here ≡ trigger_changed c (kept_trigger name past here)
         → IsSpared g name (declared_events past) past → IsSpared g name (declared_events past) (request ∷ past)
-    spared Keep sets snapshot = unarmed Keep refl sets snapshot
     spared (Attach trigger) sets snapshot = λ before. spared-new g name past request (there sets)
-    spared Detach sets snapshot = unarmed Detach refl sets snapshot
-    spared (AttachHist attached) sets snapshot = unarmed (AttachHist attached) refl sets snapshot
-    spared (MakeHist made) sets snapshot = unarmed (MakeHist made) refl sets snapshot
-    spared (DetachHist at) sets snapshot = unarmed (DetachHist at) refl sets snapshot
-    spared (AskTable table asked) sets snapshot = unarmed (AskTable table asked) refl sets snapshot
+    spared c sets snapshot = unarmed c refl sets snapshot
 
 -- ---- what it answers
 
 -- the event that was looked up is the one at its index
 at-index : (past : List Request) (index : ℕ) (event : Definition) → index < length (declared_events past) → event ≡ get_or (declared_events past) index event
     → event ≡ event_at past index
-at-index past index event inside at = at ∙ same-at (declared_events past) index event no_event inside
+at-index past index event inside at = at ∙ get_or_default (declared_events past) index event no_event inside
 
 answer-is : (name : Option (List ℕ)) (past : List Request) (index : ℕ) (append : Bool) (text : List ℕ) → AreEvents [] (declared_events past)
     → index < length (declared_events past)
@@ -319,7 +297,7 @@ kept-at g name past i index event triggers stands distinct inside at snapshot hi
   named =
       let here : event ≡ event_at past index = at-index past index event inside at in
       ap (λ (e : Definition). event_named e.name past) here
-      ∙ ap (λ (n : List ℕ). event_named n past) (name_at-is (declared_events past) index no_event inside)
+      ∙ ap (λ (n : List ℕ). event_named n past) (sym (name-at_place (declared_events past) index no_event inside))
       ∙ found-event past index distinct inside
       ∙ ap (λ (e : Definition). (let k : Option NumberedEvent = Some (record { id = suc index; event = e }) in k)) (sym here);
   snapshot = snapshot ∙ ap (λ (ts : List (Option Trigger)). get_or ts index None) stands.triggers

@@ -2,6 +2,7 @@
 use Rattle.std.proofs.Common.{◌≡◌, ℕ, suc, ◌<◌, Bool, true, false, if◌then◌else◌, unwrap_or, List, [], ◌∷◌, length, map, replicate, get_or, Option, Some, None, Ok, Err, refl, sym, ap, ◌∙◌, arith, Vec, Global}
 use Rattle.std.specs.Option.{option_map}
 use Rattle.std.specs.Str.{bytes_eq}
+use Rattle.std.proofs.lemmas.Bool.{false_from_ne_true}
 use Rattle.std.proofs.lemmas.List.{length-map}
 use Rattle.std.proofs.lemmas.Slice.Eq.{bytes_eq-Decides}
 use Rattle.page_ring.specs.Events.{Event}
@@ -27,10 +28,10 @@ use Rattle.trace_instance.specs.private.Commands.{IsWrittenFilter, needed_flag}
 use Rattle.trace_instance.specs.Files.{name_at}
 use Rattle.trace_instance.specs.declared.change.InstanceChange.TheVariants.{Keep, Switch, SwitchAll, SetFilter, SetFilters, ClearFilters, SetOverwrite, SetTracing, Clear, ClearCpu}
 use Rattle.trace_instance.specs.declared.change.FilterChange.{FilterChange}
-use Rattle.trace_instance.proofs.Calm.{quiet-keep}
+use Rattle.trace_instance.proofs.Calm.{no_event, quiet-keep}
 use Rattle.trace_instance.proofs.Effects.{own_write}
 use Rattle.trace_instance.proofs.Filtering.{all-late, changed-map, cleared-all, no-event-refused}
-use Rattle.trace_instance.proofs.EventReads.{name_at-is}
+use Rattle.trace_instance.proofs.EventReads.{name-at_place}
 use Rattle.trace_instance.proofs.UsableInstance.{usable-stands}
 use Rattle.trace_history.proofs.EventLists.{map-agrees, map-constant, map-set, named_at, one_index}
 
@@ -133,21 +134,14 @@ sets-tracing g instance past append text flag needed =
 
 -- an event has its own name, and no other's
 pub own-name : (events : List Definition) (index : ℕ) (d : Definition) → index < length events → bytes_eq (get_or events index d).name (name_at events index) ≡ true
-own-name events index d inside = (bytes_eq-Decides (get_or events index d).name (name_at events index)).1 (name_at-is events index d inside)
+own-name events index d inside = (bytes_eq-Decides (get_or events index d).name (name_at events index)).1 (sym (name-at_place events index d inside))
 
 pub other-name : (events : List Definition) (j index : ℕ) (d : Definition) → AreEvents [] events → j < length events → index < length events → (j ≡ index → ⊥)
     → bytes_eq (get_or events j d).name (name_at events index) ≡ false
-other-name events j index d distinct within inside other = by (bytes_eq (get_or events j d).name (name_at events index)) refl
-  where
-    by : (same : Bool) → bytes_eq (get_or events j d).name (name_at events index) ≡ same → bytes_eq (get_or events j d).name (name_at events index) ≡ false
-    by false is = is
-    by true is =
-        let names : (get_or events j d).name ≡ (get_or events index d).name =
-        (bytes_eq-Decides (get_or events j d).name (name_at events index)).0 is ∙ sym (name_at-is events index d inside) in
-        absurd (other (one_index events j index d d distinct within inside names))
-
-no_event : Definition
-no_event = record { name = []; fields = [] }
+other-name events j index d distinct within inside other = false_from_ne_true (bytes_eq (get_or events j d).name (name_at events index)) (λ is.
+    let names : (get_or events j d).name ≡ (get_or events index d).name =
+    (bytes_eq-Decides (get_or events j d).name (name_at events index)).0 is ∙ name-at_place events index d inside in
+    other (one_index events j index d d distinct within inside names))
 
 pub switches-all : (g : Config) (instance : Option (List ℕ)) (past : List Request) (append : Bool) (text : List ℕ) (flag : Bool) → AreEvents [] (declared_events past)
     → needed_flag (written_flag text) ≡ Ok flag → IsWriteChange g instance past append text (paths.OfInstance top.EventsEnable) (Ok (SwitchAll flag))
@@ -228,7 +222,7 @@ sets-one g instance past append text index event kept distinct inside at written
     name = name_at events index
 
     found : event_named name past ≡ Some (record { id = suc index; event = get_or events index event })
-    found = rw (← name_at-is events index event inside) (named_at events index event distinct inside)
+    found = rw (name-at_place events index event inside) (named_at events index event distinct inside)
 
     done : named_filter_answer text (event_named name past) ≡ Ok reply.Done
     done = rw (found, ← at) written.0
@@ -254,7 +248,7 @@ pub refuses-one : (past : List Request) (text : List ℕ) (index : ℕ) (event :
 refuses-one past text index event refused distinct inside at written =
     let events = declared_events past in
     let found : event_named (name_at events index) past ≡ Some (record { id = suc index; event = get_or events index event }) =
-    rw (← name_at-is events index event inside) (named_at events index event distinct inside) in
+    rw (name-at_place events index event inside) (named_at events index event distinct inside) in
     rw (found, ← at) written
 
 -- ---- the filter of all events

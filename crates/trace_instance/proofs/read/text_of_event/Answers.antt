@@ -40,4 +40,4 @@ returns-in-Format c = λ g name past is.
     let d : Definition = record { name = []; fields = [] } in
     rw c.in-Format.is
     (subst (λ (t : List ℕ). IfOk c.format.result (λ text. text ≡ t))
-    (format-at_place g name past c.args.source c.args.event d is inside) (c.format.ensures d))
+    (format-at_place g name past c.args.source c.args.event is inside d) (c.format.ensures d))

@@ -31,12 +31,12 @@ returns-in-Some-named_by c =
     let attaches : attaching.attaches c.args.spec.action ≡ true = search rules in
     let found : sharing.named_in c.args.spec (sharing.left_of c.args.self c.args.written.append) ≡ Some c.in-Some-named_by.other.now =
     sym c.named_by.ensures ∙ ap option_copied c.in-Some-named_by.is in
-    ask-joined c.args.spec c.args.event.now c.args.self c.args.written c.in-Some-named_by.other.now c.joined.result none attaches
-    c.in_default-check_room.ensures.room found c.joined.ensures
+    ask-joined c.args.spec c.args.event.now c.args.self c.args.written none attaches c.in_default-check_room.ensures.room
+    c.in-Some-named_by.other.now found c.joined.result c.joined.ensures
 
 pub returns-in-None : goal.returns-in-None
 returns-in-None c =
     let none : same_left c.args.spec c.args.self c.args.written.append ≡ None = sym c.in_default.ensures in
     let attaches : attaching.attaches c.args.spec.action ≡ true = search rules in
     let lost : sharing.named_in c.args.spec (sharing.left_of c.args.self c.args.written.append) ≡ None = sym c.named_by.ensures ∙ ap option_copied c.in-None.is in
-    ask-made c.args.spec c.args.event.now c.args.self c.args.written c.made.result none attaches c.in_default-check_room.ensures.room lost c.made.ensures
+    ask-made c.args.spec c.args.event.now c.args.self c.args.written none attaches c.in_default-check_room.ensures.room lost c.made.result c.made.ensures

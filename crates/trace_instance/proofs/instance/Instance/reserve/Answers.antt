@@ -1,4 +1,4 @@
-use Rattle.std.proofs.Common.{◌≡◌, ◌∙◌, List, IfOk, OnErr, ap, subst, sym, to_z, of_z, w32, rules}
+use Rattle.std.proofs.Common.{◌≡◌, ◌∙◌, List, IfOk, OnErr, ap, subst, to_z, of_z, w32, rules}
 use Rattle.std.specs.List.{Any}
 use Rattle.std.proofs.lemmas.Int.{to_z-of_z}
 use Rattle.trace_format.specs.Operands.{Emission}

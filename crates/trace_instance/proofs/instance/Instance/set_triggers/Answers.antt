@@ -1,5 +1,4 @@
-use Rattle.std.proofs.Common.{List, ap, refl, rules, ◌∙◌, sym}
-use Rattle.trace_instance.specs.declared.event.InstanceEvent.{InstanceEvent}
+use Rattle.std.proofs.Common.{List, ap, refl, rules, ◌∙◌}
 use Rattle.trace_instance.specs.declared.hists.AttachedHist.{AttachedHist}
 use Rattle.trace_instance.proofs.HistChanges.{are_set, armed_sides, asked-one, one_of, removed_of, same_sides, unasked, in_place}
 use Rattle.trace_instance.proofs.instance.Instance.set_triggers.Goals as goal
