@@ -8,6 +8,7 @@ mod injection;
 pub mod laws;
 mod listing;
 mod mount;
+mod open_file;
 mod opening;
 mod owed;
 mod parked;

@@ -10,8 +10,8 @@ ghost use Rattle.trace_mount.specs.Told.{empties, known};
 ghost use Rattle.trace_mount.specs.private.ShortReplies.{IsShort};
 
 use crate::errno::{errno_of, errno_of_refused};
-use crate::files::OpenFile;
 use crate::mount::Mount;
+use crate::open_file::OpenFile;
 use crate::told::{empties, may_open};
 use fuse_wire::{Errno, Reply};
 use mount_tree::{File, FileKind, Node, Owner, ToolFile};

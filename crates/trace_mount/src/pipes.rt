@@ -13,8 +13,8 @@ ghost use Rattle.trace_mount.specs.Pipes.{is_dry, is_no, waits_at, would_wait};
 ghost use Rattle.trace_mount.specs.Services.{file_at};
 ghost use Rattle.trace_mount.specs.private.Looks.{pipe_in};
 
-use crate::files::OpenFile;
 use crate::mount::Mount;
+use crate::open_file::OpenFile;
 use mount_tree::{File, Owner};
 use trace_command::{CpuFile, Refusal, TopFile};
 use trace_instance::{File as Opened, Instance, has_waiting};
