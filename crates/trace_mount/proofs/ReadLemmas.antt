@@ -1,5 +1,5 @@
 -- What reads come to.
-use Rattle.std.proofs.Common.{◌≡◌, ℕ, ◌==◌, Bool, true, false, not, ◌&&◌, if◌then◌else◌, List, [], length, drop, min, Option, Some, None, unwrap_or, Result, Ok, Err, refl, sym, ap, ◌∙◌}
+use Rattle.std.proofs.Common.{◌≡◌, ◌≢◌, ℕ, ◌==◌, Bool, true, false, not, ◌&&◌, if◌then◌else◌, List, [], length, drop, min, Option, Some, None, unwrap_or, Result, Ok, Err, refl, sym, ap, ◌∙◌}
 use Rattle.std.specs.Option.{option_and_then, option_map}
 use Rattle.fuse_wire.specs.Replies.{reply_bytes}
 use Rattle.fuse_wire.specs.declared.errno.Errno.{Errno}
@@ -21,11 +21,11 @@ use Rattle.mount_tree.specs.declared.node.Node.TheVariants as nodes
 use Rattle.mount_tree.specs.declared.node.Owner.{Owner}
 use Rattle.trace_mount.specs.Errnos.{errno_of}
 use Rattle.trace_mount.specs.Mounted.{IsAsked, HasLedTo, IsStep, IsTold, MountSeen, service_of, terms_of}
-use Rattle.trace_mount.specs.Served.{Asks, Outcome, Plain, given_records, given_text, makes_text, part_of, plain, read_anew, read_dry, read_file, read_kind, read_new, read_of, read_pipe, read_records, read_text, records_for, taken_records, text_in, told}
+use Rattle.trace_mount.specs.Served.{Asks, Outcome, Plain, given_records, given_text, makes_text, part_of, plain, read_anew, read_dry, read_file, read_kind, read_new, read_of, read_pipe, read_records, records_for, taken_records, text_in, told}
 use Rattle.trace_mount.specs.Pipes.{is_dry, is_used_up}
 use Rattle.trace_mount.specs.Services.{OpenSeen, file_at, text_at, with_change, with_records, with_text}
 use Rattle.trace_mount.specs.declared.parked.Parked.{Parked}
-use Rattle.trace_mount.specs.private.Looks.{IsText}
+use Rattle.trace_mount.specs.private.TextReads.{text_made, text_read}
 use Rattle.trace_mount.specs.Told.{most_data}
 use Rattle.trace_mount.proofs.FileLemmas.{given-text}
 use Rattle.trace_mount.proofs.Steps.{asked-step, plain-step, told-step}
@@ -92,22 +92,21 @@ rest-told past old handle size count text part now unique bytes mounted has is m
     (said ∙ ap (λ (t : List ℕ). reply_bytes unique (replies.Data (part_of 0 size t))) is)
 
 -- a read goes on in the text of a file
-pub on-told : (past : List Request) (old : MountSeen) (scene : SceneSeen) (handle offset size : ℕ) (own : OpenSeen) (text : List ℕ) (unique : ℕ) (bytes : List ℕ)
-    → HasLedTo past old → file_at handle old.files ≡ Some own → Some text ≡ text_at handle old.files → (offset == 0) ≡ false
-    → bytes ≡ reply_bytes unique (replies.Data (part_of offset size text))
-    → IsTold past old old (read_text scene handle offset size own old.files) unique bytes
-on-told past old scene handle offset size own text unique bytes mounted found has later said =
+pub on-told : (past : List Request) (old : MountSeen) (read : Parked) (offset : ℕ) (own : OpenSeen) (text bytes : List ℕ) → HasLedTo past old
+    → file_at read.handle old.files ≡ Some own → Some text ≡ text_at read.handle old.files → (offset == 0) ≡ false
+    → bytes ≡ reply_bytes read.unique (replies.Data (part_of offset read.size text))
+    → IsTold past old old (text_read (terms_of old) (service_of past old) old.scene read offset own) read.unique bytes
+on-told past old read offset own text bytes mounted found has later said =
     let there : own.text ≡ Some text =
     sym (has ∙ ap (λ (o : Option OpenSeen). option_and_then (λ (file : OpenSeen). file.text) o) found) in
-    rw (later, there) (plain-told past old (replies.Data (part_of offset size text)) unique bytes mounted said)
+    rw (later, there) (plain-told past old (replies.Data (part_of offset read.size text)) read.unique bytes mounted said)
 
 -- the text of a file is made
-pub anew-told : (past : List Request) (old new : MountSeen) (scene : SceneSeen) (handle offset size : ℕ) (own : OpenSeen) (owner : Owner) (file : File)
-    (files : List (Option OpenSeen)) (unique : ℕ) (bytes : List ℕ) → makes_text offset own ≡ true → own.owner ≡ owner → own.file ≡ file
-    → IsTold past old new (read_anew scene handle offset size (nodes.File owner file) files) unique bytes
-    → IsTold past old new (read_text scene handle offset size own files) unique bytes
-anew-told past old new scene handle offset size own owner file files unique bytes makes is_owner is_file told =
-    rw (makes, is_owner, is_file) told
+pub anew-told : (past : List Request) (old new : MountSeen) (read : Parked) (offset : ℕ) (own : OpenSeen) (owner : Owner) (file : File) (bytes : List ℕ)
+    → makes_text offset own ≡ true → own.owner ≡ owner → own.file ≡ file
+    → IsTold past old new (text_made (terms_of old) (service_of past old) old.scene read offset owner file (kind_of_file file)) read.unique bytes
+    → IsTold past old new (text_read (terms_of old) (service_of past old) old.scene read offset own) read.unique bytes
+anew-told past old new read offset own owner file bytes makes is_owner is_file told = rw (makes, is_owner, is_file) told
 
 -- no text was made before
 pub makes-first : (offset : ℕ) (handle : ℕ) (own : OpenSeen) (files : List (Option OpenSeen)) → file_at handle files ≡ Some own
@@ -135,17 +134,23 @@ kind-told past old new read offset flags own kind bytes has is told = rw (sym ha
 
 -- of a file that is no pipe
 pub text-told : (past : List Request) (old new : MountSeen) (read : Parked) (offset flags : ℕ) (own : OpenSeen) (kind : FileKind) (bytes : List ℕ)
-    → HasLedTo past old → Some own ≡ file_at read.handle old.files → kind ≡ kind_of_file own.file → IsText kind
-    → IsTold past old new (read_text old.scene read.handle offset read.size own old.files) read.unique bytes
+    → HasLedTo past old → Some own ≡ file_at read.handle old.files → kind ≡ kind_of_file own.file → kind ≢ kinds.Pipe → kind ≢ kinds.Inject
+    → IsTold past old new (text_read (terms_of old) (service_of past old) old.scene read offset own) read.unique bytes
     → IsTold past old new (read_file (terms_of old) (service_of past old) read offset flags (file_at read.handle old.files)) read.unique bytes
-text-told past old new read offset flags own kinds.Text bytes mounted has is text told =
-    kind-told past old new read offset flags own kinds.Text bytes has is (rw (sym mounted.scene) told)
-text-told past old new read offset flags own kinds.Trace bytes mounted has is text told =
-    kind-told past old new read offset flags own kinds.Trace bytes has is (rw (sym mounted.scene) told)
-text-told past old new read offset flags own kinds.Pipe bytes mounted has is text told = absurd text
-text-told past old new read offset flags own kinds.Inject bytes mounted has is text told = absurd text
-text-told past old new read offset flags own kinds.Tool bytes mounted has is text told = absurd text
-text-told past old new read offset flags own kinds.ErrorLog bytes mounted has is text told = absurd text
+text-told past old new read offset flags own kind bytes mounted has is no_pipe no_inject told =
+    kind-told past old new read offset flags own kind bytes has is (by kind no_pipe no_inject (rw (sym is) at told))
+  where
+    by : (kind : FileKind) → kind ≢ kinds.Pipe → kind ≢ kinds.Inject
+        → IsTold past old new (if makes_text offset own
+        then text_made (terms_of old) (service_of past old) old.scene read offset own.owner own.file kind
+        else plain (replies.Data (part_of offset read.size (unwrap_or own.text []))) old.files) read.unique bytes
+        → IsTold past old new (read_kind (terms_of old) (service_of past old) read offset flags own kind) read.unique bytes
+    by kinds.Text no_pipe no_inject told = rw (sym mounted.scene) told
+    by kinds.Trace no_pipe no_inject told = rw (sym mounted.scene) told
+    by kinds.Tool no_pipe no_inject told = told
+    by kinds.ErrorLog no_pipe no_inject told = told
+    by kinds.Pipe no_pipe no_inject told = absurd (no_pipe refl)
+    by kinds.Inject no_pipe no_inject told = absurd (no_inject refl)
 
 -- ---- READ of a pipe
 

@@ -1,6 +1,5 @@
 -- Reads and writes of files that tools ask for, and `set_event` that is opened to be emptied.
-use Rattle.std.proofs.Common.{◌≡◌, ℕ, ◌==◌, true, false, List, Option, Some, None, Result, refl, sym, ap, ◌∙◌, inl}
-use Rattle.std.specs.Option.{option_and_then}
+use Rattle.std.proofs.Common.{◌≡◌, ℕ, List, Option, Some, None, Result, refl, sym, ap, inl}
 use Rattle.fuse_wire.specs.Replies.{reply_bytes}
 use Rattle.fuse_wire.specs.declared.errno.Errno.TheVariants.{ENOENT, ENOMEM}
 use Rattle.fuse_wire.specs.declared.reply.Reply.{Reply}
@@ -8,14 +7,9 @@ use Rattle.fuse_wire.specs.declared.reply.Reply.TheVariants as replies
 use Rattle.trace_command.specs.Requests.{Request}
 use Rattle.trace_command.specs.declared.command.Reply.{Reply as Answer}
 use Rattle.trace_command.specs.declared.refusal.Refusal.{Refusal}
-use Rattle.error_log.specs.Logs.{log_text}
-use Rattle.mount_tree.specs.declared.file.File.{File}
-use Rattle.mount_tree.specs.declared.node.Owner.{Owner}
-use Rattle.mount_stub_files.specs.ToolTexts.{tool_text}
-use Rattle.trace_mount.specs.Mounted.{HasLedTo, IsAsked, IsStep, IsTold, MountSeen, service_of, terms_of}
-use Rattle.trace_mount.specs.Served.{Asks, Outcome, Takes, given_tool, makes_text, part_of, read_log, read_shown, read_tool, taking, told}
-use Rattle.trace_mount.specs.Services.{OpenSeen, file_at, text_at, with_text}
-use Rattle.trace_mount.proofs.ReadLemmas.{plain-told}
+use Rattle.trace_mount.specs.Mounted.{HasLedTo, IsAsked, IsStep, IsTold, MountSeen}
+use Rattle.trace_mount.specs.Served.{Asks, Outcome, Takes, given_tool, part_of, taking, told}
+use Rattle.trace_mount.specs.Services.{OpenSeen, with_text}
 use Rattle.trace_mount.proofs.Steps.{asked-step, memory-step, told-step}
 
 -- nothing is asked, and memory was there
@@ -57,45 +51,6 @@ tool-refused past old handle offset size None unique bytes mounted said =
 tool-refused past old handle offset size (Some text) unique bytes mounted said =
     told-step past old old (taking (replies.Data (part_of offset size text)) (with_text text handle old.files)) unique bytes (replies.Error ENOMEM)
     (memory-step past old _ mounted) said
-
--- a read goes on in the text
-pub shown-on : (past : List Request) (old : MountSeen) (handle offset size : ℕ) (own : OpenSeen) (shown : Option (List ℕ)) (text : List ℕ) (unique : ℕ)
-    (bytes : List ℕ)
-    → HasLedTo past old → file_at handle old.files ≡ Some own → Some text ≡ text_at handle old.files → (offset == 0) ≡ false
-    → bytes ≡ reply_bytes unique (replies.Data (part_of offset size text))
-    → IsTold past old old (read_shown handle offset size own old.files shown) unique bytes
-shown-on past old handle offset size own shown text unique bytes mounted found has later said =
-    let there : own.text ≡ Some text =
-    sym (has ∙ ap (λ (o : Option OpenSeen). option_and_then (λ (file : OpenSeen). file.text) o) found) in
-    rw (later, there) (plain-told past old (replies.Data (part_of offset size text)) unique bytes mounted said)
-
-pub tool-on : (past : List Request) (old : MountSeen) (handle offset size : ℕ) (own : OpenSeen) (text : List ℕ) (unique : ℕ) (bytes : List ℕ)
-    → HasLedTo past old → file_at handle old.files ≡ Some own → Some text ≡ text_at handle old.files → (offset == 0) ≡ false
-    → bytes ≡ reply_bytes unique (replies.Data (part_of offset size text))
-    → IsTold past old old (read_tool (terms_of old) (service_of past old) handle offset size own) unique bytes
-tool-on past old handle offset size own text unique bytes mounted found has later said =
-    shown-on past old handle offset size own (tool_text old.live.config past own.owner own.file) text unique bytes mounted found has later said
-
-pub log-on : (past : List Request) (old : MountSeen) (handle offset size : ℕ) (own : OpenSeen) (text : List ℕ) (unique : ℕ) (bytes : List ℕ)
-    → HasLedTo past old → file_at handle old.files ≡ Some own → Some text ≡ text_at handle old.files → (offset == 0) ≡ false
-    → bytes ≡ reply_bytes unique (replies.Data (part_of offset size text))
-    → IsTold past old old (read_log (service_of past old) handle offset size own) unique bytes
-log-on past old handle offset size own text unique bytes mounted found has later said =
-    shown-on past old handle offset size own (Some (log_text own.owner old.errors)) text unique bytes mounted found has later said
-
--- the text is made
-pub log-anew : (past : List Request) (old new : MountSeen) (handle offset size : ℕ) (own : OpenSeen) (owner : Owner) (unique : ℕ) (bytes : List ℕ)
-    → makes_text offset own ≡ true → own.owner ≡ owner
-    → IsTold past old new (given_tool handle offset size old.files (Some (log_text owner old.errors))) unique bytes
-    → IsTold past old new (read_log (service_of past old) handle offset size own) unique bytes
-log-anew past old new handle offset size own owner unique bytes makes is_owner told = rw (makes, is_owner) told
-
-pub tool-anew : (past : List Request) (old new : MountSeen) (handle offset size : ℕ) (own : OpenSeen) (owner : Owner) (file : File) (unique : ℕ)
-    (bytes : List ℕ) → makes_text offset own ≡ true → own.owner ≡ owner → own.file ≡ file
-    → IsTold past old new (given_tool handle offset size old.files (tool_text old.live.config past owner file)) unique bytes
-    → IsTold past old new (read_tool (terms_of old) (service_of past old) handle offset size own) unique bytes
-tool-anew past old new handle offset size own owner file unique bytes makes is_owner is_file told =
-    rw (makes, is_owner, is_file) told
 
 -- ---- OPEN
 

@@ -3,3 +3,4 @@ pub mod StillReplies
 pub mod Pushed
 pub mod ShortReplies
 pub mod Looks
+pub mod TextReads

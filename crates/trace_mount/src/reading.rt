@@ -4,14 +4,14 @@ ghost use Rattle.std.specs.Prelude.{◌≡◌, ◌≤◌, ℕ, [], List, Some, v
 ghost use Rattle.fuse_wire.specs.Replies.{reply_bytes};
 ghost use Rattle.fuse_wire.specs.declared.reply.Reply.TheVariants as replies;
 ghost use Rattle.trace_command.specs.Requests.{Request};
+ghost use Rattle.mount_tree.specs.FileKinds.{kind_of_file};
 ghost use Rattle.mount_tree.specs.declared.node.Node.TheVariants as nodes;
-ghost use Rattle.mount_tree.specs.NodePaths.{owner_name};
-ghost use Rattle.trace_history.specs.Settings.{is_tracing};
 ghost use Rattle.error_log.specs.Logs.{log_text};
 ghost use Rattle.mount_stub_files.specs.ToolTexts.{tool_text};
 ghost use Rattle.trace_mount.specs.Mounted.{HasLedTo, IsTold, TellsBy, most_reply, service_of, terms_of};
-ghost use Rattle.trace_mount.specs.Served.{Parks, Plain, given_records, given_tool, is_nonblocking as nonblocking, part_of, read_anew as anew, read_dry as dry_step, read_file, read_log as log_step, read_pipe as pipe_step, read_records as taking, read_text as text_step, read_tool as tool_step, records_for as records, text_in as text_of};
-ghost use Rattle.trace_mount.specs.Services.{OpenSeen, file_at, text_at};
+ghost use Rattle.trace_mount.specs.Served.{Parks, Plain, given_records, given_tool, is_nonblocking as nonblocking, part_of, read_anew as anew, read_dry as dry_step, read_file, read_pipe as pipe_step, read_records as taking, records_for as records, text_in as text_of};
+ghost use Rattle.trace_mount.specs.Services.{OpenSeen, file_at, text_at, with_text};
+ghost use Rattle.trace_mount.specs.private.TextReads.{text_made, text_read};
 
 use crate::errno::errno_of;
 use crate::mount::Mount;
@@ -64,145 +64,98 @@ impl Mount {
         };
         let owner = open_file.owner();
         let file = open_file.file();
-        let (unique, handle, size) = (read.unique, read.handle, read.size);
         match file.kind() {
             FileKind::Pipe => {
                 let has_read = open_file.has_read();
                 self.read_pipe(read, flags, owner, file, has_read, out);
             }
-            FileKind::Inject => tell_error(unique, Errno::EACCES, out),
-            FileKind::Tool => self.read_tool(unique, handle, owner, file, offset, size, out),
-            FileKind::ErrorLog => self.read_log(unique, handle, owner, offset, size, out),
-            FileKind::Text => self.read_text(unique, handle, owner, file, offset, size, out),
-            FileKind::Trace => self.read_text(unique, handle, owner, file, offset, size, out),
+            FileKind::Inject => tell_error(read.unique, Errno::EACCES, out),
+            _ => self.read_text(read, owner, file, offset, out),
         }
     }
 
-    // READ of a file that is no pipe.
-    fn read_text(
-        &mut self,
-        unique: u64,
-        handle: u64,
-        owner: Owner,
-        file: File,
-        offset: u64,
-        size: u32,
-        out: &mut Vec<u8>,
-    )
+    // READ of a file that is no pipe: it goes on in the text that an earlier read made, or makes it.
+    fn read_text(&mut self, read: Parked, owner: Owner, file: File, offset: u64, out: &mut Vec<u8>)
         requires room { most_reply ≤ vec_capacity out.old }
-        ensures told { (past : List Request) (own : OpenSeen) → HasLedTo past self.old → file_at handle self.old.files ≡ Some own
-            → own.owner ≡ owner → own.file ≡ file
-            → IsTold past self.old self.new (text_step self.old.scene handle offset size own self.old.files) unique out.new.items }
+        ensures told { (past : List Request) (own : OpenSeen) → HasLedTo past self.old → file_at read.handle self.old.files ≡ Some own
+            → own.owner ≡ owner → own.file ≡ file → IsTold past self.old self.new
+            (text_read (terms_of self.old) (service_of past self.old) self.old.scene read offset own) read.unique out.new.items }
         ensures capacity { vec_capacity out.old ≤ vec_capacity out.new }
     {
         if offset == 0 {
-            return self.read_anew(unique, handle, owner, file, offset, size, out);
+            return self.make_text(read, owner, file, offset, out);
         }
-        match self.files.text(handle) {
-            Some(text) => tell_part(unique, text, offset, size, out),
-            None => self.read_anew(unique, handle, owner, file, offset, size, out),
+        match self.files.text(read.handle) {
+            Some(text) => tell_part(read.unique, text, offset, read.size, out),
+            None => self.make_text(read, owner, file, offset, out),
         }
     }
 
-    // READ of a file that tools ask for.
-    fn read_tool(
-        &mut self,
-        unique: u64,
-        handle: u64,
-        owner: Owner,
-        file: File,
-        offset: u64,
-        size: u32,
-        out: &mut Vec<u8>,
-    )
+    // Makes the text of a file that is no pipe.
+    fn make_text(&mut self, read: Parked, owner: Owner, file: File, offset: u64, out: &mut Vec<u8>)
         requires room { most_reply ≤ vec_capacity out.old }
-        ensures told { (past : List Request) (own : OpenSeen) → HasLedTo past self.old → file_at handle self.old.files ≡ Some own
-            → own.owner ≡ owner → own.file ≡ file
-            → IsTold past self.old self.new (tool_step (terms_of self.old) (service_of past self.old) handle offset size own) unique out.new.items }
+        ensures told { (past : List Request) → HasLedTo past self.old → IsTold past self.old self.new
+            (text_made (terms_of self.old) (service_of past self.old) self.old.scene read offset owner file (kind_of_file file)) read.unique out.new.items }
         ensures capacity { vec_capacity out.old ≤ vec_capacity out.new }
     {
-        if offset == 0 {
-            return self.read_tool_anew(unique, handle, owner, file, offset, size, out);
-        }
-        match self.files.text(handle) {
-            Some(text) => tell_part(unique, text, offset, size, out),
-            None => self.read_tool_anew(unique, handle, owner, file, offset, size, out),
+        match file.kind() {
+            FileKind::Tool => self.read_tool(read, owner, file, offset, out),
+            FileKind::ErrorLog => self.read_log(read, owner, offset, out),
+            FileKind::Text | FileKind::Trace | FileKind::Pipe | FileKind::Inject => {
+                self.read_anew(read, owner, file, offset, out);
+            }
         }
     }
 
     // Makes the text of a file that tools ask for.
-    fn read_tool_anew(
-        &mut self,
-        unique: u64,
-        handle: u64,
-        owner: Owner,
-        file: File,
-        offset: u64,
-        size: u32,
-        out: &mut Vec<u8>,
-    )
+    fn read_tool(&mut self, read: Parked, owner: Owner, file: File, offset: u64, out: &mut Vec<u8>)
         requires room { most_reply ≤ vec_capacity out.old }
         ensures told { (past : List Request) → HasLedTo past self.old → IsTold past self.old self.new
-            (given_tool handle offset size self.old.files (tool_text self.old.live.config past owner file)) unique out.new.items }
+            (given_tool read.handle offset read.size self.old.files (tool_text self.old.live.config past owner file)) read.unique out.new.items }
         ensures capacity { vec_capacity out.old ≤ vec_capacity out.new }
     {
         match mount_stub_files::text_of(self.alloc, &self.live, &self.scene, owner, file) {
-            Ok(Some(text)) => {
-                tell_part(unique, text.as_bytes(), offset, size, out);
-                self.files.keep_text(handle, text);
-            }
-            Ok(None) => tell_error(unique, Errno::ENOENT, out),
-            Err(_) => tell_error(unique, Errno::ENOMEM, out),
-        }
-    }
-
-    // READ of `error_log`.
-    fn read_log(
-        &mut self,
-        unique: u64,
-        handle: u64,
-        owner: Owner,
-        offset: u64,
-        size: u32,
-        out: &mut Vec<u8>,
-    )
-        requires room { most_reply ≤ vec_capacity out.old }
-        ensures told { (past : List Request) (own : OpenSeen) → HasLedTo past self.old → file_at handle self.old.files ≡ Some own
-            → own.owner ≡ owner
-            → IsTold past self.old self.new (log_step (service_of past self.old) handle offset size own) unique out.new.items }
-        ensures capacity { vec_capacity out.old ≤ vec_capacity out.new }
-    {
-        if offset == 0 {
-            return self.read_log_anew(unique, handle, owner, offset, size, out);
-        }
-        match self.files.text(handle) {
-            Some(text) => tell_part(unique, text, offset, size, out),
-            None => self.read_log_anew(unique, handle, owner, offset, size, out),
+            Ok(Some(text)) => self.give_text(read, text, offset, out),
+            Ok(None) => tell_error(read.unique, Errno::ENOENT, out),
+            Err(_) => tell_error(read.unique, Errno::ENOMEM, out),
         }
     }
 
     // Makes the text of `error_log`.
-    fn read_log_anew(
-        &mut self,
-        unique: u64,
-        handle: u64,
-        owner: Owner,
-        offset: u64,
-        size: u32,
-        out: &mut Vec<u8>,
-    )
+    fn read_log(&mut self, read: Parked, owner: Owner, offset: u64, out: &mut Vec<u8>)
         requires room { most_reply ≤ vec_capacity out.old }
         ensures told { TellsBy self.old self.new
-            (given_tool handle offset size self.old.files (Some (log_text owner self.old.errors))) unique out.new.items }
+            (given_tool read.handle offset read.size self.old.files (Some (log_text owner self.old.errors))) read.unique out.new.items }
         ensures capacity { vec_capacity out.old ≤ vec_capacity out.new }
     {
         match self.errors.text(self.alloc, owner) {
-            Ok(text) => {
-                tell_part(unique, text.as_bytes(), offset, size, out);
-                self.files.keep_text(handle, text);
-            }
-            Err(_) => tell_error(unique, Errno::ENOMEM, out),
+            Ok(text) => self.give_text(read, text, offset, out),
+            Err(_) => tell_error(read.unique, Errno::ENOMEM, out),
         }
+    }
+
+    // Makes the text of any other file: asks the tracer.
+    fn read_anew(&mut self, read: Parked, owner: Owner, file: File, offset: u64, out: &mut Vec<u8>)
+        requires room { most_reply ≤ vec_capacity out.old }
+        ensures told { TellsBy self.old self.new
+            (anew self.old.scene read.handle offset read.size (nodes.File owner file) self.old.files) read.unique out.new.items }
+        ensures capacity { vec_capacity out.old ≤ vec_capacity out.new }
+    {
+        match self.ask_read(owner, file, None) {
+            Ok(answer) => self.give_text(read, text_in(self.alloc, answer), offset, out),
+            Err(refusal) => tell_error(read.unique, errno_of(&refusal), out),
+        }
+    }
+
+    // Gives a part of a text that was just made, in which later reads go on.
+    fn give_text(&mut self, read: Parked, text: Text, offset: u64, out: &mut Vec<u8>)
+        requires room { most_reply ≤ vec_capacity out.old }
+        ensures kept { self.new ≡ record self.old { files = with_text text read.handle self.old.files } }
+        ensures bytes { out.new.items ≡ reply_bytes read.unique (replies.Data (part_of offset read.size text)) }
+        ensures capacity { vec_capacity out.old ≤ vec_capacity out.new }
+    {
+        tell_part(read.unique, text.as_bytes(), offset, read.size, out);
+        self.files.keep_text(read.handle, text);
     }
 
     // READ of a pipe.
@@ -224,14 +177,14 @@ impl Mount {
         ensures capacity { vec_capacity out.old ≤ vec_capacity out.new }
     {
         if !self.files.rest(read.handle).is_empty() {
-            return self.read_rest(read.unique, read.handle, read.size, out);
+            return self.read_rest(read, out);
         }
         match self.dry_pipe(owner, file) {
             Some(tracing) => {
                 let ends = has_read && !tracing;
                 self.read_dry(read, flags, ends, out);
             }
-            None => self.read_records(read.unique, read.handle, owner, file, read.size, out),
+            None => self.read_records(read, owner, file, out),
         }
     }
 
@@ -263,67 +216,34 @@ impl Mount {
         };
     }
 
-    // Makes the text of a file.
-    fn read_anew(
-        &mut self,
-        unique: u64,
-        handle: u64,
-        owner: Owner,
-        file: File,
-        offset: u64,
-        size: u32,
-        out: &mut Vec<u8>,
-    )
-        requires room { most_reply ≤ vec_capacity out.old }
-        ensures told { TellsBy self.old self.new
-            (anew self.old.scene handle offset size (nodes.File owner file) self.old.files) unique out.new.items }
-        ensures capacity { vec_capacity out.old ≤ vec_capacity out.new }
-    {
-        match self.ask_read(owner, file, None) {
-            Ok(answer) => {
-                let text = text_in(self.alloc, answer);
-                tell_part(unique, text.as_bytes(), offset, size, out);
-                self.files.keep_text(handle, text);
-            }
-            Err(refusal) => tell_error(unique, errno_of(&refusal), out),
-        }
-    }
-
     // Gives what was kept of a pipe.
-    fn read_rest(&mut self, unique: u64, handle: u64, size: u32, out: &mut Vec<u8>)
+    fn read_rest(&mut self, read: Parked, out: &mut Vec<u8>)
         requires room { most_reply ≤ vec_capacity out.old }
-        ensures told { (past : List Request) (text : List ℕ) → HasLedTo past self.old → text_at handle self.old.files ≡ Some text
-            → IsTold past self.old self.new (Plain (given_records handle size text self.old.files)) unique out.new.items }
+        ensures told { (past : List Request) (text : List ℕ) → HasLedTo past self.old → text_at read.handle self.old.files ≡ Some text
+            → IsTold past self.old self.new (Plain (given_records read.handle read.size text self.old.files)) read.unique out.new.items }
         ensures capacity { vec_capacity out.old ≤ vec_capacity out.new }
     {
-        let text = self.files.rest(handle);
-        tell_part(unique, text, 0, size, out);
-        self.files.give(handle, size.min(MOST_DATA) as usize);
+        let text = self.files.rest(read.handle);
+        tell_part(read.unique, text, 0, read.size, out);
+        self.files
+            .give(read.handle, read.size.min(MOST_DATA) as usize);
     }
 
     // Takes records of a pipe.
-    fn read_records(
-        &mut self,
-        unique: u64,
-        handle: u64,
-        owner: Owner,
-        file: File,
-        size: u32,
-        out: &mut Vec<u8>,
-    )
+    fn read_records(&mut self, read: Parked, owner: Owner, file: File, out: &mut Vec<u8>)
         requires room { most_reply ≤ vec_capacity out.old }
         ensures told { TellsBy self.old self.new
-            (taking self.old.scene handle size (nodes.File owner file) self.old.files) unique out.new.items }
+            (taking self.old.scene read.handle read.size (nodes.File owner file) self.old.files) read.unique out.new.items }
         ensures capacity { vec_capacity out.old ≤ vec_capacity out.new }
     {
-        match self.ask_read(owner, file, Some(records_for(size))) {
+        match self.ask_read(owner, file, Some(records_for(read.size))) {
             Ok(answer) => {
                 let text = text_in(self.alloc, answer);
-                tell_part(unique, text.as_bytes(), 0, size, out);
+                tell_part(read.unique, text.as_bytes(), 0, read.size, out);
                 self.files
-                    .keep_records(handle, text, size.min(MOST_DATA) as usize);
+                    .keep_records(read.handle, text, read.size.min(MOST_DATA) as usize);
             }
-            Err(refusal) => tell_error(unique, errno_of(&refusal), out),
+            Err(refusal) => tell_error(read.unique, errno_of(&refusal), out),
         }
     }
 }

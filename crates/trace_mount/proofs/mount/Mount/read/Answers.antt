@@ -31,38 +31,11 @@ returns-in-Pipe-clause-told c =
     (told past c.in-Some.open_file.now mounted (sym c.in-Some.ensures) (sym c.owner-owner.ensures) (sym c.file-file.ensures)
     (sym c.has_read-has_read.ensures)))
 
-pub returns-in-Tool-clause-told : goal.returns-in-Tool-clause-told
-returns-in-Tool-clause-told c =
-    let is = rw c.file-file.ensures at c.in-Tool.ensures in
-    let told = rw (← c.self.view_is) at c.read_tool.ensures.told in
-    rw (← c.self.view_is) (λ past mounted.
-    kind-told past (the_view c.self.inside) c.read_tool.new.self c.args.read c.args.offset c.args.flags c.in-Some.open_file.now
-    kinds.Tool c.read_tool.new.out.items c.in-Some.ensures is
-    (told past c.in-Some.open_file.now mounted (sym c.in-Some.ensures) (sym c.owner-owner.ensures) (sym c.file-file.ensures)))
-
-pub returns-in-ErrorLog-clause-told : goal.returns-in-ErrorLog-clause-told
-returns-in-ErrorLog-clause-told c =
-    let is = rw c.file-file.ensures at c.in-ErrorLog.ensures in
-    let told = rw (← c.self.view_is) at c.read_log.ensures.told in
-    rw (← c.self.view_is) (λ past mounted.
-    kind-told past (the_view c.self.inside) c.read_log.new.self c.args.read c.args.offset c.args.flags c.in-Some.open_file.now
-    kinds.ErrorLog c.read_log.new.out.items c.in-Some.ensures is
-    (told past c.in-Some.open_file.now mounted (sym c.in-Some.ensures) (sym c.owner-owner.ensures)))
-
-pub returns-in-Text-clause-told : goal.returns-in-Text-clause-told
-returns-in-Text-clause-told c =
-    let is = rw c.file-file.ensures at c.in-Text.ensures in
+pub returns-in_default-kind-clause-told : goal.returns-in_default-kind-clause-told
+returns-in_default-kind-clause-told c =
+    let is = rw c.file-file.ensures at c.kind.ensures in
     let told = rw (← c.self.view_is) at c.read_text.ensures.told in
     rw (← c.self.view_is) (λ past mounted.
-    text-told past (the_view c.self.inside) c.read_text.new.self c.args.read c.args.offset c.args.flags c.in-Some.open_file.now
-    kinds.Text c.read_text.new.out.items mounted c.in-Some.ensures is tt
-    (told past c.in-Some.open_file.now mounted (sym c.in-Some.ensures) (sym c.owner-owner.ensures) (sym c.file-file.ensures)))
-
-pub returns-in-Trace-clause-told : goal.returns-in-Trace-clause-told
-returns-in-Trace-clause-told c =
-    let is = rw c.file-file.ensures at c.in-Trace.ensures in
-    let told = rw (← c.self.view_is) at c.read_text-in-Trace.ensures.told in
-    rw (← c.self.view_is) (λ past mounted.
-    text-told past (the_view c.self.inside) c.read_text-in-Trace.new.self c.args.read c.args.offset c.args.flags c.in-Some.open_file.now
-    kinds.Trace c.read_text-in-Trace.new.out.items mounted c.in-Some.ensures is tt
+    text-told past (the_view c.self.inside) c.read_text.new.self c.args.read c.args.offset c.args.flags c.in-Some.open_file.now c.kind.result
+    c.read_text.new.out.items mounted c.in-Some.ensures is c.in_default-kind.not-Pipe c.in_default-kind.not-Inject
     (told past c.in-Some.open_file.now mounted (sym c.in-Some.ensures) (sym c.owner-owner.ensures) (sym c.file-file.ensures)))

@@ -6,6 +6,6 @@ use Rattle.trace_mount.proofs.mount.Mount.read_rest.Goals as goal
 pub returns-clause-told : goal.returns-clause-told
 returns-clause-told c =
     rw (← c.self.view_is) (λ past text mounted has.
-    rest-told past (the_view c.self.inside) c.args.handle c.args.size c.min.result text c.rest-text.result.now c.give.new.self c.args.unique
+    rest-told past (the_view c.self.inside) c.args.read.handle c.args.read.size c.min.result text c.rest-text.result.now c.give.new.self c.args.read.unique
     c.tell_part.new.out.items mounted has (c.rest-text.ensures ∙ ap (λ (o : Option (List ℕ)). unwrap_or o []) has) c.min.ensures c.give.ensures
     c.tell_part.ensures.bytes)

@@ -1,22 +1,30 @@
-use Rattle.std.proofs.Common.{◌≡◌, ◌==◌, false, arith}
-use Rattle.std.proofs.lemmas.Bool.Decides.{nat_tests}
+use Rattle.std.proofs.Common.{refl, sym, ◌∙◌}
+use Rattle.mount_stub_files.specs.ToolTexts.{tool_text}
+use Rattle.trace_mount.specs.Services.{with_text}
 use Rattle.trace_mount.specs.contracts.mount.Mount.{the_view}
-use Rattle.trace_mount.proofs.ReadLemmas.{makes-first}
-use Rattle.trace_mount.proofs.ToolLemmas.{tool-anew, tool-on}
+use Rattle.trace_mount.proofs.ToolLemmas.{tool-made, tool-missing, tool-refused}
 use Rattle.trace_mount.proofs.mount.Mount.read_tool.Goals as goal
 
-pub returns-in-Some-clause-told : goal.returns-in-Some-clause-told
-returns-in-Some-clause-told c =
-    let later : (c.args.offset == 0) ≡ false = grind (arith, nat_tests, c.if-offset-eq0.false) in
-    rw (← c.self.view_is) (λ past own mounted found owner file.
-    tool-on past (the_view c.self.inside) c.args.handle c.args.offset c.args.size own c.in-Some.text.now c.args.unique
-    c.tell_part.new.out.items mounted found c.in-Some.ensures later c.tell_part.ensures.bytes)
+pub returns-in-Ok-Some-clause-told : goal.returns-in-Ok-Some-clause-told
+returns-in-Ok-Some-clause-told c =
+    let kept = rw (← c.self.view_is) at c.give_text.ensures.kept in
+    rw (← c.self.view_is, kept) (λ past mounted.
+    let old = the_view c.self.inside in
+    tool-made past old c.args.read.handle c.args.offset c.args.read.size (tool_text old.live.config past c.args.owner c.args.file) c.in-Ok-Some.text
+    (with_text c.in-Ok-Some.text c.args.read.handle old.files) c.args.read.unique c.give_text.new.out.items mounted
+    (sym c.in-Ok-Some.field-0-is ∙ c.in-Ok-Some.ensures past mounted.lives mounted.scene) refl c.give_text.ensures.bytes)
 
-pub returns-in-None-clause-told : goal.returns-in-None-clause-told
-returns-in-None-clause-told c =
-    let later : (c.args.offset == 0) ≡ false = grind (arith, nat_tests, c.if-offset-eq0.false) in
-    let told = rw (← c.self.view_is) at c.read_tool_anew-in-None.ensures.told in
-    rw (← c.self.view_is) (λ past own mounted found owner file.
-    tool-anew past (the_view c.self.inside) c.read_tool_anew-in-None.new.self c.args.handle c.args.offset c.args.size own c.args.owner
-    c.args.file c.args.unique c.read_tool_anew-in-None.new.out.items
-    (makes-first c.args.offset c.args.handle own c.self.inside.files found c.in-None.ensures later) owner file (told past mounted))
+pub returns-in-Ok-None-clause-told : goal.returns-in-Ok-None-clause-told
+returns-in-Ok-None-clause-told c =
+    rw (← c.self.view_is) (λ past mounted.
+    let old = the_view c.self.inside in
+    tool-missing past old c.args.read.handle c.args.offset c.args.read.size (tool_text old.live.config past c.args.owner c.args.file)
+    c.args.read.unique c.tell_error.new.out.items mounted
+    (sym c.in-Ok-None.field-0-is ∙ c.in-Ok-None.ensures past mounted.lives mounted.scene) c.tell_error.ensures.bytes)
+
+pub returns-in-Err-clause-told : goal.returns-in-Err-clause-told
+returns-in-Err-clause-told c =
+    rw (← c.self.view_is) (λ past mounted.
+    let old = the_view c.self.inside in
+    tool-refused past old c.args.read.handle c.args.offset c.args.read.size (tool_text old.live.config past c.args.owner c.args.file)
+    c.args.read.unique c.tell_error-in-Err.new.out.items mounted c.tell_error-in-Err.ensures.bytes)
