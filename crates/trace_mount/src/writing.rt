@@ -23,6 +23,15 @@ use mount_tree::{File, FileKind, Folder, Node, Owner};
 use refusal_explanations::{write_offset, write_words};
 use trace_command::Refusal;
 
+/// An open file that is written to: its handle, whose it is and which, and whether a write appends.
+#[derive(Clone, Copy)]
+struct Target {
+    handle: u64,
+    owner: Owner,
+    file: File,
+    append: bool,
+}
+
 /// What is written, without a last newline.
 fn without_newline(bytes: &[u8]) -> &[u8]
     ensures { result.now ≡ without_newline bytes.now }
@@ -98,29 +107,31 @@ impl Mount {
                 }
                 self.inject(handle, event, pid, bytes)
             }
-            _ => self.write_other(handle, owner, file, append, bytes),
+            _ => {
+                let target = Target {
+                    handle,
+                    owner,
+                    file,
+                    append,
+                };
+                self.write_other(target, bytes)
+            }
         }
     }
 
     // WRITE of a file other than `inject`.
-    fn write_other(
-        &mut self,
-        handle: u64,
-        owner: Owner,
-        file: File,
-        append: bool,
-        bytes: &[u8],
-    ) -> Reply<'static>
+    fn write_other(&mut self, target: Target, bytes: &[u8]) -> Reply<'static>
         requires { length bytes.now < 2 ^ 32 }
-        ensures step { (past : List Request) → HasLedTo past self.old → IsStep past self.old self.new (other_step self.old.live.config self.old.scene
-            (now_of past) handle owner file append bytes.now self.old.files (kind_of_file file)) (Some result) }
+        ensures step { (past : List Request) → HasLedTo past self.old → IsStep past self.old self.new
+            (other_step self.old.live.config self.old.scene (now_of past) target.handle target.owner target.file target.append bytes.now self.old.files
+            (kind_of_file target.file)) (Some result) }
         ensures short { IsShort result }
     {
-        match file.kind() {
-            FileKind::Tool => self.write_tool(handle, owner, file, bytes),
-            FileKind::ErrorLog => self.write_log(handle, owner, bytes),
+        match target.file.kind() {
+            FileKind::Tool => self.write_tool(target, bytes),
+            FileKind::ErrorLog => self.write_log(target.handle, target.owner, bytes),
             FileKind::Text | FileKind::Trace | FileKind::Pipe | FileKind::Inject => {
-                self.write_text(handle, owner, file, append, bytes)
+                self.write_text(target, bytes)
             }
         }
     }
@@ -151,13 +162,14 @@ impl Mount {
     }
 
     // WRITE of a file that tools ask for.
-    fn write_tool(&mut self, handle: u64, owner: Owner, file: File, bytes: &[u8]) -> Reply<'static>
+    fn write_tool(&mut self, target: Target, bytes: &[u8]) -> Reply<'static>
         requires { length bytes.now < 2 ^ 32 }
-        ensures step { StepsBy self.old self.new (tool_step self.old.scene handle owner (length bytes.now) self.old.files
-            (tool_write self.old.live.config self.old.scene owner file bytes.now)) result }
+        ensures step { StepsBy self.old self.new (tool_step self.old.scene target.handle target.owner (length bytes.now) self.old.files
+            (tool_write self.old.live.config self.old.scene target.owner target.file bytes.now)) result }
         ensures short { IsShort result }
     {
-        match write_of(self.live.config(), &self.scene, owner, file, bytes) {
+        let Target { handle, owner, .. } = target;
+        match write_of(self.live.config(), &self.scene, owner, target.file, bytes) {
             ToolWrite::Missing => Reply::Error(Errno::ENOENT),
             ToolWrite::Wrong => Reply::Error(Errno::EINVAL),
             ToolWrite::Same => self.write_nothing(handle, bytes),
@@ -189,19 +201,19 @@ impl Mount {
         }
     }
 
-    fn write_text(
-        &mut self,
-        handle: u64,
-        owner: Owner,
-        file: File,
-        append: bool,
-        bytes: &[u8],
-    ) -> Reply<'static>
+    // WRITE of a file that the tracer has.
+    fn write_text(&mut self, target: Target, bytes: &[u8]) -> Reply<'static>
         requires { length bytes.now < 2 ^ 32 }
-        ensures step { (past : List Request) → HasLedTo past self.old → IsStep past self.old self.new
-            (text_step self.old.scene (now_of past) handle owner file append bytes.now self.old.files) (Some result) }
+        ensures step { (past : List Request) → HasLedTo past self.old → IsStep past self.old self.new (text_step self.old.scene (now_of past)
+            target.handle target.owner target.file target.append bytes.now self.old.files) (Some result) }
         ensures short { IsShort result }
     {
+        let Target {
+            handle,
+            owner,
+            file,
+            append,
+        } = target;
         let text = without_newline(bytes);
         let Ok(path) = self.path_of(owner, file) else {
             return Reply::Error(Errno::ENOMEM);
