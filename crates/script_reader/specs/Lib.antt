@@ -4,3 +4,4 @@ pub mod Items
 pub mod PartReads
 pub mod NextItems
 pub mod FewThreads
+pub mod private

@@ -7,6 +7,7 @@ ghost use Rattle.trace_script.specs.declared.line.Line.TheVariants.{Parallel};
 ghost use Rattle.script_reader.specs.Items.{items_from};
 ghost use Rattle.script_reader.specs.NextItems.{item_read, begins_with, IsSaid, HasFaultLine, HasItsText};
 ghost use Rattle.script_reader.specs.PartReads.{item_of, HasItsLine};
+ghost use Rattle.script_reader.specs.private.NextReads.{IsNextRead};
 ghost use Rattle.script_reader.specs.ScriptLines.{lines_of, lines_left, bytes_left};
 
 use crate::part::{FaultAt, Part, read_line, read_part};
@@ -66,9 +67,8 @@ fn begins(said: &Result<Line, ScriptFault>) -> bool
 }
 
 /// Reads on at a line `parallel`: the part that it begins, if a line `end` follows it; else that line by itself. It is kept out of line, so
-/// that other lines don't take the room of a part. The text is that which begins with the line.
+/// that other lines don't take the room of a part. The text is that which begins with the line. The clauses of [`next_item`] are here in one word.
 #[inline(never)]
-#[tactic(auto, using(crate::proofs::ItemReading::part_next, crate::proofs::ItemReading::endless_next, crate::proofs::ItemReading::line_left))]
 fn part_or_line<'a>(
     alloc: Global,
     number: usize,
@@ -80,15 +80,7 @@ fn part_or_line<'a>(
     requires lines { lines_of text.now ≡ line.now ∷ lines_left (option_copied after) }
     requires shorter { bytes_left (option_copied after) ≤ length text.now }
     requires says { Ok Parallel ≡ line_of line.now }
-    ensures read { IfOk result (λ next. items_from number 0 (lines_of text.now)
-        ≡ item_read number next.item ∷ items_from next.number 0 (lines_left (option_copied next.rest))) }
-    ensures lines { IfOk result (λ next. lines_left (option_copied next.rest) ≡ drop (next.number - number) (lines_of text.now)) }
-    ensures number { IfOk result (λ next. number < next.number) }
-    ensures said { IfOk result (λ next. IsSaid next.item) }
-    ensures line { IfOk result (λ next. HasFaultLine number (lines_of text.now) next.item) }
-    ensures text { IfOk result (λ next. HasItsText text.now next.item) }
-    ensures shorter { IfOk result (λ next. bytes_left (option_copied next.rest) ≤ length text.now) }
-    ensures room { IfOk result (λ next. next.number + bytes_left (option_copied next.rest) ≤ number + length text.now + 1) }
+    ensures { IsNextRead number text.now result }
 {
     match read_part(alloc, number + 1, after)? {
         Some(read) => Ok(NextItem {
