@@ -20,7 +20,7 @@ use Rattle.trace_history.specs.History.{added_answer, answer_with_room, declarat
 use Rattle.trace_history.specs.Settings.{declared_events, instance_names, is_there, is_same}
 use Rattle.trace_instance.specs.Changes.{IsEffect}
 use Rattle.trace_instance.specs.FileAnswers.{IsRead, IsReadable, IsSource, IsWriteChange}
-use Rattle.trace_instance.specs.Files.{HasEvent, IsThere, file_at}
+use Rattle.trace_instance.specs.Files.{IsThere, file_at}
 use Rattle.tracer_state.specs.private.Files.{IsAt, IsResolved}
 use Rattle.trace_instance.specs.Instances.{InstanceSeen, InstanceStandsFor, IsUsableInstance}
 use Rattle.tracer_state.specs.States.{IsChanged, IsChangeOf, IsFresh, IsPlain, IsPrepared, IsUsable, StandsFor}
@@ -52,13 +52,7 @@ plain_read name named limit = record { declares = refl; made = refl; removed = r
 
 -- ---- what was found is there
 
--- the event of a file that is there
-pub has_event : (cpus : ℕ) (events : List Definition) (found : File) → IsThere cpus events found → HasEvent events found
-has_event cpus events (file.OfInstance named) there = tt
-has_event cpus events (file.OfCpu cpu named) there = tt
-has_event cpus events (file.OfEvent event named) there = there
-
--- and it can be read of an instance
+-- it can be read of an instance
 pub readable : (g : Config) (source : FileSource) (found : File) → IsUsableInstance g (length source.catalog.now) source.instance.now
     → IsThere g.cpus source.catalog.now found → IsReadable source found
 readable g source (file.OfInstance named) usable there = tt
@@ -92,10 +86,6 @@ answered-found g state past name answered found stands is there =
 -- a refusal of an equal answer
 refused-as : (refused : Refusal) (one other : Result Reply Refusal) → other ≡ one → IsRefusal refused one → IsRefusal refused other
 refused-as refused one other same is = subst (λ (answered : Result Reply Refusal). IsRefusal refused answered) (sym same) is
-
--- a refusal that is the answer
-is-refusal : (refused : Refusal) (answered : Result Reply Refusal) → answered ≡ Err refused → IsRefusal refused answered
-is-refusal refused answered is = (λ other. is, λ early. is)
 
 -- ---- a change of one instance
 
@@ -176,19 +166,6 @@ pub address-write_refused : (g : Config) (state : State) (past : List Request) (
 address-write_refused g state past a index found append text refused stands resolved write =
     subst (λ (f : Option paths.File). IsPrepared g past (WriteFile a.instance f append text) state (Err refused))
     (sym resolved.2) (write-refused g state past a.instance found append text refused stands resolved.0 resolved.3 write)
-
--- a path that leads nowhere
-pub address-lost_write : (g : Config) (state : State) (past : List Request) (a : Address) (append : Bool) (text : List ℕ) (refused : Refusal)
-    → IsResolved g state past a (Err refused) → IsPrepared g past (WriteFile a.instance a.file append text) state (Err refused)
-address-lost_write g state past a append text refused resolved = is-refusal refused _ (resolved (write_answer g a.instance past append text))
-
--- a declaration by its path
-pub address-declares : (g : Config) (state : State) (past : List Request) (a : Address) (append : Bool) (text : List ℕ) (result : Result Prepared Refusal)
-    → IsResolved g state past a (Ok target.Declarations)
-    → IsPrepared g past (WriteFile a.instance (Some paths.SyntheticEvents) append text) state result
-    → IsPrepared g past (WriteFile a.instance a.file append text) state result
-address-declares g state past a append text result resolved is =
-    subst (λ (f : Option paths.File). IsPrepared g past (WriteFile a.instance f append text) state result) (sym resolved.1) is
 
 -- ---- declarations
 
@@ -313,10 +290,6 @@ pub address-read_refused : (g : Config) (state : State) (past : List Request) (a
 address-read_refused g state past a index found limit refused stands resolved read =
     subst (λ (f : Option paths.File). IsPrepared g past (ReadFile a.instance f limit) state (Err refused))
     (sym resolved.2) (read-refused g state past a.instance found limit refused stands resolved.0 resolved.3 read)
-
-pub address-lost_read : (g : Config) (state : State) (past : List Request) (a : Address) (limit : Option ℕ) (refused : Refusal)
-    → IsResolved g state past a (Err refused) → IsPrepared g past (ReadFile a.instance a.file limit) state (Err refused)
-address-lost_read g state past a limit refused resolved = is-refusal refused _ (resolved (read_answer g a.instance past limit))
 
 -- the declarations are read whole, and nothing is changed
 pub declarations-shown : (g : Config) (state : State) (past : List Request) (name : Option (List ℕ)) (limit : Option ℕ) (text : List ℕ)

@@ -1,11 +1,12 @@
 -- Lists of instances: what a loop over them keeps, and their names.
 use Rattle.std.proofs.Common.{◌≡◌, ℕ, zero, suc, ◌+◌, ◌<◌, ◌≤◌, ◌≢◌, Bool, true, false, not, ◌||◌, cond, List, [], ◌∷◌, ◌++◌, length, map, take, drop, get_or, set, All, Option, Some, None, refl, sym, ap, ◌∙◌, subst, ⊎_elim, arith, below_more, get_or-set_same, get_or-set_other}
-use Rattle.std.proofs.lemmas.Bool.{cases_eq, cases_lt, false≢true}
+use Rattle.std.proofs.lemmas.Bool.{cases_eq}
 use Rattle.std.proofs.lemmas.List.{get_or_default, get_or-map, map-append, take-map, drop-map, length-map}
 use Rattle.std.proofs.lemmas.Map.Keys.{IsDistinct-head, IsDistinct-tail, IsDistinct-cons}
 use Rattle.std.proofs.lemmas.Slice.Eq.{bytes_eq-Decides}
 use Rattle.std.specs.List.{AllByRecursion, IsDistinct, filter}
 use Rattle.std.specs.Str.{bytes_eq}
+use Rattle.trace_history.proofs.OwnFiles.{bytes-differ}
 use Rattle.trace_history.specs.Settings.{is_same, is_born}
 use Rattle.trace_instance.specs.Instances.{InstanceSeen}
 use Rattle.tracer_state.specs.States.{names_of}
@@ -32,19 +33,6 @@ came_more R old now i read new inside one came left = λ k d h. below_more
     let here : get_or now i read ≡ get_or old i e = get_or_default now i read e inside ∙ left i e (omega arith) in
     rw get_or-set_same (subst (λ (n : Named). R i n.instance new.instance) here one))
     k h d
-
--- and each of all came to be so where one more did and what did not change is so too
-pub came_all : (R : InstanceSeen → InstanceSeen → Type 0) (old now : List Named) (i : ℕ) (read new : Named) → ((x : InstanceSeen) → R x x)
-    → i < length now → R (get_or now i read).instance new.instance
-    → ((k : ℕ) (d : Named) → k < i → R (get_or old k d).instance (get_or now k d).instance)
-    → ((k : ℕ) (d : Named) → i ≤ k → get_or now k d ≡ get_or old k d)
-    → (k : ℕ) (d : Named) → R (get_or old k d).instance (get_or (set now i new) k d).instance
-came_all R old now i read new self inside one came left = λ k d. ⊎_elim
-    (λ (h : k < i + 1). came_more (λ j. R) old now i read new inside one came left k d h)
-    (λ (h : i + 1 ≤ k).
-    let other : k ≢ i = omega (arith, h) in
-    rw get_or-set_other (subst (λ (n : Named). R (get_or old k d).instance n.instance) (sym (left k d (omega (arith, h)))) (self (get_or old k d).instance)))
-    (cases_lt k (i + 1))
 
 -- what holds of each below the index holds of one more
 pub held_more : (P : ℕ → InstanceSeen → Type 0) (now : List Named) (i : ℕ) (new : Named) → i < length now → P i new.instance
@@ -127,16 +115,6 @@ names-removed index instances =
 
 -- ---- distinct names
 
-pub differs-flip : (a b : List ℕ) → bytes_eq a b ≡ false → bytes_eq b a ≡ false
-differs-flip a b differ = by_same (bytes_eq b a) refl
-  where
-    by_same : (same : Bool) → bytes_eq b a ≡ same → bytes_eq b a ≡ false
-    by_same false is = is
-    by_same true is =
-        let e : b ≡ a = (bytes_eq-Decides b a).0 is in
-        let again : bytes_eq a b ≡ true = (bytes_eq-Decides a b).1 (sym e) in
-        absurd (false≢true (sym differ ∙ again))
-
 -- and holds of those that pass a test
 pub recursion-filter : {X : Type 0} (P : X → Type 0) (test : X → Bool) (xs : List X) → AllByRecursion P xs → AllByRecursion P (filter test xs)
 recursion-filter P test [] all = tt
@@ -154,7 +132,7 @@ distinct_at (n ∷ names) zero zero d distinct first second other = absurd (othe
 distinct_at (n ∷ names) zero (suc j) d distinct first second other =
     recursion_at (λ (m : List ℕ). bytes_eq n m ≡ false) names j d (IsDistinct-head bytes_eq n names distinct) (omega (arith, second))
 distinct_at (n ∷ names) (suc i) zero d distinct first second other =
-    differs-flip n (get_or names i d)
+    bytes-differ n (get_or names i d)
     (recursion_at (λ (m : List ℕ). bytes_eq n m ≡ false) names i d (IsDistinct-head bytes_eq n names distinct) (omega (arith, first)))
 distinct_at (n ∷ names) (suc i) (suc j) d distinct first second other =
     distinct_at names i j d (IsDistinct-tail bytes_eq n names distinct) (omega (arith, first)) (omega (arith, second)) (λ e. other (ap (λ (k : ℕ). suc k) e))
@@ -181,7 +159,7 @@ pub not_born : (names : List (List ℕ)) (name : List ℕ) (k : ℕ) → All (λ
     → is_born (Some name) (get_or (None ∷ some_names names) k None) ≡ false
 not_born names name zero new inside = refl
 not_born names name (suc k) new inside =
-    rw (some_at names k None [] (omega (arith, inside))) (differs-flip (get_or names k []) name (new k [] (omega (arith, inside))))
+    rw (some_at names k None [] (omega (arith, inside))) (bytes-differ (get_or names k []) name (new k [] (omega (arith, inside))))
 
 -- one more name
 pub distinct-push : (names : List (List ℕ)) (name : List ℕ) → IsDistinct bytes_eq names → All (λ (other : List ℕ). bytes_eq other name ≡ false) names
@@ -198,9 +176,6 @@ distinct-push (n ∷ names) name distinct new =
     all-push (m ∷ others) all = (all.0, all-push others all.1)
 
 -- ---- a name left out
-
-abbrev is_other : List ℕ → List ℕ → Bool
-is_other name other = not (bytes_eq other name)
 
 pub distinct-without : (name : List ℕ) (names : List (List ℕ)) → IsDistinct bytes_eq names
     → IsDistinct bytes_eq (filter (λ (other : List ℕ). not (bytes_eq other name)) names)
@@ -220,7 +195,7 @@ none_left_out : (name : List ℕ) (names : List (List ℕ)) → AllByRecursion (
     → filter (λ (other : List ℕ). not (bytes_eq other name)) names ≡ names
 none_left_out name [] all = refl
 none_left_out name (n ∷ names) all =
-    let other : bytes_eq n name ≡ false = differs-flip name n all.0 in
+    let other : bytes_eq n name ≡ false = bytes-differ name n all.0 in
     let rest = none_left_out name names all.1 in
     rw other (ap (λ (l : List (List ℕ)). n ∷ l) rest)
 

@@ -11,12 +11,10 @@ use Rattle.tracer_state.specs.declared.state.State.{State}
 
 name-at : (made : List Named) (names : List (List ℕ)) (index : ℕ) → names_of made ≡ map (λ (name : List ℕ). Some name) names
     → option_and_then (λ (n : Named). n.name) (slice_get made index) ≡ slice_get names index
-name-at [] [] zero e = refl
-name-at [] [] (suc index) e = refl
-name-at [] (name ∷ names) index e = absurd (cc)
-name-at (m ∷ made) [] index e = absurd (cc)
+name-at [] [] index e = refl
 name-at (m ∷ made) (name ∷ names) zero e = cc
 name-at (m ∷ made) (name ∷ names) (suc index) e = name-at made names index (cc)
+name-at made names index e = absurd (cc)
 
 behind-first : (instances : List Named) (names : List (List ℕ)) (index : ℕ)
     → names_of instances ≡ None ∷ map (λ (name : List ℕ). Some name) names

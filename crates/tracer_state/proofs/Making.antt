@@ -1,23 +1,21 @@
 -- Instances that are made and removed.
-use Rattle.std.proofs.Common.{◌≡◌, ℕ, ◌<◌, ◌≤◌, ltb, Bool, true, false, List, [], ◌∷◌, length, get_or, All, is_some, Option, Some, None, Result, Ok, Err, refl, sym, ◌∙◌, subst, arith}
+use Rattle.std.proofs.Common.{◌≡◌, ℕ, ◌<◌, ◌≤◌, ltb, true, false, List, [], ◌∷◌, length, get_or, All, is_some, Option, Some, None, Ok, Err, refl, sym, ◌∙◌, subst, arith}
 use Rattle.std.specs.Global.{Box}
 use Rattle.std.specs.List.{list_any}
 use Rattle.std.specs.Str.{bytes_eq}
-use Rattle.std.proofs.lemmas.Bool.{lt-ltb, false≢true}
+use Rattle.std.proofs.lemmas.Bool.{lt-ltb, false_from_ne_true, false≢true}
 use Rattle.std.proofs.lemmas.Bool.Decides.{nat_tests}
 use Rattle.std.proofs.lemmas.List.Folds.{list_any_at}
 use Rattle.trace_lex.specs.Names.{is_name}
 use Rattle.trace_format.specs.Definitions.{Definition}
-use Rattle.trace_command.specs.Refusals.{IsRefusal, IsFoundEarly}
 use Rattle.trace_command.specs.Requests.{Request, MakeInstance, RemoveInstance}
 use Rattle.trace_command.specs.declared.command.Config.{Config}
-use Rattle.trace_command.specs.declared.command.Reply.{Reply}
 use Rattle.trace_command.specs.declared.command.Reply.TheVariants.{Done}
-use Rattle.trace_command.specs.declared.refusal.Refusal.{Refusal}
-use Rattle.trace_command.specs.declared.refusal.Refusal.TheVariants.{BadValue, InstanceExists, Memory, NoSuchFile, NoSuchInstance, TooMany}
+use Rattle.trace_command.specs.declared.refusal.Refusal.TheVariants.{BadValue, InstanceExists, Memory, NoSuchInstance, TooMany}
 use Rattle.trace_history.specs.History.{named_answer}
 use Rattle.trace_history.specs.Settings.{declared_events, instance_names, is_enabled, is_there, kept_filter, makes}
 use Rattle.trace_history.proofs.EventLists.{map-agrees}
+use Rattle.trace_history.proofs.OwnFiles.{bytes-differ}
 use Rattle.trace_instance.specs.Changes.{IsEffect}
 use Rattle.trace_instance.specs.Instances.{InstanceStandsFor}
 use Rattle.tracer_state.specs.States.{IsPrepared, StandsFor}
@@ -25,8 +23,10 @@ use Rattle.tracer_state.specs.declared.change.Change.TheVariants.{Make, Remove}
 use Rattle.trace_instance.specs.declared.change.InstanceChange.TheVariants.{Keep}
 use Rattle.tracer_state.specs.declared.state.Named.{Named}
 use Rattle.tracer_state.specs.declared.state.State.{State}
-use Rattle.trace_instance.proofs.Calm.{calm-effect, calm-make, calm-remove, quiet-keep}
-use Rattle.tracer_state.proofs.EachInstance.{differs-flip, length-names_of, name_at}
+use Rattle.trace_instance.proofs.Calm.{calm-effect, calm-make, calm-remove, no_event, quiet-keep}
+use Rattle.trace_instance.proofs.Answering.{done-late}
+use Rattle.trace_instance.proofs.Snapshotting.{refused}
+use Rattle.tracer_state.proofs.EachInstance.{length-names_of, name_at}
 use Rattle.tracer_state.proofs.Resolving.{found-there, lost-there, place_in}
 
 -- ---- which instances are there
@@ -49,20 +49,14 @@ found-stands g state past name index named stands is at =
 
 -- a name that is none of these differs from each
 all-differ : (name : List ℕ) (names : List (List ℕ)) → list_any (bytes_eq name) names ≡ false → All (λ (other : List ℕ). bytes_eq other name ≡ false) names
-all-differ name names none = λ k d inside. by k d inside (bytes_eq name (get_or names k d)) refl
-  where
-    by : (k : ℕ) (d : List ℕ) → k < length names → (same : Bool) → bytes_eq name (get_or names k d) ≡ same → bytes_eq (get_or names k d) name ≡ false
-    by k d inside false is = differs-flip name (get_or names k d) is
-    by k d inside true is = absurd (false≢true (sym none ∙ list_any_at (bytes_eq name) names k d inside is))
+all-differ name names none = λ k d inside. bytes-differ name (get_or names k d)
+    (false_from_ne_true (bytes_eq name (get_or names k d)) (λ is. false≢true (sym none ∙ list_any_at (bytes_eq name) names k d inside is)))
 
 -- as many instances as names, and the top one
 few-names : (g : Config) (state : State) (past : List Request) → StandsFor g state past → length state.instances.items < 8 → length (instance_names past) < 7
 few-names g state past stands few = omega (arith, length-names_of state.instances.items (instance_names past) stands.names, few)
 
 -- ---- a new instance
-
-no_event : Definition
-no_event = record { name = []; fields = [] }
 
 -- the others stay as they are
 made-effect : (g : Config) (past : List Request) (name : List ℕ) (other : Option (List ℕ)) → makes other (MakeInstance (Some name)) ≡ false
@@ -91,20 +85,10 @@ removed-effect g past name other =
 
 -- ---- answers
 
-refused : {A : Type 0} (refusal : Refusal) (answered : Result A Refusal) → answered ≡ Err refusal → IsRefusal refusal answered
-refused refusal answered is = (λ other. is, λ early. is)
-
-out_of_memory : (answered : Result Reply Refusal) (reply : Reply) → answered ≡ Ok reply → IsRefusal Memory answered
-out_of_memory answered reply is = (λ other. absurd (other refl), λ early. absurd (subst IsFoundEarly is early))
-
 can_be_made : (past : List Request) (name : List ℕ) → is_name name ≡ true → is_there (Some name) past ≡ false → length (instance_names past) < 7
     → named_answer past name ≡ Ok Done
 unfolding named_answer
 can_be_made past name good new few = rw (good, new, lt-ltb (length (instance_names past)) 7 few) refl
-
-pub make-no_path : (g : Config) (state : State) (past : List Request) (path : Option (List ℕ)) → path ≡ None
-    → IsPrepared g past (MakeInstance path) state (Err NoSuchFile)
-make-no_path g state past path is = rw is (refused NoSuchFile _ refl)
 
 pub make-bad_name : (g : Config) (state : State) (past : List Request) (path : Option (List ℕ)) (name : List ℕ) → path ≡ Some name → is_name name ≡ false
     → IsPrepared g past (MakeInstance path) state (Err BadValue)
@@ -134,7 +118,7 @@ pub make-memory : (g : Config) (state : State) (past : List Request) (path : Opt
     → IsPrepared g past (MakeInstance path) state (Err Memory)
 make-memory g state past path name found stands is good at none few =
     let new : is_there (Some name) past ≡ false = there-index g state past (Some name) found stands at ∙ none in
-    rw is (out_of_memory (named_answer past name) Done (can_be_made past name good new (few-names g state past stands few)))
+    rw is (done-late (named_answer past name) (can_be_made past name good new (few-names g state past stands few)))
 
 pub make-done : (g : Config) (state : State) (past : List Request) (path : Option (List ℕ)) (name : List ℕ) (found : Option ℕ) (made : Box Named)
     → StandsFor g state past → path ≡ Some name → is_name name ≡ true → place_in state (Some name) ≡ found → is_some found ≡ false
@@ -160,10 +144,6 @@ make-done g state past path name found made stands is good at none few called ow
       },
       tt,
     )
-
-pub remove-no_path : (g : Config) (state : State) (past : List Request) (path : Option (List ℕ)) → path ≡ None
-    → IsPrepared g past (RemoveInstance path) state (Err NoSuchFile)
-remove-no_path g state past path is = rw is (refused NoSuchFile _ refl)
 
 pub remove-lost : (g : Config) (state : State) (past : List Request) (path : Option (List ℕ)) (name : List ℕ) → StandsFor g state past
     → path ≡ Some name → place_in state (Some name) ≡ None → IsPrepared g past (RemoveInstance path) state (Err NoSuchInstance)

@@ -23,7 +23,7 @@ use Rattle.trace_instance.specs.Files.{name_at}
 use Rattle.tracer_state.specs.States.{StandsFor, names_of}
 use Rattle.tracer_state.specs.declared.state.Named.{Named}
 use Rattle.tracer_state.specs.declared.state.State.{State}
-use Rattle.trace_instance.proofs.EventReads.{name_at-is}
+use Rattle.trace_instance.proofs.EventReads.{name-at_place}
 
 -- ---- events
 
@@ -31,15 +31,14 @@ use Rattle.trace_instance.proofs.EventReads.{name_at-is}
 pub index-named : (events : List Definition) (name : List ℕ) (index : ℕ) (event : Definition) → IsIndexOf events name index event → name ≡ name_at events index
 index-named events name index event indexed =
     let same : name ≡ event.name = (bytes_eq-Decides name event.name).0 indexed.named in
-    same ∙ ap (λ (e : Definition). e.name) indexed.there ∙ name_at-is events index event indexed.inside
+    same ∙ ap (λ (e : Definition). e.name) indexed.there ∙ sym (name-at_place events index event indexed.inside)
 
 -- ---- instances
 
 same-is : (one other : Option (List ℕ)) → is_same one other ≡ true → one ≡ other
 same-is None None is = refl
-same-is None (Some other) is = absurd (cc)
-same-is (Some one) None is = absurd (cc)
 same-is (Some one) (Some other) is = ap Some ((bytes_eq-Decides one other).0 is)
+same-is one other is = absurd (cc)
 
 -- whether one of the names of instances is this one
 any-named : (name : List ℕ) (names : List (List ℕ))
