@@ -5,18 +5,12 @@ ghost use Rattle.std.specs.List.{flat_map};
 ghost use Rattle.trace_command.specs.Configs.{IsInRange};
 
 use crate::help::{ABOUT, MORE, USAGE};
+use crate::options::{add, add_config, config_of};
+use crate::program::Program;
 use crate::stop::{Stop, told};
-use clap::error::ErrorKind;
-use clap::{Arg, ArgAction, ArgMatches, Command, Error, value_parser};
+use clap::{Arg, ArgAction, ArgMatches, Error};
 use std::alloc::{AllocError, Global};
-use std::{env, io};
 use trace_command::Config;
-
-const CPUS: &str = "cpus";
-
-const PAGES: &str = "pages";
-
-const PAGE_BYTES: &str = "page-bytes";
 
 const EXPLAIN: &str = "explain";
 
@@ -28,10 +22,12 @@ const SCRIPT: &str = "SCRIPT";
 
 const LINE: &str = "LINE";
 
-/// More entries than a script has room for.
-const HISTORY_LIMIT: u64 = 1 << 32;
-
-const VERSION: &str = "0.1.0";
+const PROGRAM: Program<'static> = Program {
+    name: "tracectl",
+    about: ABOUT,
+    usage: USAGE,
+    more: MORE,
+};
 
 /// Where the script comes from.
 #[derive(Drop)]
@@ -62,28 +58,6 @@ pub struct Words<'a> {
     pub script: Script<'a>,
 }
 
-/// Appends an argument.
-fn add<'a>(arguments: &mut Vec<Arg<'a>>, argument: Arg<'a>) -> Result<(), AllocError> {
-    Ok(arguments.push(argument)?)
-}
-
-/// Appends an option that takes a number. It has a default, which help shows.
-fn add_option<'a>(
-    alloc: Global,
-    arguments: &mut Vec<Arg<'a>>,
-    name: &'a str,
-    default: &'a str,
-    help: &'a str,
-) -> Result<(), AllocError> {
-    let option = Arg::new(alloc, name)
-        .long(name)
-        .value_name("N")
-        .value_parser(value_parser!(u32))
-        .default_value(default)
-        .help(help);
-    add(arguments, option)
-}
-
 /// Appends an option that takes no value.
 fn add_flag<'a>(
     alloc: Global,
@@ -96,19 +70,6 @@ fn add_flag<'a>(
         .action(ArgAction::SetTrue)
         .help(help);
     add(arguments, flag)
-}
-
-/// Appends the options of the configuration.
-fn add_config<'a>(alloc: Global, arguments: &mut Vec<Arg<'a>>) -> Result<(), AllocError> {
-    add_option(alloc, arguments, CPUS, "1", "Number of CPUs, 1 to 8")?;
-    add_option(alloc, arguments, PAGES, "16", "Pages per ring, 2 to 1024")?;
-    add_option(
-        alloc,
-        arguments,
-        PAGE_BYTES,
-        "4080",
-        "Bytes per page, 64 to 4080, a multiple of 8",
-    )
 }
 
 /// Appends the options that have something told.
@@ -161,39 +122,9 @@ fn add_all<'a>(alloc: Global, arguments: &mut Vec<Arg<'a>>) -> Result<(), AllocE
     add_script(alloc, arguments)
 }
 
-/// The command before it has its arguments.
-fn bare_command<'a>(alloc: Global) -> Command<'a> {
-    Command::new(alloc, "tracectl")
-        .version(VERSION)
-        .about(ABOUT)
-        .override_usage(USAGE)
-        .after_help(MORE)
-}
-
-fn command<'a>(alloc: Global) -> Result<Command<'a>, AllocError> {
-    let mut arguments = Vec::new(alloc);
-    add_all(alloc, &mut arguments)?;
-    bare_command(alloc).args(arguments)
-}
-
-/// The error for words that are not all in UTF-8. No argument changes its text.
-fn not_unicode(alloc: Global) -> Result<Error, Error> {
-    let error = bare_command(alloc).error(
-        ErrorKind::ValueValidation,
-        "invalid UTF-8 was detected in one or more arguments",
-    );
-    Ok(error?)
-}
-
 /// The words of the command line, the program's name first. `Told` comes where one of them is not in UTF-8.
 pub fn words_of(rt: &HostRuntime) -> Result<Vec<String>, Stop> {
-    match env::args(rt) {
-        Ok(words) => Ok(words.collect(rt.alloc())?),
-        Err(error) if error.kind() == io::ErrorKind::OutOfMemory => Err(Stop::Memory),
-        Err(_) => match not_unicode(rt.alloc()) {
-            Ok(error) | Err(error) => Err(told(rt, &error)),
-        },
-    }
+    PROGRAM.words(rt)
 }
 
 /// The script of these lines, each of them ended by a newline.
@@ -206,20 +137,6 @@ fn script_of(alloc: Global, lines: &[&str]) -> Result<Vec<u8>, AllocError>
         script.push(b'\n')?;
     }
     Ok(script)
-}
-
-/// The configuration, whatever its numbers are.
-fn config_of(matches: &ArgMatches<'_>) -> Config
-    ensures { result.history_limit ≡ 2 ^ 32 }
-{
-    // Each option has its default, so no value is missing. 0 would be out of range.
-    let number = |name| matches.get_one::<u32>(name).unwrap_or(0);
-    Config {
-        cpus: number(CPUS),
-        pages: number(PAGES),
-        page_bytes: number(PAGE_BYTES),
-        history_limit: HISTORY_LIMIT,
-    }
 }
 
 fn notes_of(matches: &ArgMatches<'_>) -> Notes {
@@ -254,7 +171,11 @@ fn asked<'a>(alloc: Global, matches: &ArgMatches<'a>) -> Result<Words<'a>, Alloc
 }
 
 fn matched<'a>(alloc: Global, words: &'a [String]) -> Result<ArgMatches<'a>, Error> {
-    command(alloc)?.try_get_matches_from(words)
+    let mut arguments = Vec::new(alloc);
+    add_all(alloc, &mut arguments)?;
+    PROGRAM
+        .command(alloc, arguments)?
+        .try_get_matches_from(words)
 }
 
 /// Reads the words, the program's name first, whatever the numbers of the configuration are.
