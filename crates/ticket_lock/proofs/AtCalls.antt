@@ -16,6 +16,7 @@ use Rattle.ticket_lock.specs.Rule.{Homes, IsInLine, IsHome, IsOut, IsPass}
 use Rattle.ticket_lock.specs.Moves.{Seated, ticket_of, root, after_draw, after_entry, FindsHistory, enters, leaves}
 use Rattle.ticket_lock.specs.Boxes.{inside}
 use Rattle.ticket_lock.specs.Calls.{MayLeave, Finds}
+use Rattle.ticket_lock.specs.private.Entered.{HasEntered}
 use Rattle.ticket_lock.proofs.Histories.{continues_itself, mine_continues}
 use Rattle.ticket_lock.proofs.KnownKept.{idle_pass, is_alone}
 use Rattle.ticket_lock.proofs.SeatFields.{holding_stage, blank_slot}
@@ -139,15 +140,9 @@ module _ {T E : Type 0} (entries : T → List E) (base_of : T → List ℕ) (tic
   pub stays : (slots n t : ℕ) (me now after : Seated T E) → now ≡ me → me.0.stage ≡ Waiting t → (n ≡ t → ⊥) → enters entries base_of ticket by (step slots 1 0 0 maybe.none) now n after → after ≡ me
   stays slots n t me now after same waits miss told = told.1 (λ hit. miss (hit ∙ ap (λ (z : Seated T E). ticket_of z.0.stage) same ∙ ap ticket_of waits)) ∙ same
 
-  -- what a pass has found that entered with this value and left its slot empty
-  pub record Enters (v : View E) (last : Seated T E) (value : T) : Type 0 where
-    pub view : last ≡ (after_entry v (entries value), (0, None) ∷ [])
-    pub base_is : base_of value ≡ v.base
-    pub finds : FindsHistory ticket by v (entries value)
-
   -- a seat that has found its ticket served and taken what was in the slot
   pub enters_with : (slots n t : ℕ) (me now after last : Seated T E) (slot : Option T) → now ≡ me → me.0.stage ≡ Waiting t → me.1 ≡ [] → n ≡ t → enters entries base_of ticket by (step slots 1 0 0 maybe.none) now n after
-      → after.1 ≡ (0, slot) ∷ rest after.1 → last ≡ (after.0, (0, None) ∷ rest after.1) → (value : T) × (slot ≡ Some value) × Enters me.0 last value
+      → after.1 ≡ (0, slot) ∷ rest after.1 → last ≡ (after.0, (0, None) ∷ rest after.1) → (value : T) × (slot ≡ Some value) × HasEntered entries base_of ticket by me.0 last value
   unfolding first_slot
   enters_with slots n t me now after last slot same waits bare hit told took left =
       let here : n ≡ ticket_of now.0.stage = hit ∙ sym (ap (λ (z : Seated T E). ticket_of z.0.stage) same ∙ ap ticket_of waits) in
@@ -159,18 +154,18 @@ module _ {T E : Type 0} (entries : T → List E) (base_of : T → List ℕ) (tic
         ap first_slot slots_are,
         record {
           view = left ∙ ap (λ (z : Seated T E). (z.0, (0, None) ∷ rest z.1)) start;
-          base_is = same_base ∙ ap (λ (z : Seated T E). z.0.base) same;
+          base = same_base ∙ ap (λ (z : Seated T E). z.0.base) same;
           finds = subst (λ (z : Seated T E). FindsHistory ticket by z.0 (entries value)) same found;
         },
       )
 
   -- the same of the value that was in the slot
   pub enters_some : (slots n t : ℕ) (me now after last : Seated T E) (slot : Option T) (value : T) → now ≡ me → me.0.stage ≡ Waiting t → me.1 ≡ [] → n ≡ t → enters entries base_of ticket by (step slots 1 0 0 maybe.none) now n after
-      → after.1 ≡ (0, slot) ∷ rest after.1 → last ≡ (after.0, (0, None) ∷ rest after.1) → slot ≡ Some value → Enters me.0 last value
+      → after.1 ≡ (0, slot) ∷ rest after.1 → last ≡ (after.0, (0, None) ∷ rest after.1) → slot ≡ Some value → HasEntered entries base_of ticket by me.0 last value
   enters_some slots n t me now after last slot value same waits bare hit told took left there =
       let (other, is, entered) = enters_with slots n t me now after last slot same waits bare hit told took left in
       let one : other ≡ value = cc in
-      subst (Enters me.0 last) one entered
+      subst (HasEntered entries base_of ticket by me.0 last) one entered
 
 module _ {T E : Type 0} (entries : T → List E) (base_of : T → List ℕ) (ticket by : E → ℕ) where
   -- a new lock over the box in which the value lies

@@ -5,3 +5,4 @@ pub mod Rule
 pub mod Moves
 pub mod Boxes
 pub mod Calls
+pub mod private

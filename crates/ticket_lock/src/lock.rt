@@ -18,16 +18,16 @@
 //!
 //! That nobody draws while somebody is in line is for speed alone: a ticket fixes who comes next, so a thread that has one and isn't running stops all
 //! others. One that waits without a ticket stops nobody.
-ghost use Rattle.std.specs.Prelude.{◌≡◌, ◌↔◌, ◌+◌, ◌<◌, ◌≤◌, ◌^◌, [], ◌∷◌, All, AllPairs, Some, None, IfOk, IfErr, IfSome, IfNone, IsOk, MatchResult, Box};
+ghost use Rattle.std.specs.Prelude.{◌≡◌, ◌↔◌, ◌+◌, ◌<◌, ◌≤◌, ◌^◌, [], ◌∷◌, All, AllPairs, Some, IfOk, IfErr, IfSome, IfNone, IsOk, MatchResult, Box};
 ghost use Rattle.std.specs.declared.alloc.Global.{Global};
 ghost use Rattle.ticket_lock.specs.Entries.{IsBefore};
 
 use crate::entries::Logged;
 use crate::moves::{Draws, Enters, Halves, Leaves, Line, Looks, Meets};
-use crate::passes::{Pass, Worn};
+use crate::passes::{Pass, PassSeat, Worn};
 use crate::turns::{Held, Turn};
 use crate::views::{Opening, View};
-use atomic_table::{Refused, Seat, Table};
+use atomic_table::{Refused, Table};
 use crossbeam_utils::Backoff;
 use std::alloc::{AllocFailed, Global};
 use std::fmt;
@@ -90,7 +90,9 @@ fn one_slot<T>(alloc: Global, value: T) -> Result<Vec<Option<Box<T>>>, AllocFail
 
 impl<T: Logged> TicketLock<T> {
     ghost use Rattle.ticket_lock.specs.Views.{HasAllNames};
-    ghost use Rattle.ticket_lock.specs.Moves.{after_draw, after_entry, LearnsNext, FindsHistory};
+    ghost use Rattle.ticket_lock.specs.Moves.{after_draw, LearnsNext};
+    ghost use Rattle.ticket_lock.specs.Boxes.{inside};
+    ghost use Rattle.ticket_lock.specs.private.Entered.{HasEntered};
     ghost use Rattle.ticket_lock.specs.declared.views.Stage.TheVariants.{Idle, Waiting};
     ghost use Rattle.ticket_lock.specs.Calls.{view_of, held_view, held_ticket, held_value, IsOf, IsTurnOf, IsRoot, AreHalves, IsMet, IsDrawn, Finds, MayLeave, IsBack, IsWorn};
 
@@ -208,7 +210,7 @@ impl<T: Logged> TicketLock<T> {
     }
 
     // Draws the next ticket, where one is left. Most often nobody is in line, so it is tried once before anything that waits.
-    fn draw<R: Wait>(&self, rt: &R, seat: &mut Seat<Option<Box<T>>, View<T::Entry>>) -> Option<u64>
+    fn draw<R: Wait>(&self, rt: &R, seat: &mut PassSeat<T>) -> Option<u64>
         requires of { seat.old.table_id ≡ self.now.table.shared.table_id }
         requires idle { seat.old.me.0.stage ≡ Idle }
         ensures of { seat.new.table_id ≡ seat.old.table_id }
@@ -216,12 +218,10 @@ impl<T: Logged> TicketLock<T> {
         ensures some { IfSome result (λ n. (seat.new.me.0 ≡ after_draw seat.old.me.0 n) × LearnsNext T.ticket T.by seat.old.me.0 n × (n < 2 ^ 63)) }
         ensures none { IfNone result (IsWorn seat.old.me.0 seat.new.me.0) }
     {
-        let next = self.table.shared.load::<Looks<T>>(seat, NEXT);
-        if next < LAST && self.table.shared.peek(SERVING) >= next {
-            let found = self
-                .table
-                .shared
-                .compare_exchange::<Draws<T>>(seat, NEXT, next, next + 1);
+        let shared = &self.table.shared;
+        let next = shared.load::<Looks<T>>(seat, NEXT);
+        if next < LAST && shared.peek(SERVING) >= next {
+            let found = shared.compare_exchange::<Draws<T>>(seat, NEXT, next, next + 1);
             if found == next {
                 return Some(next);
             }
@@ -229,17 +229,10 @@ impl<T: Logged> TicketLock<T> {
         self.draw_later(rt, seat)
     }
 
-    // As `draw`, however long it takes.
-    //
-    // It waits before it draws, until nobody is in line. A drawn ticket fixes who goes next, so a thread that waits with a
-    // ticket and isn't running stops all others. One that waits without a ticket stops nobody.
+    // As `draw`, however long it takes: before it draws, it waits until nobody is in line.
     #[cold]
     #[inline(never)]
-    fn draw_later<R: Wait>(
-        &self,
-        rt: &R,
-        seat: &mut Seat<Option<Box<T>>, View<T::Entry>>,
-    ) -> Option<u64>
+    fn draw_later<R: Wait>(&self, rt: &R, seat: &mut PassSeat<T>) -> Option<u64>
         requires of { seat.old.table_id ≡ self.now.table.shared.table_id }
         requires idle { seat.old.me.0.stage ≡ Idle }
         ensures of { seat.new.table_id ≡ seat.old.table_id }
@@ -247,20 +240,18 @@ impl<T: Logged> TicketLock<T> {
         ensures some { IfSome result (λ n. (seat.new.me.0 ≡ after_draw seat.old.me.0 n) × LearnsNext T.ticket T.by seat.old.me.0 n × (n < 2 ^ 63)) }
         ensures none { IfNone result (IsWorn seat.old.me.0 seat.new.me.0) }
     {
+        let shared = &self.table.shared;
         let backoff = Backoff::new();
         for _ in rt.forever() {
-            let next = self.table.shared.load::<Looks<T>>(seat, NEXT);
+            let next = shared.load::<Looks<T>>(seat, NEXT);
             if next >= LAST {
                 return None;
             }
-            if self.table.shared.peek(SERVING) < next {
+            if shared.peek(SERVING) < next {
                 backoff.snooze();
                 continue;
             }
-            let found = self
-                .table
-                .shared
-                .compare_exchange::<Draws<T>>(seat, NEXT, next, next + 1);
+            let found = shared.compare_exchange::<Draws<T>>(seat, NEXT, next, next + 1);
             if found == next {
                 return Some(next);
             }
@@ -270,19 +261,12 @@ impl<T: Logged> TicketLock<T> {
     }
 
     // Waits until the ticket is served, and takes the value out of its slot. Most often it is served at once.
-    fn enter<R: Wait>(
-        &self,
-        rt: &R,
-        seat: &mut Seat<Option<Box<T>>, View<T::Entry>>,
-        ticket: u64,
-    ) -> Box<T>
+    fn enter<R: Wait>(&self, rt: &R, seat: &mut PassSeat<T>, ticket: u64) -> Box<T>
         requires of { seat.old.table_id ≡ self.now.table.shared.table_id }
         requires waiting { seat.old.me.0.stage ≡ Waiting ticket }
         requires slots { seat.old.me.1 ≡ [] }
         ensures of { seat.new.table_id ≡ seat.old.table_id }
-        ensures view { seat.new.me ≡ (after_entry seat.old.me.0 (T.entries result.value), (0, None) ∷ []) }
-        ensures base { T.base result.value ≡ seat.old.me.0.base }
-        ensures finds { FindsHistory T.ticket T.by seat.old.me.0 (T.entries result.value) }
+        ensures entered { HasEntered (inside T.entries) (inside T.base) T.ticket T.by seat.old.me.0 seat.new.me result }
     {
         let serving = self.table.shared.load::<Enters<T>>(seat, SERVING);
         if serving != ticket {
@@ -296,19 +280,12 @@ impl<T: Logged> TicketLock<T> {
     // As `enter`, however long it takes.
     #[cold]
     #[inline(never)]
-    fn enter_later<R: Wait>(
-        &self,
-        rt: &R,
-        seat: &mut Seat<Option<Box<T>>, View<T::Entry>>,
-        ticket: u64,
-    ) -> Box<T>
+    fn enter_later<R: Wait>(&self, rt: &R, seat: &mut PassSeat<T>, ticket: u64) -> Box<T>
         requires of { seat.old.table_id ≡ self.now.table.shared.table_id }
         requires waiting { seat.old.me.0.stage ≡ Waiting ticket }
         requires slots { seat.old.me.1 ≡ [] }
         ensures of { seat.new.table_id ≡ seat.old.table_id }
-        ensures view { seat.new.me ≡ (after_entry seat.old.me.0 (T.entries result.value), (0, None) ∷ []) }
-        ensures base { T.base result.value ≡ seat.old.me.0.base }
-        ensures finds { FindsHistory T.ticket T.by seat.old.me.0 (T.entries result.value) }
+        ensures entered { HasEntered (inside T.entries) (inside T.base) T.ticket T.by seat.old.me.0 seat.new.me result }
     {
         let backoff = Backoff::new();
         for _ in rt.forever() {

@@ -10,10 +10,13 @@ use std::fmt;
 use std::fmt::{Debug, Display, Formatter};
 use std::ops::Range;
 
+/// A pass's seat at the lock's table.
+pub(crate) type PassSeat<T> = Seat<Option<Box<T>>, View<<T as Logged>::Entry>>;
+
 /// The right to ask a lock for its value, as any of a range of callers. It asks under the first number of the range.
 #[derive(Drop)]
 pub struct Pass<T: Logged> {
-    pub(crate) seat: Seat<Option<Box<T>>, View<T::Entry>>,
+    pub(crate) seat: PassSeat<T>,
     pub(crate) low: u32,
     pub(crate) end: u32,
     ghost low_is: { low ≡ seat.me.0.low },

@@ -4,14 +4,13 @@ ghost use Rattle.std.specs.Borrow.{sem};
 ghost use Rattle.ticket_lock.specs.Views.{is_holding, is_blank};
 
 use crate::entries::Logged;
-use crate::views::View;
-use atomic_table::Seat;
+use crate::passes::PassSeat;
 use std::fmt;
 use std::fmt::{Debug, Formatter};
 
 /// The seat of the pass whose ticket is served. The slot that it has taken is empty.
 pub struct Turn<T: Logged> {
-    pub(crate) seat: Seat<Option<Box<T>>, View<T::Entry>>,
+    pub(crate) seat: PassSeat<T>,
     pub(crate) low: u32,
     pub(crate) end: u32,
     pub(crate) ticket: u64,

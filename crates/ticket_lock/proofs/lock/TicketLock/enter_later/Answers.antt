@@ -23,14 +23,6 @@ unreachable-requires g c =
 pub returns-then-served-ticket-clause-of : goal.returns-then-served-ticket-clause-of
 returns-then-served-ticket-clause-of g c = c.exchange-slot.ensures.0 ∙ c.load-served.ensures.0 ∙ c.loop.invariant.2
 
-pub returns-then-served-ticket-clause-view : goal.returns-then-served-ticket-clause-view
-returns-then-served-ticket-clause-view g c =
-    (enters_some _ _ _ _ c.args.self.now.table.shared.table_id.slots _ _ _ _ _ _ _ _ c.loop.invariant.3 c.requires.waiting c.requires.slots c.if-served-ticket.true c.load-served.ensures.2 c.exchange-slot.ensures.2 c.exchange-slot.ensures.3 c.in-Some-slot.is).view
-
-pub returns-then-served-ticket-clause-base : goal.returns-then-served-ticket-clause-base
-returns-then-served-ticket-clause-base g c =
-    (enters_some _ _ _ _ c.args.self.now.table.shared.table_id.slots _ _ _ _ _ _ _ _ c.loop.invariant.3 c.requires.waiting c.requires.slots c.if-served-ticket.true c.load-served.ensures.2 c.exchange-slot.ensures.2 c.exchange-slot.ensures.3 c.in-Some-slot.is).base_is
-
-pub returns-then-served-ticket-clause-finds : goal.returns-then-served-ticket-clause-finds
-returns-then-served-ticket-clause-finds g c =
-    (enters_some _ _ _ _ c.args.self.now.table.shared.table_id.slots _ _ _ _ _ _ _ _ c.loop.invariant.3 c.requires.waiting c.requires.slots c.if-served-ticket.true c.load-served.ensures.2 c.exchange-slot.ensures.2 c.exchange-slot.ensures.3 c.in-Some-slot.is).finds
+pub returns-then-served-ticket-clause-entered : goal.returns-then-served-ticket-clause-entered
+returns-then-served-ticket-clause-entered g c =
+    enters_some _ _ _ _ c.args.self.now.table.shared.table_id.slots _ _ _ _ _ _ _ _ c.loop.invariant.3 c.requires.waiting c.requires.slots c.if-served-ticket.true c.load-served.ensures.2 c.exchange-slot.ensures.2 c.exchange-slot.ensures.3 c.in-Some-slot.is
