@@ -1,4 +1,5 @@
 -- Words of private functions and of proofs: no public clause cites them.
 pub mod AnswersTold
 pub mod HeardItems
+pub mod LineRuns
 pub mod StepFronts

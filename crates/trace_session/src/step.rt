@@ -4,7 +4,7 @@ ghost use Rattle.std.specs.Prelude.{◌≡◌, ◌≢◌, ◌≤◌, [], ◌∷�
 ghost use Rattle.ticket_lock.specs.Calls.{view_of, IsOf};
 ghost use Rattle.trace_command.specs.declared.command.Config.{Config};
 ghost use Rattle.script_reader.specs.declared.item.ItemRead.TheVariants as reads;
-ghost use Rattle.script_reader.specs.Items.{Single, Threads, Faulty};
+ghost use Rattle.script_reader.specs.Items.{Threads, Faulty};
 ghost use Rattle.script_reader.specs.NextItems.{item_read, IsSaid};
 ghost use Rattle.script_reader.specs.FewThreads.{HasFewThreads};
 ghost use Rattle.script_reader.specs.PartReads.{commands_in};
@@ -18,8 +18,9 @@ ghost use Rattle.trace_session.specs.private.StepFronts.{PassesItem, GivesItem, 
 ghost use Rattle.trace_session.specs.Gated.{LetsPass, Stops, commands_asked};
 ghost use Rattle.trace_session.specs.Heard.{Hears, IsWrittenFirst, heard_of, numbers_in};
 ghost use Rattle.trace_session.specs.private.HeardItems.{AreInOrder, HasItsLines};
+ghost use Rattle.trace_session.specs.private.LineRuns.{IsLineRun, outlet};
 ghost use Rattle.trace_session.specs.Passes.{IsSessionPass, progress_of};
-ghost use Rattle.trace_session.specs.Sessions.{Progress, turn_of};
+ghost use Rattle.trace_session.specs.Sessions.{Progress};
 ghost use Rattle.trace_workers.specs.Gates.{LetsAllPass, StopsOne};
 
 use crate::device::Sink;
@@ -71,23 +72,11 @@ pub(crate) fn do_emission<B: SharedBook, R: Wait, W: Sink, G>(
     requires says { line_of plain.now.line.now ≡ emission_said plain.now.head pairs.now }
     ensures of { IsOf env.now.lock.now result.0 }
     ensures session { (g : Config) → IsSessionPass g (view_of pass) → IsSessionPass g (view_of result.0) }
-    ensures done { IfOk result.1 (λ status. (g : Config) → IsSessionPass g (view_of pass)
-        → PassesItem g (Single number plain.now.line.now) (progress_of (view_of pass)) (progress_of (view_of result.0)) status
-        (W.contents writer.old) replies.old (W.contents writer.new) replies.new) }
+    ensures run { IsLineRun W.wants_first number plain.now.line.now
+        (λ g. IsSessionPass g (view_of pass)) (progress_of (view_of pass)) (progress_of (view_of result.0))
+        (outlet (W.contents writer.old) (W.failures writer.old) (W.heard writer.old) replies.old)
+        (outlet (W.contents writer.new) (W.failures writer.new) (W.heard writer.new) replies.new) result.1 }
     ensures faultless { IfOk result.1 (λ status. status ≢ Status.Fault) }
-    ensures failures { OnOk result.1 (W.failures writer.new ≡ W.failures writer.old) }
-    ensures memory { IsErrOf result.1 Stop.Memory
-        → Passes (W.contents writer.old) replies.old (W.contents writer.new) replies.new [] }
-    ensures unfailed { IsErrOf result.1 Stop.Memory → W.failures writer.new ≡ W.failures writer.old }
-    ensures stopped { IsErrOf result.1 Stop.Stopped → ⊥ }
-    ensures risen { IsErrOf result.1 Stop.Device → HasRisen (W.failures writer.old) (W.failures writer.new) }
-    ensures device { IsErrOf result.1 Stop.Device → (g : Config) → IsSessionPass g (view_of pass)
-        → AppendsItem g (Single number plain.now.line.now) (progress_of (view_of pass)) (progress_of (view_of result.0))
-        (W.contents writer.old) replies.old (W.contents writer.new) }
-    ensures flushed { IfOk result.1 (λ status. IsSome (W.heard writer.old) → IsWrittenFirst W.wants_first status → replies.new ≡ []) }
-    ensures unheard { OnErr result.1 (W.heard writer.new ≡ W.heard writer.old) }
-    ensures heard { (g : Config) → IsSessionPass g (view_of pass) → OnOk result.1 (Hears (W.heard writer.old) (W.heard writer.new)
-        (heard_of number plain.now.line.now (turn_of g (progress_of (view_of pass)) plain.now.line.now).outcome (W.contents writer.new) ∷ [])) }
 {
     let (pass, answer) = ask_emission_line(env.rt, env.lock, pass, plain.head, pairs);
     if is_silent(&answer, writer) {
@@ -118,23 +107,11 @@ pub(crate) fn do_read<B: SharedBook, R: Wait, W: Sink, G>(
     requires says { read_said item.now.read ≡ line_of item.now.line.now }
     ensures of { IsOf env.now.lock.now result.0 }
     ensures session { (g : Config) → IsSessionPass g (view_of pass) → IsSessionPass g (view_of result.0) }
-    ensures done { IfOk result.1 (λ status. (g : Config) → IsSessionPass g (view_of pass)
-        → PassesItem g (Single number item.now.line.now) (progress_of (view_of pass)) (progress_of (view_of result.0)) status
-        (W.contents writer.old) replies.old (W.contents writer.new) replies.new) }
+    ensures run { IsLineRun W.wants_first number item.now.line.now
+        (λ g. IsSessionPass g (view_of pass)) (progress_of (view_of pass)) (progress_of (view_of result.0))
+        (outlet (W.contents writer.old) (W.failures writer.old) (W.heard writer.old) replies.old)
+        (outlet (W.contents writer.new) (W.failures writer.new) (W.heard writer.new) replies.new) result.1 }
     ensures faultless { IfOk result.1 (λ status. status ≢ Status.Fault) }
-    ensures failures { OnOk result.1 (W.failures writer.new ≡ W.failures writer.old) }
-    ensures memory { IsErrOf result.1 Stop.Memory
-        → Passes (W.contents writer.old) replies.old (W.contents writer.new) replies.new [] }
-    ensures unfailed { IsErrOf result.1 Stop.Memory → W.failures writer.new ≡ W.failures writer.old }
-    ensures stopped { IsErrOf result.1 Stop.Stopped → ⊥ }
-    ensures risen { IsErrOf result.1 Stop.Device → HasRisen (W.failures writer.old) (W.failures writer.new) }
-    ensures device { IsErrOf result.1 Stop.Device → (g : Config) → IsSessionPass g (view_of pass)
-        → AppendsItem g (Single number item.now.line.now) (progress_of (view_of pass)) (progress_of (view_of result.0))
-        (W.contents writer.old) replies.old (W.contents writer.new) }
-    ensures flushed { IfOk result.1 (λ status. IsSome (W.heard writer.old) → IsWrittenFirst W.wants_first status → replies.new ≡ []) }
-    ensures unheard { OnErr result.1 (W.heard writer.new ≡ W.heard writer.old) }
-    ensures heard { (g : Config) → IsSessionPass g (view_of pass) → OnOk result.1 (Hears (W.heard writer.old) (W.heard writer.new)
-        (heard_of number item.now.line.now (turn_of g (progress_of (view_of pass)) item.now.line.now).outcome (W.contents writer.new) ∷ [])) }
 {
     let (pass, asked) = ask_read_line(env.rt, env.lock, pass, item.read);
     match asked {
@@ -161,22 +138,10 @@ fn do_line<B: SharedBook, R: Wait, W: Sink, G>(
     requires says { said ≡ line_of line.now }
     ensures of { IsOf env.now.lock.now result.0 }
     ensures session { (g : Config) → IsSessionPass g (view_of pass) → IsSessionPass g (view_of result.0) }
-    ensures done { IfOk result.1 (λ status. (g : Config) → IsSessionPass g (view_of pass)
-        → PassesItem g (Single number line.now) (progress_of (view_of pass)) (progress_of (view_of result.0)) status
-        (W.contents writer.old) replies.old (W.contents writer.new) replies.new) }
-    ensures failures { OnOk result.1 (W.failures writer.new ≡ W.failures writer.old) }
-    ensures memory { IsErrOf result.1 Stop.Memory
-        → Passes (W.contents writer.old) replies.old (W.contents writer.new) replies.new [] }
-    ensures unfailed { IsErrOf result.1 Stop.Memory → W.failures writer.new ≡ W.failures writer.old }
-    ensures stopped { IsErrOf result.1 Stop.Stopped → ⊥ }
-    ensures risen { IsErrOf result.1 Stop.Device → HasRisen (W.failures writer.old) (W.failures writer.new) }
-    ensures device { IsErrOf result.1 Stop.Device → (g : Config) → IsSessionPass g (view_of pass)
-        → AppendsItem g (Single number line.now) (progress_of (view_of pass)) (progress_of (view_of result.0))
-        (W.contents writer.old) replies.old (W.contents writer.new) }
-    ensures flushed { IfOk result.1 (λ status. IsSome (W.heard writer.old) → IsWrittenFirst W.wants_first status → replies.new ≡ []) }
-    ensures unheard { OnErr result.1 (W.heard writer.new ≡ W.heard writer.old) }
-    ensures heard { (g : Config) → IsSessionPass g (view_of pass) → OnOk result.1 (Hears (W.heard writer.old) (W.heard writer.new)
-        (heard_of number line.now (turn_of g (progress_of (view_of pass)) line.now).outcome (W.contents writer.new) ∷ [])) }
+    ensures run { IsLineRun W.wants_first number line.now
+        (λ g. IsSessionPass g (view_of pass)) (progress_of (view_of pass)) (progress_of (view_of result.0))
+        (outlet (W.contents writer.old) (W.failures writer.old) (W.heard writer.old) replies.old)
+        (outlet (W.contents writer.new) (W.failures writer.new) (W.heard writer.new) replies.new) result.1 }
 {
     let (pass, asked) = ask_line(env.rt, env.lock, pass, said);
     match asked {

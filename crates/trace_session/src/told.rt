@@ -6,6 +6,7 @@ ghost use Rattle.script_reader.specs.Sources.{HasRisen};
 ghost use Rattle.trace_session.specs.Devices.{AppendsFront, Passes};
 ghost use Rattle.trace_session.specs.Heard.{Hears, IsWrittenFirst, heard_of};
 ghost use Rattle.trace_session.specs.private.HeardItems.{AreInOrder, IsLeft, heard_each, left_at};
+ghost use Rattle.trace_session.specs.private.LineRuns.{IsLineGiven, outlet};
 ghost use Rattle.trace_session.specs.Sessions.{text_of, status_of};
 
 use crate::device::Sink;
@@ -86,20 +87,9 @@ pub(crate) fn give<W: Sink>(
     replies: &mut Replies,
     writer: &mut W,
 ) -> Result<Status, Stop>
-    ensures status { IfOk result (λ status. status ≡ status_of (outcome.now ∷ [])) }
-    ensures written { OnOk result (Passes (W.contents writer.old) replies.old (W.contents writer.new) replies.new
-        (text_of number outcome.now)) }
-    ensures failures { OnOk result (W.failures writer.new ≡ W.failures writer.old) }
-    ensures memory { IsErrOf result Stop.Memory
-        → Passes (W.contents writer.old) replies.old (W.contents writer.new) replies.new [] }
-    ensures unfailed { IsErrOf result Stop.Memory → W.failures writer.new ≡ W.failures writer.old }
-    ensures stopped { IsErrOf result Stop.Stopped → ⊥ }
-    ensures device { IsErrOf result Stop.Device → HasRisen (W.failures writer.old) (W.failures writer.new)
-        × AppendsFront (W.contents writer.old) (W.contents writer.new) (replies.old ++ text_of number outcome.now) }
-    ensures heard { OnOk result (Hears (W.heard writer.old) (W.heard writer.new)
-        (heard_of number line.now outcome.now (W.contents writer.new) ∷ [])) }
-    ensures all { OnOk result (IsSome (W.heard writer.old) → IsWrittenFirst W.wants_first (status_of (outcome.now ∷ [])) → replies.new ≡ []) }
-    ensures unheard { OnErr result (W.heard writer.new ≡ W.heard writer.old) }
+    ensures { IsLineGiven W.wants_first number line.now outcome.now
+        (outlet (W.contents writer.old) (W.failures writer.old) (W.heard writer.old) replies.old)
+        (outlet (W.contents writer.new) (W.failures writer.new) (W.heard writer.new) replies.new) result }
 {
     write_outcome(alloc, number, outcome, replies, writer)?;
     tell(number, line, outcome, replies, writer)?;

@@ -41,12 +41,12 @@ returns-in_err-done-clause-memory g c h config seat =
     (heard c.args.writer.now) (heard c.loop-rest.writer) (progress_of (view_of c.loop-rest.pass)) c.in-Some.text.now
     c.loop-rest.number c.loop-rest.status (rw c.in-Some.is at c.loop-rest.invariant.stands config seat)
     (contents c.do_emission-back.new.writer) c.do_emission-back.new.replies (heard c.do_emission-back.new.writer)
-    (rw c.in_err-done.was at c.do_emission-back.ensures.unheard) (c.do_emission-back.ensures.memory (cc (h, p.1, p.2, c.in_err-done.was)))
+    (rw c.in_err-done.was at c.do_emission-back.ensures.run.unheard) (c.do_emission-back.ensures.run.memory (cc (h, p.1, p.2, c.in_err-done.was)))
 
 pub returns-in_err-done-clause-stopped : goal.returns-in_err-done-clause-stopped
 returns-in_err-done-clause-stopped g c h config seat =
     let p = err_from_is_err_and c.from_residual.result c.from_residual.ensures.1 in
-    absurd (c.do_emission-back.ensures.stopped (cc (h, p.1, p.2, c.in_err-done.was)))
+    absurd (c.do_emission-back.ensures.run.stopped (cc (h, p.1, p.2, c.in_err-done.was)))
 
 pub returns-in_err-done-clause-device : goal.returns-in_err-done-clause-device
 returns-in_err-done-clause-device g c h config seat =
@@ -59,8 +59,8 @@ returns-in_err-done-clause-device g c h config seat =
     (Single c.loop-rest.number c.in-Some-found.plain.line.now) (option_copied c.in-Some-found.plain.rest) (c.loop-rest.number + 1)
     ((rw c.in-Some-found.is at c.in-Ok.ensures.read) c.loop-rest.number)
     (contents c.do_emission-back.new.writer) (progress_of (view_of c.do_emission-back.result.0)) (heard c.do_emission-back.new.writer)
-    (rw c.in_err-done.was at c.do_emission-back.ensures.unheard) tt
-    (c.do_emission-back.ensures.device (cc (h, p.1, p.2, c.in_err-done.was)) config (c.loop-rest.invariant.seated config seat))
+    (rw c.in_err-done.was at c.do_emission-back.ensures.run.unheard) tt
+    (c.do_emission-back.ensures.run.device (cc (h, p.1, p.2, c.in_err-done.was)) config (c.loop-rest.invariant.seated config seat))
 
 pub loop-rest-preserved-in-Some-found : goal.loop-rest-preserved-in-Some-found
 loop-rest-preserved-in-Some-found g c =
@@ -73,7 +73,7 @@ loop-rest-preserved-in-Some-found g c =
       seated = λ config seat. done.session config (c.loop-rest.invariant.seated config seat);
       stands = λ config seat.
           let stands = rw c.in-Some.is at c.loop-rest.invariant.stands config seat in
-          let gave = (rw c.in_ok-done.was at done.done) config (c.loop-rest.invariant.seated config seat) in
+          let gave = (rw c.in_ok-done.was at done.run.done) config (c.loop-rest.invariant.seated config seat) in
           keeps config (g.G.Gate.may_answer c.args.env.now.gate.now) g.W.Sink.wants_first c.args.script.now (contents c.args.writer.now) (contents c.loop-rest.writer) c.loop-rest.replies
           (heard c.args.writer.now) (heard c.loop-rest.writer) (progress_of (view_of c.loop-rest.pass)) c.in-Some.text.now
           c.loop-rest.number c.loop-rest.status stands
@@ -85,13 +85,13 @@ loop-rest-preserved-in-Some-found g c =
           (emission_heard config c.loop-rest.number (lines_of c.args.script.now) (lines_of c.in-Some.text.now) stands.some stands.is_left
           (progress_of (view_of c.loop-rest.pass)) (progress_of (view_of c.do_emission-back.result.0)) gave.0 (contents c.do_emission-back.new.writer)
           (heard c.loop-rest.writer) (heard c.do_emission-back.new.writer) c.in-Some-found.plain.line.now (lines_left (option_copied c.in-Some-found.plain.rest)) lines gave.1
-          (rw c.in_ok-done.was at (done.heard config (c.loop-rest.invariant.seated config seat))))
-          (rw c.in_ok-done.was at done.flushed)
+          (rw c.in_ok-done.was at (done.run.heard config (c.loop-rest.invariant.seated config seat))))
+          (rw c.in_ok-done.was at done.run.flushed)
           (omega (arith, stands.some))
           (left_next c.loop-rest.number (lines_of c.args.script.now) (lines_of c.in-Some.text.now) _ _ stands.some stands.is_left lines)
           (rw c.in_ok-done.was at done.faultless) c.with_item-status.ensures.refused c.with_item-status.ensures.other;
       room = omega (arith, rw c.in-Some.is at c.loop-rest.invariant.room, rw c.in-Some-found.is at c.in-Ok.ensures.shorter);
-      unfailed = (rw c.in_ok-done.was at done.failures) ∙ c.loop-rest.invariant.unfailed;
+      unfailed = (rw c.in_ok-done.was at done.run.failures) ∙ c.loop-rest.invariant.unfailed;
     }
 
 -- ---- a read
@@ -105,12 +105,12 @@ returns-in_err-ran-clause-memory g c h config seat =
     (heard c.args.writer.now) (heard c.loop-rest.writer) (progress_of (view_of c.loop-rest.pass)) c.in-Some.text.now
     c.loop-rest.number c.loop-rest.status (rw c.in-Some.is at c.loop-rest.invariant.stands config seat)
     (contents c.do_read-back.new.writer) c.do_read-back.new.replies (heard c.do_read-back.new.writer)
-    (rw c.in_err-ran.was at c.do_read-back.ensures.unheard) (c.do_read-back.ensures.memory (cc (h, p.1, p.2, c.in_err-ran.was)))
+    (rw c.in_err-ran.was at c.do_read-back.ensures.run.unheard) (c.do_read-back.ensures.run.memory (cc (h, p.1, p.2, c.in_err-ran.was)))
 
 pub returns-in_err-ran-clause-stopped : goal.returns-in_err-ran-clause-stopped
 returns-in_err-ran-clause-stopped g c h config seat =
     let p = err_from_is_err_and c.from_residual-in_err-ran.result c.from_residual-in_err-ran.ensures.1 in
-    absurd (c.do_read-back.ensures.stopped (cc (h, p.1, p.2, c.in_err-ran.was)))
+    absurd (c.do_read-back.ensures.run.stopped (cc (h, p.1, p.2, c.in_err-ran.was)))
 
 pub returns-in_err-ran-clause-device : goal.returns-in_err-ran-clause-device
 returns-in_err-ran-clause-device g c h config seat =
@@ -123,8 +123,8 @@ returns-in_err-ran-clause-device g c h config seat =
     (Single c.loop-rest.number c.in-Some-read_item.read.line.now) (option_copied c.in-Some-read_item.read.rest) (c.loop-rest.number + 1)
     ((c.in-Some-read_item.ensures.read) c.loop-rest.number)
     (contents c.do_read-back.new.writer) (progress_of (view_of c.do_read-back.result.0)) (heard c.do_read-back.new.writer)
-    (rw c.in_err-ran.was at c.do_read-back.ensures.unheard) tt
-    (c.do_read-back.ensures.device (cc (h, p.1, p.2, c.in_err-ran.was)) config (c.loop-rest.invariant.seated config seat))
+    (rw c.in_err-ran.was at c.do_read-back.ensures.run.unheard) tt
+    (c.do_read-back.ensures.run.device (cc (h, p.1, p.2, c.in_err-ran.was)) config (c.loop-rest.invariant.seated config seat))
 
 pub loop-rest-preserved-in-Some-read_item : goal.loop-rest-preserved-in-Some-read_item
 loop-rest-preserved-in-Some-read_item g c =
@@ -137,7 +137,7 @@ loop-rest-preserved-in-Some-read_item g c =
       seated = λ config seat. done.session config (c.loop-rest.invariant.seated config seat);
       stands = λ config seat.
           let stands = rw c.in-Some.is at c.loop-rest.invariant.stands config seat in
-          let gave = (rw c.in_ok-ran.was at done.done) config (c.loop-rest.invariant.seated config seat) in
+          let gave = (rw c.in_ok-ran.was at done.run.done) config (c.loop-rest.invariant.seated config seat) in
           keeps config (g.G.Gate.may_answer c.args.env.now.gate.now) g.W.Sink.wants_first c.args.script.now (contents c.args.writer.now) (contents c.loop-rest.writer) c.loop-rest.replies
           (heard c.args.writer.now) (heard c.loop-rest.writer) (progress_of (view_of c.loop-rest.pass)) c.in-Some.text.now
           c.loop-rest.number c.loop-rest.status stands
@@ -149,13 +149,13 @@ loop-rest-preserved-in-Some-read_item g c =
           (emission_heard config c.loop-rest.number (lines_of c.args.script.now) (lines_of c.in-Some.text.now) stands.some stands.is_left
           (progress_of (view_of c.loop-rest.pass)) (progress_of (view_of c.do_read-back.result.0)) gave.0 (contents c.do_read-back.new.writer)
           (heard c.loop-rest.writer) (heard c.do_read-back.new.writer) c.in-Some-read_item.read.line.now (lines_left (option_copied c.in-Some-read_item.read.rest)) lines gave.1
-          (rw c.in_ok-ran.was at (done.heard config (c.loop-rest.invariant.seated config seat))))
-          (rw c.in_ok-ran.was at done.flushed)
+          (rw c.in_ok-ran.was at (done.run.heard config (c.loop-rest.invariant.seated config seat))))
+          (rw c.in_ok-ran.was at done.run.flushed)
           (omega (arith, stands.some))
           (left_next c.loop-rest.number (lines_of c.args.script.now) (lines_of c.in-Some.text.now) _ _ stands.some stands.is_left lines)
           (rw c.in_ok-ran.was at done.faultless) c.with_item-status-in-Some-read_item.ensures.refused c.with_item-status-in-Some-read_item.ensures.other;
       room = omega (arith, rw c.in-Some.is at c.loop-rest.invariant.room, c.in-Some-read_item.ensures.shorter);
-      unfailed = (rw c.in_ok-ran.was at done.failures) ∙ c.loop-rest.invariant.unfailed;
+      unfailed = (rw c.in_ok-ran.was at done.run.failures) ∙ c.loop-rest.invariant.unfailed;
     }
 
 -- ---- any other item

@@ -1,43 +1,27 @@
-use Rattle.std.proofs.Common.{rules, ◌≡◌, [], ◌∷◌, Some, Ok, refl}
+use Rattle.std.proofs.Common.{rules, ◌≡◌, Some, Ok, refl}
 use Rattle.ticket_lock.specs.Calls.{view_of}
 use Rattle.trace_command.specs.declared.command.Config.{Config}
 use Rattle.trace_command.specs.declared.command.Reply.TheVariants.{Done}
 use Rattle.trace_script.specs.declared.outcome.Outcome.TheVariants.{Replied}
 use Rattle.trace_session.specs.Passes.{IsSessionPass, progress_of}
-use Rattle.trace_session.specs.Sessions.{status_of}
-use Rattle.trace_session.proofs.Stepping.{done_unheard, flushed_as}
-use Rattle.trace_session.proofs.SingleLines.{line_done, line_cut, line_heard}
+use Rattle.trace_session.proofs.SingleLines.{line_run, line_silent, line_stops}
 use Rattle.trace_session.proofs.step.do_emission.Goals as goal
 
-pub returns-then-is_silent-clause-done : goal.returns-then-is_silent-clause-done
-returns-then-is_silent-clause-done g c config seat =
+pub returns-then-is_silent-clause-run : goal.returns-then-is_silent-clause-run
+returns-then-is_silent-clause-run g c =
     let done : c.ask_emission_line-pass.result.1 ≡ Ok Done = search rules in
-    done_unheard config c.args.number c.args.plain.now.line.now (progress_of (view_of c.args.pass)) (progress_of (view_of c.ask_emission_line-pass.result.0))
-    (g.W.Sink.contents c.args.writer.now) c.args.replies.now
-    (c.ask_emission_line-pass.ensures.turn (Some (Replied Done)) (rw done refl) config c.args.plain.now.line.now seat c.requires.says)
+    line_silent g.W.Sink.wants_first c.args.number c.args.plain.now.line.now (λ (config : Config). IsSessionPass config (view_of c.args.pass))
+    (progress_of (view_of c.args.pass)) (progress_of (view_of c.ask_emission_line-pass.result.0)) _ (search rules)
+    (λ config seat. c.ask_emission_line-pass.ensures.turn (Some (Replied Done)) (rw done refl) config c.args.plain.now.line.now seat c.requires.says)
 
-pub returns-in-Ok-clause-done : goal.returns-in-Ok-clause-done
-returns-in-Ok-clause-done g c =
-    let contents = g.W.Sink.contents in
-    line_done c.args.number c.args.plain.now.line.now c.in-Ok.outcome (λ (config : Config). IsSessionPass config (view_of c.args.pass)) (progress_of (view_of c.args.pass))
-    (progress_of (view_of c.ask_emission_line-pass.result.0)) (λ config seat. c.ask_emission_line-pass.ensures.turn c.in-Ok.outcome c.in-Ok.ensures.told config c.args.plain.now.line.now seat c.requires.says)
-    c.give.result (contents c.args.writer.now) (contents c.give.new.writer) c.args.replies.now c.give.new.replies c.give.ensures.status c.give.ensures.written
+pub returns-in-Ok-clause-run : goal.returns-in-Ok-clause-run
+returns-in-Ok-clause-run g c =
+    line_run g.W.Sink.wants_first c.args.number c.args.plain.now.line.now (λ (config : Config). IsSessionPass config (view_of c.args.pass))
+    (progress_of (view_of c.args.pass)) (progress_of (view_of c.ask_emission_line-pass.result.0)) c.in-Ok.outcome
+    (λ config seat. c.ask_emission_line-pass.ensures.turn c.in-Ok.outcome c.in-Ok.ensures.told config c.args.plain.now.line.now seat c.requires.says)
+    _ _ c.give.result c.give.ensures
 
-pub returns-in-Ok-clause-device : goal.returns-in-Ok-clause-device
-returns-in-Ok-clause-device g c h =
-    let contents = g.W.Sink.contents in
-    line_cut c.args.number c.args.plain.now.line.now c.in-Ok.outcome (λ (config : Config). IsSessionPass config (view_of c.args.pass)) (progress_of (view_of c.args.pass))
-    (progress_of (view_of c.ask_emission_line-pass.result.0)) (λ config seat. c.ask_emission_line-pass.ensures.turn c.in-Ok.outcome c.in-Ok.ensures.told config c.args.plain.now.line.now seat c.requires.says)
-    (contents c.args.writer.now) (contents c.give.new.writer) c.args.replies.now (c.give.ensures.device h).1
-
-pub returns-in-Ok-clause-heard : goal.returns-in-Ok-clause-heard
-returns-in-Ok-clause-heard g c =
-    let contents = g.W.Sink.contents in
-    let heard = g.W.Sink.heard in
-    line_heard c.args.number c.args.plain.now.line.now c.in-Ok.outcome (λ (config : Config). IsSessionPass config (view_of c.args.pass)) (progress_of (view_of c.args.pass))
-    (progress_of (view_of c.ask_emission_line-pass.result.0)) (λ config seat. c.ask_emission_line-pass.ensures.turn c.in-Ok.outcome c.in-Ok.ensures.told config c.args.plain.now.line.now seat c.requires.says)
-    c.give.result (heard c.args.writer.now) (heard c.give.new.writer) (contents c.give.new.writer) c.give.ensures.heard
-
-pub returns-in-Ok-clause-flushed : goal.returns-in-Ok-clause-flushed
-returns-in-Ok-clause-flushed g c =
-    flushed_as g.W.Sink.wants_first _ _ c.give.result (status_of (c.in-Ok.outcome ∷ [])) c.give.ensures.status c.give.ensures.all
+pub returns-in-Err-clause-run : goal.returns-in-Err-clause-run
+returns-in-Err-clause-run g c =
+    line_stops g.W.Sink.wants_first c.args.number c.args.plain.now.line.now (λ (config : Config). IsSessionPass config (view_of c.args.pass))
+    (progress_of (view_of c.args.pass)) (progress_of (view_of c.ask_emission_line-pass.result.0)) _ c.in-Err.stop c.in-Err.ensures.stop

@@ -17,10 +17,10 @@ on_ok (Err stop) = tt
 
 pub returns-in-Line : goal.returns-in-Line
 returns-in-Line g c =
-    let ran = c.do_line.ensures in
+    let ran = c.do_line.ensures.run in
     record {
-      of = ran.of;
-      session = ran.session;
+      of = c.do_line.ensures.of;
+      session = c.do_line.ensures.session;
       done =
           item_given g.W.Sink.wants_first (λ (config : Config). IsSessionPass config (view_of c.args.pass)) c.args.number c.args.item (progress_of (view_of c.args.pass))
           (progress_of (view_of c.do_line.result.0)) c.do_line.result.1 (g.W.Sink.contents c.args.writer.now) (g.W.Sink.contents c.do_line.new.writer)
