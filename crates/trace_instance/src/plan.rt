@@ -1,9 +1,8 @@
 //! Plans: what an emission of an event does in an instance, as far as the instance's settings say it for every row. They change only with a setting,
 //! so whoever owns the instances can keep them, as a kernel keeps the flags of `struct trace_event_file`.
 
-ghost use Rattle.std.specs.Prelude.{◌≡◌, ◌&&◌, true, is_some};
+ghost use Rattle.std.specs.Prelude.{◌≡◌, ◌&&◌, is_some};
 ghost use Rattle.trace_instance.specs.Plans as plans;
-ghost use Rattle.trace_instance.specs.declared.plan.Plan.TheVariants as plan;
 
 use crate::change::InstanceChange;
 use crate::event::InstanceEvent;
@@ -17,15 +16,6 @@ pub enum Plan {
     Record,
     /// A filter or a trigger decides, by the row.
     Ask,
-}
-
-impl Plan {
-    /// Whether it does nothing.
-    pub fn is_nothing(self) -> bool
-        ensures { result ≡ true → self ≡ plan.Nothing }
-    {
-        matches!(self, Plan::Nothing)
-    }
 }
 
 impl InstanceEvent {

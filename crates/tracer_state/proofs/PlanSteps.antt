@@ -152,12 +152,13 @@ untouched events ClearSpare i j event is inside outside = same-settings i j even
 plan-stays : (event : ℕ) (kept : EventPlan) (old new : List Named) → length new ≡ length old
     → ((k : ℕ) (n : Named) → k < length old → plan_of (get_or new k n).instance event ≡ plan_of (get_or old k n).instance event)
     → IsPlanOf event kept old → IsPlanOf event kept new
-plan-stays event kept old new many same is = record {
-  each = λ k n inside few.
-      let within : k < length old = omega (arith, inside, many) in
-      is.each k n within few ∙ sym (same k n within);
-  idle = λ on k inside few. is.idle on k (omega (arith, inside, many)) few;
-}
+plan-stays event kept old new many same is =
+    let within : (k : ℕ) → k < length new → k < length old = λ k inside. omega (arith, inside, many) in record {
+      each = λ k inside few n. is.each k (within k inside) few n ∙ sym (same k n (within k inside));
+      reaches = λ k inside few. is.reaches k (within k inside) few;
+      recorded = λ off k inside few. is.recorded off k (within k inside) few;
+      asks = λ off k inside few. is.asks off k (within k inside) few;
+    }
 
 pub plans-stay : (old new : State) → new.catalog ≡ old.catalog → new.plans.items ≡ old.plans.items → length new.instances.items ≡ length old.instances.items
     → ((event k : ℕ) (n : Named) → k < length old.instances.items

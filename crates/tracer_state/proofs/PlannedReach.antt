@@ -1,15 +1,14 @@
 -- What a plan says of an emission: where it is nothing, nothing is done, and where it is to record, the record is written and nothing else is done.
-use Rattle.std.proofs.Common.{◌≡◌, ℕ, ℤ, ◌<◌, Bool, true, false, not, ◌==◌, ◌&&◌, ◌||◌, if◌then◌else◌, List, [], ◌∷◌, length, get_or, is_some, Option, Some, None, refl, sym, ap, ◌∙◌}
+use Rattle.std.proofs.Common.{◌≡◌, ℕ, ℤ, Bool, true, false, not, ◌==◌, ◌&&◌, ◌||◌, if◌then◌else◌, [], length, get_or, is_some, Option, Some, None, refl, sym}
 use Rattle.trace_filter.specs.Filters.{Parsed}
 use Rattle.trace_format.specs.Cells.{Cells}
 use Rattle.trace_instance.specs.Instances.{InstanceSeen}
 use Rattle.trace_instance.specs.Plans.{plan_of, recording}
 use Rattle.trace_instance.specs.Rows.{fires, kept_acts, kept_holds, reach_of, records}
-use Rattle.trace_instance.specs.declared.change.Reach.{Reach}
-use Rattle.trace_instance.specs.declared.hists.AttachedHist.{AttachedHist}
 use Rattle.trace_instance.specs.declared.plan.Plan.{Plan}
 use Rattle.trace_instance.specs.declared.plan.Plan.TheVariants.{Nothing, Record, Ask}
 use Rattle.trace_instance.specs.declared.trigger.Trigger.{Trigger}
+use Rattle.tracer_state.specs.EventPlans as plans
 use Rattle.tracer_state.specs.States.{no_reach}
 use Rattle.tracer_state.proofs.ReservedEach.{no-hists}
 
@@ -81,3 +80,10 @@ planned-record i event row cpu pid is =
     both-on i.tracing (get_or i.enabled event false) (kept_holds filter row cpu pid) on.0 (none-filtered filter row cpu pid on.1) in
     let still : fires i event row cpu pid ≡ false = none-acts (get_or i.triggers event None) row cpu pid un.trigger in
     (λ x. record { records = recorded x; fires = still x }, un.hists)
+
+-- where nothing has to be asked, the plan says what is done
+pub planned-unasked : (i : InstanceSeen) (event : ℕ) (row : Cells) (cpu : ℕ) (pid : ℤ) (plan : Plan) → plan ≡ plan_of i event → (plan ≡ Ask → ⊥)
+    → (reach_of i event row cpu pid ≡ plans.unasked plan) × (get_or i.hists event [] ≡ [])
+planned-unasked i event row cpu pid Nothing is known = planned-nothing i event row cpu pid (sym is)
+planned-unasked i event row cpu pid Record is known = planned-record i event row cpu pid (sym is)
+planned-unasked i event row cpu pid Ask is known = absurd (known refl)

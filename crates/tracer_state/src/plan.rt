@@ -1,28 +1,35 @@
 //! The plans of events: what an emission of each does in each instance, as far as the settings say it alone. They are worked out when a setting
-//! changes and not when an event is emitted, so an emission asks only the filters and triggers that are there, and passes an event that is idle.
+//! changes and not when an event is emitted, so an emission asks only the filters and triggers that are there, and no instance if there are none.
 //!
 //! ```text
 //!                    instance 0   1         2        ..
-//!     event 0        Record       Nothing   Ask           its filters and triggers in 2 decide
-//!     event 1, idle  Nothing      Nothing   Nothing
+//!     event 0, idle  Nothing      Nothing   Nothing
+//!     event 1        Record       Nothing   Record        what it does is all in the plan
+//!     event 2        Record       Nothing   Ask           its filters and triggers in 2 decide
 //! ```
 
-ghost use Rattle.std.specs.Prelude.{◌≡◌, ℕ, ◌+◌, ◌≤◌, ◌<◌, length, slice_index_or};
+ghost use Rattle.std.specs.Prelude.{◌≡◌, ◌≢◌, ℕ, ◌+◌, ◌≤◌, ◌<◌, false, length, slice_index_or};
+ghost use Rattle.trace_instance.specs.declared.plan.Plan.TheVariants as planned;
+ghost use Rattle.tracer_state.specs.EventPlans as plans;
 ghost use Rattle.tracer_state.specs.EventPlans.{IsPlanOf};
 ghost use Rattle.tracer_state.specs.declared.plan.EventPlan.{EventPlan as Kept};
 
 use crate::state::Named;
-use trace_instance::{INSTANCES, Plan};
+use trace_instance::{INSTANCES, Plan, Reach};
 
 /// The most events that may be declared.
 pub(crate) const EVENTS: usize = 64;
 
-/// What an emission of an event does in each instance, in their order.
+/// What an emission of an event does, by instance, in their order.
 #[derive(Clone, Copy)]
 pub struct EventPlan {
     pub each: [Plan; INSTANCES],
-    /// Whether it does nothing in any.
-    pub idle: bool,
+    /// What it does in each in which nothing has to be asked.
+    pub reaches: [Reach; INSTANCES],
+    /// Whether some instance records it whatever its row.
+    pub recorded: bool,
+    /// Whether a filter or a trigger has to be asked in some instance. If not, and none records it, the event is idle.
+    pub asks: bool,
 }
 
 impl EventPlan {
@@ -30,7 +37,9 @@ impl EventPlan {
     pub(crate) fn idle() -> EventPlan {
         EventPlan {
             each: [Plan::Nothing; INSTANCES],
-            idle: true,
+            reaches: [unasked(Plan::Nothing); INSTANCES],
+            recorded: false,
+            asks: false,
         }
     }
 
@@ -38,15 +47,49 @@ impl EventPlan {
     pub(crate) fn new(instances: &[Named], event: usize) -> EventPlan
         ensures { IsPlanOf event result instances.now }
     {
-        let mut each = [Plan::Nothing; INSTANCES];
-        let mut idle = true;
+        let idle = EventPlan::idle();
+        let mut each = idle.each;
+        let mut reaches = idle.reaches;
+        let mut recorded = false;
+        let mut some_asks = false;
         for i in 0..instances.len().min(INSTANCES) {
             let plan = instances[i].instance.plan(event);
+            let reach = unasked(plan);
             each[i] = plan;
-            idle &= plan.is_nothing();
+            reaches[i] = reach;
+            recorded |= reach.records;
+            some_asks |= asks(plan);
         }
-        EventPlan { each, idle }
+        EventPlan {
+            each,
+            reaches,
+            recorded,
+            asks: some_asks,
+        }
     }
+}
+
+// What an emission does in an instance that isn't asked.
+fn unasked(plan: Plan) -> Reach
+    ensures { result ≡ plans.unasked plan }
+{
+    match plan {
+        Plan::Record => Reach {
+            records: true,
+            fires: false,
+        },
+        Plan::Nothing | Plan::Ask => Reach {
+            records: false,
+            fires: false,
+        },
+    }
+}
+
+// Whether the instance has to be asked.
+fn asks(plan: Plan) -> bool
+    ensures { result ≡ false → plan ≢ planned.Ask }
+{
+    matches!(plan, Plan::Ask)
 }
 
 /// Works out the plans of this many events from an index on.

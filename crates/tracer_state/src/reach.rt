@@ -41,10 +41,10 @@ pub(crate) fn reach_planned(
     ensures reached { emissions.AreReached event row.now cpu pid reaches.new result.recorded instances.now }
     ensures quiet { emissions.AreQuiet event reaches.new result.triggered instances.now }
 {
-    if plan.idle {
-        *reaches = [nothing(); INSTANCES];
+    if !plan.asks {
+        *reaches = plan.reaches;
         return Reached {
-            recorded: false,
+            recorded: plan.recorded,
             triggered: false,
         };
     }
@@ -62,7 +62,7 @@ fn nothing() -> Reach
     }
 }
 
-// As `reach_planned`, of an event that is not idle.
+// As `reach_planned`, where some instance is asked.
 #[inline(always)]
 fn reach_each(
     plan: &EventPlan,

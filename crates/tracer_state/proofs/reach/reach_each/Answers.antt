@@ -1,4 +1,4 @@
-use Rattle.std.proofs.Common.{◌≡◌, ◌∙◌, ℕ, false, [], arith, get_or, length-set, subst, to_z, of_z, w32}
+use Rattle.std.proofs.Common.{◌≡◌, ◌∙◌, false, [], arith, get_or, length-set, subst, to_z, of_z, w32}
 use Rattle.std.proofs.lemmas.List.{get_or_default}
 use Rattle.trace_instance.specs.Rows.{reach_of}
 use Rattle.tracer_state.specs.States.{no_reach}

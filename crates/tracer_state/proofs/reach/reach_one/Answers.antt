@@ -1,5 +1,4 @@
-use Rattle.std.proofs.Common.{◌≡◌, ◌∙◌, sym, to_z, of_z, w32, rules}
-use Rattle.std.proofs.lemmas.Int.{to_z-of_z}
+use Rattle.std.proofs.Common.{◌∙◌, sym}
 use Rattle.tracer_state.proofs.PlannedReach.{planned-nothing, planned-record}
 use Rattle.tracer_state.proofs.ReservedEach.{no-hists}
 use Rattle.tracer_state.proofs.EachInstance.{neither}
