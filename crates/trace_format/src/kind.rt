@@ -96,6 +96,7 @@ impl NumberType {
     }
 
     /// The greatest number, which no type has below 0.
+    #[inline(always)]
     pub(crate) fn greatest_magnitude(self) -> u64
         ensures { pos result ≡ greatest_of self }
     {
