@@ -63,11 +63,7 @@ impl<'a> EventTriggers<'a> {
             TriggerText::Remove if self.own.trigger.is_some() => Ok(TriggerChange::Detach),
             TriggerText::Remove => Err(Refusal::NoSuchTrigger),
             TriggerText::Hist(spec) => self.asked(alloc, event, written, spec),
-            TriggerText::RemoveHist(spec) => {
-                let change = self.removed(written, &spec);
-                drop(spec);
-                change
-            }
+            TriggerText::RemoveHist(spec) => self.removed(written, &spec),
         }
     }
 
@@ -80,16 +76,11 @@ impl<'a> EventTriggers<'a> {
         ensures change { attaching.IsAttached trigger self.entry written.entry result }
         ensures memory { IfErr result (λ r. r ≢ Refusal.Memory) }
     {
-        let attached = Trigger::new(written.number, trigger);
         if self.own.trigger.is_some() {
-            drop(attached);
             return Err(Refusal::TriggerExists);
         }
-        if let Err(refusal) = self.check_room(written.append) {
-            drop(attached);
-            return Err(refusal);
-        }
-        Ok(TriggerChange::Attach(attached))
+        self.check_room(written.append)?;
+        Ok(TriggerChange::Attach(Trigger::new(written.number, trigger)))
     }
 
     // A hist trigger: the string's action on the table of the matching one, or a new one if none matches.
@@ -103,19 +94,13 @@ impl<'a> EventTriggers<'a> {
         requires said { said_of event.now written.text.now ≡ Ok (said.Hist spec) }
         ensures { attaching.IsAsked spec event.now self.entry written.entry result }
     {
-        let action = spec.action();
         if let Some(index) = self.position(written.append, &spec) {
-            drop(spec);
-            return asked_again(self.own.hists.as_slice()[index].table, action);
+            return asked_again(self.own.hists.as_slice()[index].table, spec.action());
         }
-        if !attaches(action) {
-            drop(spec);
+        if !attaches(spec.action()) {
             return Err(Refusal::NoSuchTrigger);
         }
-        if let Err(refusal) = self.check_room(written.append) {
-            drop(spec);
-            return Err(refusal);
-        }
+        self.check_room(written.append)?;
         match self.named_by(written.append, &spec) {
             Some(other) => joined(alloc, written, spec, other),
             None => made(alloc, event, written, spec),
@@ -203,7 +188,6 @@ fn joined(
     ensures { attaching.IsJoinedChange written.entry.number spec other.now result }
 {
     if !spec.fits(&other.spec) {
-        drop(spec);
         return Err(Refusal::TriggerExists);
     }
     let attached = AttachedHist {
@@ -225,7 +209,6 @@ fn made(
     ensures { attaching.IsMadeChange written.entry.number spec result }
 {
     let Ok(again) = HistSpec::parse(alloc, written.text, event) else {
-        drop(spec);
         return Err(Refusal::Memory);
     };
     let made = NewHist {

@@ -111,13 +111,9 @@ impl EventHists {
     pub(crate) fn named_by(&self, spec: &HistSpec) -> Option<&AttachedHist>
         ensures { option_copied result ≡ find (sharing.names_table_of spec.now) self.now }
     {
-        for i in 0..self.hists.len() {
-            let attached = &self.hists[i];
-            if attached.is_named_by(spec) {
-                return Some(attached);
-            }
-        }
-        None
+        self.hists
+            .iter()
+            .find(|attached| attached.is_named_by(spec))
     }
 
     /// Whether any of them counts in the table with this number.
@@ -142,10 +138,7 @@ impl EventHists {
         ensures attached { OnOk result (self.new ≡ (if append then self.old else []) ++ attached ∷ []) }
         ensures refused { OnErr result (self.new ≡ self.old) }
     {
-        if let Err(refused) = self.hists.reserve(1) {
-            drop(attached);
-            return Err(refused);
-        }
+        self.hists.reserve(1)?;
         if !append {
             self.hists.clear();
         }

@@ -297,10 +297,7 @@ impl Instance {
         match change {
             TriggerChange::Keep => self.events[event].hists.keep(append),
             TriggerChange::Attach(trigger) => {
-                if let Err(refused) = self.sides.arm() {
-                    drop(trigger);
-                    return Err(refused);
-                }
+                self.sides.arm()?;
                 self.events[event].set_trigger(append, Some(trigger));
             }
             TriggerChange::Detach => self.events[event].set_trigger(append, None),

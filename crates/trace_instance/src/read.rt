@@ -1,6 +1,6 @@
 //! Reads of the files of an instance.
 
-ghost use Rattle.std.specs.Prelude.{◌≡◌, ℕ, ◌+◌, ◌<◌, ◌≤◌, List, [], length, map, slice_index_or, Option, Some, None, IfOk, IfSome, OnOk};
+ghost use Rattle.std.specs.Prelude.{◌≡◌, ℕ, ◌+◌, ◌<◌, ◌≤◌, List, [], length, map, slice_index_or, Option, Some, None, IfOk, IfSome};
 ghost use Rattle.trace_command.specs.Requests.{Request};
 ghost use Rattle.trace_command.specs.Paths as paths;
 ghost use Rattle.trace_command.specs.declared.command.Config.{Config};
@@ -143,16 +143,6 @@ fn text_of_event(
     }
 }
 
-// The bytes that were written, as a string, if none was refused memory.
-fn built(written: Result<(), AllocError>, out: Vec<u8>) -> Result<Text, AllocError>
-    ensures { (text : List ℕ) → OnOk written (out.items ≡ text) → IfOk result (λ shown. shown ≡ text) }
-{
-    match written {
-        Ok(()) => Ok(Text::from(out)),
-        Err(refused) => Err(refused),
-    }
-}
-
 // The trace of one CPU or of all.
 #[tactic(auto, unfolding(trace_history::specs::FileTexts::shown_trace))]
 fn trace(alloc: Global, source: FileSource<'_>, cpu: Option<u32>) -> Result<Text, AllocError>
@@ -162,14 +152,14 @@ fn trace(alloc: Global, source: FileSource<'_>, cpu: Option<u32>) -> Result<Text
         → IfOk result (λ text. text ≡ file_texts.shown_trace g name past cpu) }
 {
     let mut out = Vec::new(alloc);
-    let written = trace_text(
+    trace_text(
         alloc,
         source.catalog,
         source.instance.buffer(),
         cpu,
         &mut out,
-    );
-    built(written, out)
+    )?;
+    Ok(Text::from(out))
 }
 
 #[tactic(auto, unfolding(trace_history::specs::FileTexts::cpu_stats_text))]
@@ -180,8 +170,8 @@ fn stats(alloc: Global, source: FileSource<'_>, cpu: u32) -> Result<Text, AllocE
         → IfOk result (λ text. text ≡ file_texts.cpu_stats_text g name past cpu) }
 {
     let mut out = Vec::new(alloc);
-    let written = stats_text(alloc, source.instance.stats(cpu), source.clock, &mut out);
-    built(written, out)
+    stats_text(alloc, source.instance.stats(cpu), source.clock, &mut out)?;
+    Ok(Text::from(out))
 }
 
 fn format(alloc: Global, catalog: &Catalog, event: usize) -> Result<Text, AllocError>
@@ -191,8 +181,8 @@ fn format(alloc: Global, catalog: &Catalog, event: usize) -> Result<Text, AllocE
         ≡ texts.format_text (event + 1) (slice_index_or catalog.now event d)) }
 {
     let mut out = Vec::new(alloc);
-    let written = format_text(alloc, event as u16 + 1, event_at(catalog, event), &mut out);
-    built(written, out)
+    format_text(alloc, event as u16 + 1, event_at(catalog, event), &mut out)?;
+    Ok(Text::from(out))
 }
 
 // What the spare side holds.
@@ -203,8 +193,8 @@ fn snapshot(alloc: Global, source: FileSource<'_>) -> Result<Text, AllocError>
         → IfOk result (λ text. text ≡ file_texts.shown_snapshot g name past) }
 {
     let mut out = Vec::new(alloc);
-    let written = snapshot_text(alloc, source.catalog, source.instance.sides(), &mut out);
-    built(written, out)
+    snapshot_text(alloc, source.catalog, source.instance.sides(), &mut out)?;
+    Ok(Text::from(out))
 }
 
 // The triggers of an event, in the order in which they were attached.
@@ -223,8 +213,8 @@ fn triggers(alloc: Global, instance: &Instance, event: usize) -> Result<Text, Al
         kept.hists.as_slice(),
     )?;
     let mut out = Vec::new(alloc);
-    let written = trigger_text(alloc, &shown, &mut out);
-    built(written, out)
+    trigger_text(alloc, &shown, &mut out)?;
+    Ok(Text::from(out))
 }
 
 // The hist triggers of an event with their entries and totals.
@@ -240,8 +230,8 @@ fn histograms(alloc: Global, instance: &Instance, event: usize) -> Result<Text, 
         instance.event(event).hists.as_slice(),
     )?;
     let mut out = Vec::new(alloc);
-    let written = hist_text(alloc, &shown, &mut out);
-    built(written, out)
+    hist_text(alloc, &shown, &mut out)?;
+    Ok(Text::from(out))
 }
 
 /// The declarations of all events, one on each line.

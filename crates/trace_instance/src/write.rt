@@ -151,16 +151,14 @@ fn change_of_event(
             Some(flag) => Ok(InstanceChange::Switch(event, flag)),
             None => Err(Refusal::BadValue),
         },
-        EventFile::Filter => match written_filter(alloc, text, event_at(catalog, event)) {
-            Ok(filter) => Ok(InstanceChange::SetFilter(event, filter)),
-            Err(refusal) => Err(refusal),
-        },
+        EventFile::Filter => {
+            let filter = written_filter(alloc, text, event_at(catalog, event))?;
+            Ok(InstanceChange::SetFilter(event, filter))
+        }
         EventFile::Trigger => {
             let triggers = EventTriggers::of(instance, event);
-            match triggers.written(alloc, event_at(catalog, event), written) {
-                Ok(change) => Ok(InstanceChange::Triggers(event, append, change)),
-                Err(refusal) => Err(refusal),
-            }
+            let change = triggers.written(alloc, event_at(catalog, event), written)?;
+            Ok(InstanceChange::Triggers(event, append, change))
         }
         _ => Err(Refusal::NotWritable),
     }

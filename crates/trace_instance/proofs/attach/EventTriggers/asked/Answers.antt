@@ -1,4 +1,5 @@
-use Rattle.std.proofs.Common.{◌≡◌, ◌∙◌, true, false, None, Some, option_copied, sym, ap, rules}
+use Rattle.std.proofs.Common.{◌≡◌, ◌∙◌, true, false, None, Some, Err, option_copied, sym, ap, rules}
+use Rattle.trace_command.specs.declared.refusal.Refusal.TheVariants.{TooMany}
 use Rattle.trace_instance.specs.private.Attaching as attaching
 use Rattle.trace_instance.specs.private.SharedTables as sharing
 use Rattle.trace_instance.proofs.Answering.{same_left}
@@ -10,7 +11,7 @@ pub returns-in-Some : goal.returns-in-Some
 returns-in-Some c =
     let found : same_left c.args.spec c.args.self c.args.written.append ≡ Some c.in-Some.index = sym c.position.ensures ∙ c.in-Some.is in
     let hist = c.index-as_slice-index.result in
-    rw (c.asked_again.ensures, c.action-action.ensures, c.as_slice.ensures)
+    rw (c.asked_again.ensures, c.action.ensures, c.as_slice.ensures)
     (ask-again c.args.spec c.args.event.now c.args.self c.args.written c.in-Some.index hist found)
 
 pub returns-then-not-attaches : goal.returns-then-not-attaches
@@ -19,11 +20,12 @@ returns-then-not-attaches c =
     let lacking : attaching.attaches c.args.spec.action ≡ false = search rules in
     ask-lacks c.args.spec c.args.event.now c.args.self c.args.written none lacking
 
-pub returns-in-Err : goal.returns-in-Err
-returns-in-Err c =
+pub returns-in_err-check_room : goal.returns-in_err-check_room
+returns-in_err-check_room c =
     let none : same_left c.args.spec c.args.self c.args.written.append ≡ None = sym c.in_default.ensures in
     let attaches : attaching.attaches c.args.spec.action ≡ true = search rules in
-    rw c.in-Err.ensures.full.0 (ask-full c.args.spec c.args.event.now c.args.self c.args.written none attaches c.in-Err.ensures.full.1)
+    let out : c.from_residual.result ≡ Err TooMany = search rules in
+    rw out (ask-full c.args.spec c.args.event.now c.args.self c.args.written none attaches c.in_err-check_room.ensures.full.1)
 
 pub returns-in-Some-named_by : goal.returns-in-Some-named_by
 returns-in-Some-named_by c =
@@ -31,7 +33,7 @@ returns-in-Some-named_by c =
     let attaches : attaching.attaches c.args.spec.action ≡ true = search rules in
     let found : sharing.named_in c.args.spec (sharing.left_of c.args.self c.args.written.append) ≡ Some c.in-Some-named_by.other.now =
     sym c.named_by.ensures ∙ ap option_copied c.in-Some-named_by.is in
-    ask-joined c.args.spec c.args.event.now c.args.self c.args.written none attaches c.in_default-check_room.ensures.room
+    ask-joined c.args.spec c.args.event.now c.args.self c.args.written none attaches c.in_ok-check_room.ensures.room
     c.in-Some-named_by.other.now found c.joined.result c.joined.ensures
 
 pub returns-in-None : goal.returns-in-None
@@ -39,4 +41,4 @@ returns-in-None c =
     let none : same_left c.args.spec c.args.self c.args.written.append ≡ None = sym c.in_default.ensures in
     let attaches : attaching.attaches c.args.spec.action ≡ true = search rules in
     let lost : sharing.named_in c.args.spec (sharing.left_of c.args.self c.args.written.append) ≡ None = sym c.named_by.ensures ∙ ap option_copied c.in-None.is in
-    ask-made c.args.spec c.args.event.now c.args.self c.args.written none attaches c.in_default-check_room.ensures.room lost c.made.result c.made.ensures
+    ask-made c.args.spec c.args.event.now c.args.self c.args.written none attaches c.in_ok-check_room.ensures.room lost c.made.result c.made.ensures

@@ -44,7 +44,7 @@ returns-in-Hist-clause-change c = λ name past number are.
 pub returns-in-RemoveHist-clause-change : goal.returns-in-RemoveHist-clause-change
 returns-in-RemoveHist-clause-change c = λ name past number are.
     let read : said_of c.args.event.now c.args.written.text.now ≡ Ok (said.RemoveHist c.in-RemoveHist.spec) = c.in_ok-parse.ensures.exact ∙ ap Ok c.in-RemoveHist.is in
-    c.removed-change.ensures.change c.args.event.now name past number are read
+    c.removed.ensures.change c.args.event.now name past number are read
 
 pub returns-in_err-parse-clause-memory : goal.returns-in_err-parse-clause-memory
 returns-in_err-parse-clause-memory c = λ unfiltered plain.

@@ -9,9 +9,9 @@ returns-in-Keep-clause-applied c =
     rw c.in-Keep.is (are_set c.args.event c.args.append _ c.args.self.now c.self.inside one _ _ _ c.self.view_is c.requires.hists
     c.index_mut.ensures.value (ap (λ (l : List AttachedHist). record one { hists = l }) c.keep.ensures) (λ n. unasked _) (same_sides _ _ _ _ (λ f. refl)))
 
-pub returns-in_default-clause-applied : goal.returns-in_default-clause-applied
-returns-in_default-clause-applied c =
-    let armed = c.in_default.ensures in
+pub returns-in_ok-arm-in-Attach-clause-applied : goal.returns-in_ok-arm-in-Attach-clause-applied
+returns-in_ok-arm-in-Attach-clause-applied c =
+    let armed = c.in_ok-arm-in-Attach.ensures in
     rw c.in-Attach.is (are_set c.args.event c.args.append _ c.args.self.now c.self-in-Attach.inside c.index_mut-in-Attach.result.now _ _ _
     c.self-in-Attach.view_is c.requires.hists c.index_mut-in-Attach.ensures.value c.set_trigger.ensures (λ n. unasked _)
     (armed_sides _ _ _ _ _ armed.live armed.spare armed.stands armed.shape))
