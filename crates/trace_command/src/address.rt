@@ -1,6 +1,6 @@
 //! The instance and the file that a path names.
 
-ghost use Rattle.std.specs.Prelude.{◌≡◌, [], ◌∷◌, Some, None};
+ghost use Rattle.std.specs.Prelude.{◌≡◌, [], ◌∷◌, Some, None, IfNone};
 ghost use Rattle.std.specs.Option.{option_map};
 ghost use Rattle.trace_command.specs.Paths as paths;
 ghost use Rattle.trace_command.specs.FileNames.{address_at, bytes_now, cpu_at, file_at, parts_of};
@@ -8,18 +8,19 @@ ghost use Rattle.trace_command.specs.FileNames.{address_at, bytes_now, cpu_at, f
 use crate::file_name::{
     FileName, cpu_file, event_file, events_file, is, option_file, system_file, top_file,
 };
-use trace_lex::{all_digits, has_leading_zero, is_name};
+use trace_lex::{all_digits, has_leading_zero, is_name, len_before};
 
 // What is before the first slash, and what is after it.
+#[tactic(auto, using(crate::proofs::PathLemmas::parts_none))]
 fn cut(path: &[u8]) -> (&[u8], Option<&[u8]>)
-    ensures { paths.parts path.now ≡ result.0.now ∷ parts_of result.1 }
+    ensures parts { paths.parts path.now ≡ result.0.now ∷ parts_of result.1 }
+    ensures whole { IfNone result.1 (result.0.now ≡ path.now) }
 {
-    for i in 0..path.len() {
-        if path[i] == b'/' {
-            return (&path[..i], Some(&path[i + 1..]));
-        }
+    let len = len_before(b'/', path);
+    if len == path.len() {
+        return (path, None);
     }
-    (path, None)
+    (&path[..len], Some(&path[len + 1..]))
 }
 
 /// Where a path leads: to an instance, by its name (none is the top one), and there to a file, if the rest of the path names one.
@@ -31,14 +32,19 @@ pub struct Address<'a> {
 
 /// The instance and the file that a path names (ftrace.rst, "The File System", "Instances"). Whether the instance, the CPU and the event are
 /// there is not looked at. A path may begin with the mount point `/sys/kernel/tracing/`.
-#[tactic(auto, unfolding(crate::specs::Paths::address_of))]
+#[tactic(auto, unfolding(crate::specs::Paths::address_of), using(crate::proofs::PathLemmas::top_file_alone))]
 pub fn address_of(path: &[u8]) -> Address<'_>
     ensures { address_at result ≡ paths.address_of path.now }
 {
     let path = below_mount_point(path);
+    // Most paths are a name at the top, which has no slash to look for.
+    let file = top_file(path);
+    if file.is_some() {
+        return at_top(file);
+    }
     let (first, rest) = cut(path);
     match rest {
-        None => at_top(top_file(first)),
+        None => at_top(None),
         Some(rest) => address_below(first, rest),
     }
 }
