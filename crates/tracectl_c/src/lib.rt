@@ -204,6 +204,22 @@ pub extern "C" fn tracectl_emit_values(
     status
 }
 
+/// Writes a string to a file, or appends it.
+fn write(alloc: Global, handle: &mut Handle, path: &[u8], text: &[u8], appends: bool) -> u32
+    ensures { Does (after_command (commands.Write path.now appends text.now)) (console_of handle.old) (console_of handle.new) result }
+{
+    let Some(mut console) = handle.take(alloc) else {
+        return NOT_OPEN;
+    };
+    let status = if appends {
+        console.append(path, text)
+    } else {
+        console.write(path, text)
+    };
+    handle.keep(console);
+    status
+}
+
 /// Writes a string to a file, as `echo TEXT > PATH` does.
 #[unsafe(no_mangle)]
 pub extern "C" fn tracectl_write(
@@ -214,12 +230,7 @@ pub extern "C" fn tracectl_write(
 ) -> u32
     ensures { Does (after_command (commands.Write path.now false text.now)) (console_of handle.old) (console_of handle.new) result }
 {
-    let Some(mut console) = handle.take(alloc) else {
-        return NOT_OPEN;
-    };
-    let status = console.write(path, text);
-    handle.keep(console);
-    status
+    write(alloc, handle, path, text, false)
 }
 
 /// Appends a string to a file, as `echo TEXT >> PATH` does.
@@ -232,12 +243,7 @@ pub extern "C" fn tracectl_append(
 ) -> u32
     ensures { Does (after_command (commands.Write path.now true text.now)) (console_of handle.old) (console_of handle.new) result }
 {
-    let Some(mut console) = handle.take(alloc) else {
-        return NOT_OPEN;
-    };
-    let status = console.append(path, text);
-    handle.keep(console);
-    status
+    write(alloc, handle, path, text, true)
 }
 
 /// Reads a file to its end, as `cat PATH` does.
