@@ -1,53 +1,43 @@
-use Rattle.std.proofs.Common.{◌≡◌, true, false, Ok, Err, rules}
-use Rattle.trace_history.specs.Settings.{written_flag, written_option, written_tracing}
+use Rattle.std.proofs.Common.{true, false, rules}
 use Rattle.trace_command.specs.declared.refusal.Refusal.TheVariants.{BadValue}
-use Rattle.trace_instance.specs.private.Commands.{needed_flag}
 use Rattle.trace_instance.proofs.Writes.{clears-trace, no-switch, no-option, no-number, sets-overwrite, sets-option, sets-tracing, switches-all}
 use Rattle.trace_instance.proofs.write.change_of_instance.Goals as goal
 
 pub returns-in-None-clause-change : goal.returns-in-None-clause-change
 returns-in-None-clause-change c = λ g name past events distinct stands.
-    let needed : needed_flag (written_flag c.args.written.text.now) ≡ Err BadValue = search rules in
-    rw c.in-Overwrite.is (no-switch c.args.written.text.now BadValue needed)
+    rw c.in-Overwrite.is (no-switch c.args.written.text.now BadValue (search rules))
 
 pub returns-in-None-written_option-clause-change : goal.returns-in-None-written_option-clause-change
 returns-in-None-written_option-clause-change c = λ g name past events distinct stands.
-    let needed : needed_flag (written_option c.args.written.text.now) ≡ Err BadValue = search rules in
-    rw c.in-TraceOptions.is (no-option c.args.written.text.now BadValue needed)
+    rw c.in-TraceOptions.is (no-option c.args.written.text.now BadValue (search rules))
 
 pub returns-in-None-written_tracing-clause-change : goal.returns-in-None-written_tracing-clause-change
 returns-in-None-written_tracing-clause-change c = λ g name past events distinct stands.
-    let needed : needed_flag (written_tracing c.args.written.text.now) ≡ Err BadValue = search rules in
-    rw c.in-TracingOn.is (no-number c.args.written.text.now BadValue needed)
+    rw c.in-TracingOn.is (no-number c.args.written.text.now BadValue (search rules))
 
 pub returns-in-None-written_flag-clause-change : goal.returns-in-None-written_flag-clause-change
 returns-in-None-written_flag-clause-change c = λ g name past events distinct stands.
-    let needed : needed_flag (written_flag c.args.written.text.now) ≡ Err BadValue = search rules in
-    rw c.in-EventsEnable.is (no-switch c.args.written.text.now BadValue needed)
+    rw c.in-EventsEnable.is (no-switch c.args.written.text.now BadValue (search rules))
 
 pub returns-in-Some-clause-change : goal.returns-in-Some-clause-change
 returns-in-Some-clause-change c = λ g name past events distinct stands.
     let flag = c.in-Some.flag in
-    let needed : needed_flag (written_flag c.args.written.text.now) ≡ Ok flag = search rules in
-    rw c.in-Overwrite.is (sets-overwrite g name past c.args.written.append c.args.written.text.now flag needed)
+    rw c.in-Overwrite.is (sets-overwrite g name past c.args.written.append c.args.written.text.now flag (search rules))
 
 pub returns-in-Some-written_option-clause-change : goal.returns-in-Some-written_option-clause-change
 returns-in-Some-written_option-clause-change c = λ g name past events distinct stands.
     let flag = c.in-Some-written_option.flag in
-    let needed : needed_flag (written_option c.args.written.text.now) ≡ Ok flag = search rules in
-    rw c.in-TraceOptions.is (sets-option g name past c.args.written.append c.args.written.text.now flag needed)
+    rw c.in-TraceOptions.is (sets-option g name past c.args.written.append c.args.written.text.now flag (search rules))
 
 pub returns-in-Some-written_tracing-clause-change : goal.returns-in-Some-written_tracing-clause-change
 returns-in-Some-written_tracing-clause-change c = λ g name past events distinct stands.
     let flag = c.in-Some-written_tracing.flag in
-    let needed : needed_flag (written_tracing c.args.written.text.now) ≡ Ok flag = search rules in
-    rw c.in-TracingOn.is (sets-tracing g name past c.args.written.append c.args.written.text.now flag needed)
+    rw c.in-TracingOn.is (sets-tracing g name past c.args.written.append c.args.written.text.now flag (search rules))
 
 pub returns-in-Some-written_flag-clause-change : goal.returns-in-Some-written_flag-clause-change
 returns-in-Some-written_flag-clause-change c = λ g name past events distinct stands.
     let flag = c.in-Some-written_flag.flag in
-    let needed : needed_flag (written_flag c.args.written.text.now) ≡ Ok flag = search rules in
-    rw c.in-EventsEnable.is (switches-all g name past c.args.written.append c.args.written.text.now flag (rw events at distinct) needed)
+    rw c.in-EventsEnable.is (switches-all g name past c.args.written.append c.args.written.text.now flag (rw events at distinct) (search rules))
 
 pub returns-in-EventsFilter-clause-change : goal.returns-in-EventsFilter-clause-change
 returns-in-EventsFilter-clause-change c = λ g name past events distinct stands.
