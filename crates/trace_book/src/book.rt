@@ -32,7 +32,7 @@ use std::slice;
 use trace_command::{BorrowedEmission, Command, Config, Refusal, Reply};
 use trace_format::{EventDef, Pair, borrowed};
 use trace_instance::Instance;
-use tracer_without_history::{Live, let_go, let_go_change, single};
+use tracer_without_history::{Live, let_go, single};
 
 /// A tracer and the history of the commands done. Commands name files as in ftrace.rst and run one at a time.
 pub struct Book {
@@ -169,16 +169,9 @@ impl Book {
     {
         let limit = self.live.config().history_limit;
         let (event, cpu, pid, pairs) = emission.parts();
-        match self.live.prepare_emission(limit, event, cpu, pid, pairs) {
-            Ok(()) => {}
-            Err(refusal) => return Err(refusal),
-        }
-        let Ok(()) = self
-            .history
-            .write_emission_ahead(ticket, by, event, cpu, pid, pairs)
-        else {
-            return Err(Refusal::Memory);
-        };
+        self.live.prepare_emission(limit, event, cpu, pid, pairs)?;
+        self.history
+            .write_emission_ahead(ticket, by, event, cpu, pid, pairs)?;
         self.live.deliver();
         self.history.append_written();
         Ok(Reply::Done)
@@ -221,46 +214,25 @@ impl Book {
             (record { ticket = ticket; by = by; command = Command.Read path.now limit }) result }
     {
         let room = self.live.config().history_limit;
-        let prepared = match self.live.prepare_read(room, path, limit) {
-            Ok(prepared) => prepared,
-            Err(refusal) => return Err(refusal),
-        };
-        let Ok(()) = self.history.write_read_ahead(ticket, by, path, limit) else {
-            let_go_change(prepared);
-            return Err(Refusal::Memory);
-        };
-        match self.live.carry_out(prepared) {
-            Ok(shown) => {
-                self.history.append_written();
-                Ok(shown)
-            }
-            Err(refusal) => Err(refusal),
-        }
+        let prepared = self.live.prepare_read(room, path, limit)?;
+        self.history.write_read_ahead(ticket, by, path, limit)?;
+        let shown = self.live.carry_out(prepared)?;
+        self.history.append_written();
+        Ok(shown)
     }
 
-    // As `ask`, for a command other than an emission. Errors are matched, and what was prepared is dropped by a call, since with `?` the proof of this
-    // function takes five times as long.
+    // As `ask`, for a command other than an emission.
     fn ask_other(&mut self, ticket: u64, by: u32, command: &Command) -> Result<Reply, Refusal>
         requires rises { All (λ entry. entry.ticket < ticket) self.old.entries }
         requires other { ticks (request_of command.now) ≡ 0 }
         ensures { IsBookCall self.old self.new (record { ticket = ticket; by = by; command = command.now }) result }
     {
         let limit = self.live.config().history_limit;
-        let prepared = match self.live.prepare(limit, command) {
-            Ok(prepared) => prepared,
-            Err(refusal) => return Err(refusal),
-        };
-        let Ok(()) = self.history.write_ahead(ticket, by, command) else {
-            let_go_change(prepared);
-            return Err(Refusal::Memory);
-        };
-        match self.live.carry_out(prepared) {
-            Ok(reply) => {
-                self.history.append_written();
-                Ok(reply)
-            }
-            Err(refusal) => Err(refusal),
-        }
+        let prepared = self.live.prepare(limit, command)?;
+        self.history.write_ahead(ticket, by, command)?;
+        let reply = self.live.carry_out(prepared)?;
+        self.history.append_written();
+        Ok(reply)
     }
 
     /// The history, oldest entry first. It is legal: tickets rise, and each entry was done after those before it.

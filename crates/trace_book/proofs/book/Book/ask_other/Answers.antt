@@ -1,4 +1,5 @@
-use Rattle.std.proofs.Common.{List, [], ◌∷◌, ◌++◌, All, subst, ◌≡◌, ◌<◌, length, Ok, arith, rules, refl, ap, sym, ◌∙◌}
+use Rattle.std.proofs.Common.{List, [], ◌∷◌, ◌++◌, All, subst, ◌≡◌, ◌<◌, length, Ok, arith, rules, refl, ap, sym, ◌∙◌, Err}
+use Rattle.trace_command.specs.declared.refusal.Refusal.TheVariants.{Memory}
 use Rattle.trace_command.specs.Refusals.{IsRefusal}
 use Rattle.trace_command.specs.Requests.{request_of}
 use Rattle.trace_command.specs.declared.command.Config.{Config}
@@ -14,17 +15,18 @@ use Rattle.trace_book.specs.private.BookCalls.{IsBookCall}
 use Rattle.trace_book.proofs.BookCalls.{refused-call, memory-call, done-call}
 use Rattle.trace_book.proofs.book.Book.ask_other.Goals as goal
 
-pub returns-in-Err : goal.returns-in-Err
-returns-in-Err c =
+pub returns-in_err-prepared : goal.returns-in_err-prepared
+returns-in_err-prepared c =
     let book = c.self.inside in
     let g = book.live.config in
     let past = past_of book.history.entries in
     let entry : Entry = record { ticket = c.args.ticket; by = c.args.by; command = c.args.command.now } in
-    let refused : IsRefusal c.in-Err.refusal (limited_answer g.history_limit g past (request_of c.args.command.now)) =
-    rw c.config.ensures at c.in-Err.ensures.prepared past c.self.invariant.lives in
-    rw (← c.self.view_is)
-    (refused-call (seen book) (seen book) entry c.in-Err.refusal c.self.invariant.legal refl refl refused
-    (c.in-Err.ensures.memory past c.self.invariant.lives))
+    let refused : IsRefusal c.in_err-prepared.field-0.0 (limited_answer g.history_limit g past (request_of c.args.command.now)) =
+    rw c.config.ensures at c.in_err-prepared.ensures.prepared past c.self.invariant.lives in
+    let out : c.from_residual.result ≡ Err c.in_err-prepared.field-0.0 = search rules in
+    rw (out, ← c.self.view_is)
+    (refused-call (seen book) (seen book) entry c.in_err-prepared.field-0.0 c.self.invariant.legal refl refl refused
+    (c.in_err-prepared.ensures.memory past c.self.invariant.lives))
 
 pub invariant_of-self : goal.invariant_of-self
 invariant_of-self c = record {
@@ -32,44 +34,46 @@ invariant_of-self c = record {
   lives = rw c.write_ahead.ensures.entries c.self.invariant.lives;
 }
 
-pub returns-in_default : goal.returns-in_default
-returns-in_default c =
+pub returns-in_err-write_ahead : goal.returns-in_err-write_ahead
+returns-in_err-write_ahead c =
     let book = c.self.inside in
     let past = past_of book.history.entries in
     let entry : Entry = record { ticket = c.args.ticket; by = c.args.by; command = c.args.command.now } in
     let limit = ap (λ (k : Config). k.history_limit) c.config.ensures in
     let room : length book.history.entries < book.live.config.history_limit =
-    omega (arith, length-past_of book.history.entries, c.self.invariant.lives.count, c.in-Ok.ensures.room, limit) in
-    rw (← c.self.view_is)
-    (memory-call (seen book) _ entry c.in-Ok.prepared.reply c.self.invariant.legal refl c.write_ahead.ensures.entries
-    (c.in-Ok.ensures.prepared past c.self.invariant.lives).0 room)
+    omega (arith, length-past_of book.history.entries, c.self.invariant.lives.count, c.in_ok-prepared.ensures.room, limit) in
+    let out : c.from_residual-in_err-write_ahead.result ≡ Err Memory = search rules in
+    rw (out, ← c.self.view_is)
+    (memory-call (seen book) _ entry c.in_ok-prepared.prepared.reply c.self.invariant.legal refl c.write_ahead.ensures.entries
+    (c.in_ok-prepared.ensures.prepared past c.self.invariant.lives).0 room)
 
 pub carry_out-requires-clause-room : goal.carry_out-requires-clause-room
 carry_out-requires-clause-room c =
     let limit = ap (λ (k : Config). k.history_limit) c.config.ensures in
-    omega (arith, c.in-Ok.ensures.room, limit, c.self.invariant.lives.in_range.few_entries)
+    omega (arith, c.in_ok-prepared.ensures.room, limit, c.self.invariant.lives.in_range.few_entries)
 
-pub invariant_of-self-in-Err-carry_out : goal.invariant_of-self-in-Err-carry_out
-invariant_of-self-in-Err-carry_out c =
+pub invariant_of-self-in_err-reply : goal.invariant_of-self-in_err-reply
+invariant_of-self-in_err-reply c =
     let past = past_of c.self.inside.history.entries in record {
       legal = rw (c.write_ahead.ensures.entries, c.carry_out.ensures.config) c.self.invariant.legal;
-      lives = rw c.write_ahead.ensures.entries (c.in-Err-carry_out.ensures.refused past c.self.invariant.lives);
+      lives = rw c.write_ahead.ensures.entries (c.in_err-reply.ensures.refused past c.self.invariant.lives);
     }
 
-pub returns-in-Err-carry_out : goal.returns-in-Err-carry_out
-returns-in-Err-carry_out c =
+pub returns-in_err-reply : goal.returns-in_err-reply
+returns-in_err-reply c =
     let book = c.self.inside in
     let past = past_of book.history.entries in
     let entry : Entry = record { ticket = c.args.ticket; by = c.args.by; command = c.args.command.now } in
     let limit = ap (λ (k : Config). k.history_limit) c.config.ensures in
     let room : length book.history.entries < book.live.config.history_limit =
-    omega (arith, length-past_of book.history.entries, c.self.invariant.lives.count, c.in-Ok.ensures.room, limit) in
-    rw (← c.self.view_is, c.in-Err-carry_out.ensures.memory)
-    (memory-call (seen book) _ entry c.in-Ok.prepared.reply c.self.invariant.legal c.carry_out.ensures.config c.write_ahead.ensures.entries
-    (c.in-Ok.ensures.prepared past c.self.invariant.lives).0 room)
+    omega (arith, length-past_of book.history.entries, c.self.invariant.lives.count, c.in_ok-prepared.ensures.room, limit) in
+    let out : c.from_residual-in_err-reply.result ≡ Err c.in_err-reply.field-0.0 = search rules in
+    rw (out, ← c.self.view_is, c.in_err-reply.ensures.memory)
+    (memory-call (seen book) _ entry c.in_ok-prepared.prepared.reply c.self.invariant.legal c.carry_out.ensures.config c.write_ahead.ensures.entries
+    (c.in_ok-prepared.ensures.prepared past c.self.invariant.lives).0 room)
 
-pub invariant_of-self-in-Ok-carry_out : goal.invariant_of-self-in-Ok-carry_out
-invariant_of-self-in-Ok-carry_out c =
+pub invariant_of-self-2 : goal.invariant_of-self-2
+invariant_of-self-2 c =
     let book = c.self.inside in
     let past = past_of book.history.entries in
     let request = request_of c.args.command.now in
@@ -77,39 +81,39 @@ invariant_of-self-in-Ok-carry_out c =
     let written : c.write_ahead.new.self.ahead ≡ entry ∷ [] = search rules in
     let items : c.append_written.new.self.entries ≡ book.history.entries ++ entry ∷ [] =
     ap (λ (h : HistorySeen). h.entries) c.append_written.ensures ∙ rw (c.write_ahead.ensures.entries, written) refl in
-    let prepared : IsPrepared book.live.config past request book.live.state (Ok c.in-Ok.prepared) = c.in-Ok.ensures.prepared past c.self.invariant.lives in
+    let prepared : IsPrepared book.live.config past request book.live.state (Ok c.in_ok-prepared.prepared) = c.in_ok-prepared.ensures.prepared past c.self.invariant.lives in
     let limit = ap (λ (k : Config). k.history_limit) c.config.ensures in
     let room : length book.history.entries < book.live.config.history_limit =
-    omega (arith, length-past_of book.history.entries, c.self.invariant.lives.count, c.in-Ok.ensures.room, limit) in
+    omega (arith, length-past_of book.history.entries, c.self.invariant.lives.count, c.in_ok-prepared.ensures.room, limit) in
     let Below : BookSeen → Type 0 = λ before. All (λ (e : Entry). e.ticket < c.args.ticket) before.entries in
     let below : All (λ (e : Entry). e.ticket < c.args.ticket) book.history.entries = subst Below (sym c.self.view_is) c.requires.rises in
     let after : BookSeen = record { config = c.carry_out.new.self.config; entries = c.append_written.new.self.entries } in
-    let call : IsBookCall (seen book) after entry (Ok c.in-Ok.prepared.reply) =
-    done-call (seen book) after entry c.in-Ok.prepared.reply c.self.invariant.legal c.carry_out.ensures.config items
-    (c.ranges.ticket.fits, c.ranges.by.fits, c.in-Ok.ensures.fits) below prepared.0 room in
+    let call : IsBookCall (seen book) after entry (Ok c.in_ok-prepared.prepared.reply) =
+    done-call (seen book) after entry c.in_ok-prepared.prepared.reply c.self.invariant.legal c.carry_out.ensures.config items
+    (c.ranges.ticket.fits, c.ranges.by.fits, c.in_ok-prepared.ensures.fits) below prepared.0 room in
     record {
       legal = call.legal;
-      lives = rw (items, past_of-push) (c.in-Ok-carry_out.ensures.done past request c.self.invariant.lives prepared);
+      lives = rw (items, past_of-push) (c.in_ok-reply.ensures.done past request c.self.invariant.lives prepared);
     }
 
-pub returns-in-Ok-carry_out : goal.returns-in-Ok-carry_out
-returns-in-Ok-carry_out c =
+pub returns : goal.returns
+returns c =
     let book = c.self.inside in
     let past = past_of book.history.entries in
     let entry : Entry = record { ticket = c.args.ticket; by = c.args.by; command = c.args.command.now } in
     let written : c.write_ahead.new.self.ahead ≡ entry ∷ [] = search rules in
     let items : c.append_written.new.self.entries ≡ book.history.entries ++ entry ∷ [] =
     ap (λ (h : HistorySeen). h.entries) c.append_written.ensures ∙ rw (c.write_ahead.ensures.entries, written) refl in
-    let prepared : IsPrepared book.live.config past (request_of c.args.command.now) book.live.state (Ok c.in-Ok.prepared) =
-    c.in-Ok.ensures.prepared past c.self.invariant.lives in
+    let prepared : IsPrepared book.live.config past (request_of c.args.command.now) book.live.state (Ok c.in_ok-prepared.prepared) =
+    c.in_ok-prepared.ensures.prepared past c.self.invariant.lives in
     let limit = ap (λ (k : Config). k.history_limit) c.config.ensures in
     let room : length book.history.entries < book.live.config.history_limit =
-    omega (arith, length-past_of book.history.entries, c.self.invariant.lives.count, c.in-Ok.ensures.room, limit) in
+    omega (arith, length-past_of book.history.entries, c.self.invariant.lives.count, c.in_ok-prepared.ensures.room, limit) in
     let Below : BookSeen → Type 0 = λ before. All (λ (e : Entry). e.ticket < c.args.ticket) before.entries in
     let below : All (λ (e : Entry). e.ticket < c.args.ticket) book.history.entries = subst Below (sym c.self.view_is) c.requires.rises in
-    rw (← c.self.view_is, c.in-Ok-carry_out.ensures.reply)
-    (done-call (seen book) _ entry c.in-Ok.prepared.reply c.self.invariant.legal c.carry_out.ensures.config items
-    (c.ranges.ticket.fits, c.ranges.by.fits, c.in-Ok.ensures.fits) below prepared.0 room)
+    rw (← c.self.view_is, c.in_ok-reply.ensures.reply)
+    (done-call (seen book) _ entry c.in_ok-prepared.prepared.reply c.self.invariant.legal c.carry_out.ensures.config items
+    (c.ranges.ticket.fits, c.ranges.by.fits, c.in_ok-prepared.ensures.fits) below prepared.0 room)
 
 pub append_written-requires : goal.append_written-requires
 append_written-requires c =

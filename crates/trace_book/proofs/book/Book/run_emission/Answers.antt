@@ -1,4 +1,5 @@
-use Rattle.std.proofs.Common.{List, [], ◌∷◌, ◌++◌, All, subst, ◌≡◌, ◌<◌, length, Ok, arith, rules, refl, ap, sym, ◌∙◌, to_z, of_z, w32}
+use Rattle.std.proofs.Common.{List, [], ◌∷◌, ◌++◌, All, subst, ◌≡◌, ◌<◌, length, Ok, arith, rules, refl, ap, sym, ◌∙◌, to_z, of_z, w32, Err}
+use Rattle.trace_command.specs.declared.refusal.Refusal.TheVariants.{Memory}
 use Rattle.std.proofs.lemmas.Int.{to_z-of_z}
 use Rattle.trace_command.specs.Refusals.{IsRefusal}
 use Rattle.trace_command.specs.Requests.{request_of}
@@ -22,29 +23,30 @@ invariant_of-self c = record {
   lives = c.prepare_emission.ensures.lives (past_of c.self.inside.history.entries) c.self.invariant.lives;
 }
 
-pub returns-in-Err : goal.returns-in-Err
-returns-in-Err c =
+pub returns-in_err-prepare_emission : goal.returns-in_err-prepare_emission
+returns-in_err-prepare_emission c =
     let book = c.self.inside in
     let g = book.live.config in
     let past = past_of book.history.entries in
     let entry : Entry = record { ticket = c.args.ticket; by = c.args.by; command = c.args.emission.now } in
     let pid : to_z w32 (of_z w32 c.parts-cpu.result.2) ≡ c.parts-cpu.result.2 = to_z-of_z w32 c.parts-cpu.result.2 (search rules) in
-    let refused : IsRefusal c.in-Err.refusal (limited_answer g.history_limit g past (request_of c.args.emission.now)) =
+    let refused : IsRefusal c.in_err-prepare_emission.field-0.0 (limited_answer g.history_limit g past (request_of c.args.emission.now)) =
     rw c.parts-cpu.ensures
-    (rw (pid, c.config.ensures, c.prepare_emission.ensures.config) at c.in-Err.ensures.refused past c.self.invariant.lives) in
-    rw (← c.self.view_is)
-    (refused-call (seen book) _ entry c.in-Err.refusal c.self.invariant.legal c.prepare_emission.ensures.config refl refused
+    (rw (pid, c.config.ensures, c.prepare_emission.ensures.config) at c.in_err-prepare_emission.ensures.refused past c.self.invariant.lives) in
+    let out : c.from_residual.result ≡ Err c.in_err-prepare_emission.field-0.0 = search rules in
+    rw (out, ← c.self.view_is)
+    (refused-call (seen book) _ entry c.in_err-prepare_emission.field-0.0 c.self.invariant.legal c.prepare_emission.ensures.config refl refused
     (rw c.parts-cpu.ensures (λ takes. absurd takes)))
 
-pub invariant_of-self-in_default : goal.invariant_of-self-in_default
-invariant_of-self-in_default c =
+pub invariant_of-self-in_err-write_emission_ahead : goal.invariant_of-self-in_err-write_emission_ahead
+invariant_of-self-in_err-write_emission_ahead c =
     let past = past_of c.self.inside.history.entries in record {
       legal = rw (c.write_emission_ahead.ensures.entries, c.prepare_emission.ensures.config) c.self.invariant.legal;
       lives = rw c.write_emission_ahead.ensures.entries (c.prepare_emission.ensures.lives past c.self.invariant.lives);
     }
 
-pub returns-in_default : goal.returns-in_default
-returns-in_default c =
+pub returns-in_err-write_emission_ahead : goal.returns-in_err-write_emission_ahead
+returns-in_err-write_emission_ahead c =
     let book = c.self.inside in
     let g = book.live.config in
     let past = past_of book.history.entries in
@@ -54,17 +56,18 @@ returns-in_default c =
     let limit = ap (λ (k : Config). k.history_limit) c.config.ensures in
     let pid : to_z w32 (of_z w32 c.parts-cpu.result.2) ≡ c.parts-cpu.result.2 = to_z-of_z w32 c.parts-cpu.result.2 (search rules) in
     let prepared : IsPreparedEmission live.config past (request_of c.args.emission.now) live.state live.delivery =
-    rw c.parts-cpu.ensures (rw pid at c.in-Ok.ensures.prepared past c.self.invariant.lives) in
+    rw c.parts-cpu.ensures (rw pid at c.in_ok-prepare_emission.ensures.prepared past c.self.invariant.lives) in
     let given : answer_with_room g past (request_of c.args.emission.now) ≡ Ok Done = rw c.prepare_emission.ensures.config at prepared.0 in
     let room : length book.history.entries < g.history_limit =
-    omega (arith, length-past_of book.history.entries, lives.count, c.in-Ok.ensures.room, limit) in
-    rw (← c.self.view_is)
+    omega (arith, length-past_of book.history.entries, lives.count, c.in_ok-prepare_emission.ensures.room, limit) in
+    let out : c.from_residual-in_err-write_emission_ahead.result ≡ Err Memory = search rules in
+    rw (out, ← c.self.view_is)
     (memory-call (seen book) _ entry Done c.self.invariant.legal c.prepare_emission.ensures.config c.write_emission_ahead.ensures.entries given room)
 
 pub deliver-requires-clause-room : goal.deliver-requires-clause-room
 deliver-requires-clause-room c =
     let limit = ap (λ (k : Config). k.history_limit) c.config.ensures in
-    omega (arith, c.in-Ok.ensures.room, limit, c.self.invariant.lives.in_range.few_entries)
+    omega (arith, c.in_ok-prepare_emission.ensures.room, limit, c.self.invariant.lives.in_range.few_entries)
 
 pub invariant_of-self-2 : goal.invariant_of-self-2
 invariant_of-self-2 c =
@@ -81,16 +84,16 @@ invariant_of-self-2 c =
     let limit = ap (λ (k : Config). k.history_limit) c.config.ensures in
     let pid : to_z w32 (of_z w32 c.parts-cpu.result.2) ≡ c.parts-cpu.result.2 = to_z-of_z w32 c.parts-cpu.result.2 (search rules) in
     let prepared : IsPreparedEmission live.config past request live.state live.delivery =
-    rw c.parts-cpu.ensures (rw pid at c.in-Ok.ensures.prepared past c.self.invariant.lives) in
+    rw c.parts-cpu.ensures (rw pid at c.in_ok-prepare_emission.ensures.prepared past c.self.invariant.lives) in
     let given : answer_with_room g past request ≡ Ok Done = rw c.prepare_emission.ensures.config at prepared.0 in
     let room : length book.history.entries < g.history_limit =
-    omega (arith, length-past_of book.history.entries, lives.count, c.in-Ok.ensures.room, limit) in
+    omega (arith, length-past_of book.history.entries, lives.count, c.in_ok-prepare_emission.ensures.room, limit) in
     let Below : BookSeen → Type 0 = λ before. All (λ (e : Entry). e.ticket < c.args.ticket) before.entries in
     let below : All (λ (e : Entry). e.ticket < c.args.ticket) book.history.entries = subst Below (sym c.self.view_is) c.requires in
     let after : BookSeen = record { config = c.deliver.new.self.config; entries = c.append_written.new.self.entries } in
     let call : IsBookCall (seen book) after entry (Ok Done) =
     done-call (seen book) after entry Done c.self.invariant.legal (c.deliver.ensures.config ∙ c.prepare_emission.ensures.config) items
-    (c.ranges.ticket.fits, c.ranges.by.fits, rw c.parts-cpu.ensures (rw pid at c.in-Ok.ensures.fits)) below given room in
+    (c.ranges.ticket.fits, c.ranges.by.fits, rw c.parts-cpu.ensures (rw pid at c.in_ok-prepare_emission.ensures.fits)) below given room in
     record {
       legal = call.legal;
       lives = rw (items, past_of-push) (c.deliver.ensures.done past request lives prepared);
@@ -111,15 +114,15 @@ returns c =
     let limit = ap (λ (k : Config). k.history_limit) c.config.ensures in
     let pid : to_z w32 (of_z w32 c.parts-cpu.result.2) ≡ c.parts-cpu.result.2 = to_z-of_z w32 c.parts-cpu.result.2 (search rules) in
     let prepared : IsPreparedEmission live.config past request live.state live.delivery =
-    rw c.parts-cpu.ensures (rw pid at c.in-Ok.ensures.prepared past c.self.invariant.lives) in
+    rw c.parts-cpu.ensures (rw pid at c.in_ok-prepare_emission.ensures.prepared past c.self.invariant.lives) in
     let given : answer_with_room g past request ≡ Ok Done = rw c.prepare_emission.ensures.config at prepared.0 in
     let room : length book.history.entries < g.history_limit =
-    omega (arith, length-past_of book.history.entries, lives.count, c.in-Ok.ensures.room, limit) in
+    omega (arith, length-past_of book.history.entries, lives.count, c.in_ok-prepare_emission.ensures.room, limit) in
     let Below : BookSeen → Type 0 = λ before. All (λ (e : Entry). e.ticket < c.args.ticket) before.entries in
     let below : All (λ (e : Entry). e.ticket < c.args.ticket) book.history.entries = subst Below (sym c.self.view_is) c.requires in
     rw (← c.self.view_is)
     (done-call (seen book) _ entry Done c.self.invariant.legal (c.deliver.ensures.config ∙ c.prepare_emission.ensures.config) items
-    (c.ranges.ticket.fits, c.ranges.by.fits, rw c.parts-cpu.ensures (rw pid at c.in-Ok.ensures.fits)) below given room)
+    (c.ranges.ticket.fits, c.ranges.by.fits, rw c.parts-cpu.ensures (rw pid at c.in_ok-prepare_emission.ensures.fits)) below given room)
 
 pub append_written-requires : goal.append_written-requires
 append_written-requires c =
