@@ -35,19 +35,10 @@ use trace_instance::Instance;
 use tracer_without_history::{Live, let_go, single};
 
 /// A tracer and the history of the commands done. Commands name files as in ftrace.rst and run one at a time.
+#[derive(Drop)]
 pub struct Book {
     live: Live,
     history: History,
-}
-
-impl Drop for Book {
-    // Not derived, so that no crate above proves the drops of its parts.
-    fn drop(self) {
-        let Book {
-            live: _,
-            history: _,
-        } = self;
-    }
 }
 
 impl Model for Book {
