@@ -10,4 +10,4 @@ pub fn let_go(_command: Command) {}
 /// Drops what was prepared for a command that is refused.
 #[cold]
 #[inline(never)]
-pub fn let_go_change(_prepared: Prepared) {}
+pub(crate) fn let_go_change(_prepared: Prepared) {}

@@ -6,6 +6,6 @@ pub mod laws;
 mod live;
 mod pair;
 
-pub use discard::{let_go, let_go_change};
+pub use discard::let_go;
 pub use live::{Live, MOST_DONE};
 pub use pair::single;
