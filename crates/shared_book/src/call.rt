@@ -76,7 +76,8 @@ pub fn ask_emission<B: SharedBook, R: Wait>(
     }
 }
 
-/// As `ask`, for a read whose path is borrowed. It builds no command.
+/// As `ask`, for a read whose path is borrowed. It builds no command. It is inlined, so that its answer is not moved.
+#[inline(always)]
 pub fn ask_read<B: SharedBook, R: Wait>(
     rt: &R,
     lock: &TicketLock<B>,

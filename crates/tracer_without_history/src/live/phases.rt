@@ -64,6 +64,7 @@ impl Live {
     }
 
     /// Makes the change that was prepared for a command, and returns its reply: the command is done. If memory is refused, nothing changes.
+    #[inline(always)]
     pub fn carry_out(&mut self, prepared: Prepared) -> Result<Reply, Refusal>
         requires ready { IsReadyFor self.old prepared }
         requires room { self.old.done < most_done }
