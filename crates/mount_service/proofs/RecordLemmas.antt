@@ -12,8 +12,8 @@ use Rattle.mount_tree.specs.declared.file.File.{File}
 use Rattle.mount_tree.specs.declared.file.File.TheVariants as files
 use Rattle.mount_tree.specs.declared.node.Node.TheVariants as nodes
 use Rattle.mount_service.specs.RecordLaws.{ServicesAreAccountedFor, StatsTellAllRecords, live_stats}
-use Rattle.trace_mount.specs.Services.{OpenSeen, Service, Terms, node_of, scene_of}
-use Rattle.trace_mount.specs.PastLaws.{PastsAreDone, ReadsAnew, StatsShowThePast, instance_of, read_whole}
+use Rattle.mount_replies.specs.Services.{OpenSeen, Service, Terms, node_of, scene_of}
+use Rattle.mount_replies.specs.PastLaws.{PastsAreDone, ReadsAnew, StatsShowThePast, instance_of, read_whole}
 
 pub accounted_for : EmissionsAreAccountedFor → EmissionsAreShownOrCounted → PastsAreDone → ServicesAreAccountedFor
 accounted_for all shown pasts g old new exchanges left after serving = record {

@@ -1,4 +1,4 @@
--- From the states of the server to the service that trace_mount defines.
+-- From the states of the server to the service that mount_replies defines.
 use Rattle.std.proofs.Common.{◌≡◌, ◌⊎◌, ℕ, Bool, true, false, ◌||◌, List, [], ◌∷◌, map, Option, Result, Err, refl, sym, ap, subst, ◌∙◌}
 use Rattle.std.proofs.lemmas.Bool.{false≢true}
 use Rattle.std.proofs.lemmas.List.Elements.{All-cons, All-nil}
@@ -18,9 +18,9 @@ use Rattle.mount_service.specs.private.MountServers.{Answers, IsTurn, destroyed_
 use Rattle.trace_command.specs.Requests.{Request}
 use Rattle.trace_command.specs.declared.refusal.Refusal.{Refusal}
 use Rattle.trace_command.specs.declared.refusal.Refusal.TheVariants as refusals
-use Rattle.trace_mount.specs.Mounted.{IsExchanged, IsMounted, MountSeen, Serves, service_of, terms_of}
-use Rattle.trace_mount.specs.Services.{Service, Terms}
-use Rattle.trace_mount.specs.PastLaws.{just_mounted}
+use Rattle.mount_replies.specs.Mounted.{IsExchanged, IsMounted, MountSeen, Serves, service_of, terms_of}
+use Rattle.mount_replies.specs.Services.{Service, Terms}
+use Rattle.mount_replies.specs.PastLaws.{just_mounted}
 
 abbrev pub ends : MountServer → Bool
 ends server = server.is_destroyed

@@ -18,9 +18,9 @@ use Rattle.record_text.specs.StatsText.{stats_text}
 use Rattle.mount_tree.specs.Children.{is_there}
 use Rattle.mount_tree.specs.declared.file.File.TheVariants as files
 use Rattle.mount_service.specs.TracerServices.{IsServing}
-use Rattle.trace_mount.specs.Mounted.{IsServed, Serves}
-use Rattle.trace_mount.specs.Services.{OpenSeen, Service, Terms, file_at, node_of, scene_of}
-use Rattle.trace_mount.specs.PastLaws.{ReadsAnew, instance_of, just_mounted, read_whole}
+use Rattle.mount_replies.specs.Mounted.{IsServed, Serves}
+use Rattle.mount_replies.specs.Services.{OpenSeen, Service, Terms, file_at, node_of, scene_of}
+use Rattle.mount_replies.specs.PastLaws.{ReadsAnew, instance_of, just_mounted, read_whole}
 
 -- the counts of a CPU's ring of the side that is live, and of the other side's
 abbrev pub live_stats : Terms → Option (List ℕ) → ℕ → List Request → RingStats

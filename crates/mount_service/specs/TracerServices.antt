@@ -1,4 +1,4 @@
--- What a service of a mounted tracer comes to: requests that were read, each with its reply as trace_mount defines it, what was told in between, as
+-- What a service of a mounted tracer comes to: requests that were read, each with its reply as mount_replies defines it, what was told in between, as
 -- the replies of reads that waited, and what was written.
 use Rattle.std.specs.Prelude.{◌≡◌, ℕ, ◌==◌, ◌&&◌, Bool, true, is_some, List, [], ◌∷◌, ◌++◌, length, drop, map, Result, Ok, Err, count_by}
 use Rattle.std.specs.Int.{w32, from_le_bytes}
@@ -14,10 +14,10 @@ use Rattle.mount_service.specs.declared.failure.Failure.{Failure}
 use Rattle.mount_service.specs.declared.failure.Failure.TheVariants.{BadValue, Stopped}
 use Rattle.trace_command.specs.declared.refusal.Refusal.{Refusal}
 use Rattle.trace_command.specs.declared.refusal.Refusal.TheVariants as refusals
-use Rattle.trace_mount.specs.Mounted.{Serves}
-use Rattle.trace_mount.specs.Owed.{owed}
-use Rattle.trace_mount.specs.Services.{Service, Terms}
-use Rattle.trace_mount.specs.PastLaws.{just_mounted}
+use Rattle.mount_replies.specs.Mounted.{Serves}
+use Rattle.mount_replies.specs.Owed.{owed}
+use Rattle.mount_replies.specs.Services.{Service, Terms}
+use Rattle.mount_replies.specs.PastLaws.{just_mounted}
 
 -- what a tracer that can't be made is told as
 abbrev pub failure_of : Refusal → Failure

@@ -17,6 +17,6 @@ pub fn records_are_accounted_for()
     ensures stats { StatsTellAllRecords }
 {
     history_laws::laws::emissions_are_accounted_for();
-    trace_mount::laws::pasts_are_done();
-    trace_mount::laws::reads_show_the_past();
+    mount_replies::laws::pasts_are_done();
+    mount_replies::laws::reads_show_the_past();
 }

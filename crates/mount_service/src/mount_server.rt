@@ -4,7 +4,7 @@ ghost use Rattle.std.specs.Prelude.{◌≡◌, ◌≤◌, false, length};
 ghost use Rattle.mount_service.specs.TracerServices as services;
 
 use fuse_serve::{HEADER_BYTES, Server};
-use trace_mount::Mount;
+use mount_replies::Mount;
 
 /// FUSE_DESTROY of linux/fuse.h: the file system was unmounted.
 const DESTROY: u32 = 38;

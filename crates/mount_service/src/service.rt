@@ -8,9 +8,9 @@ ghost use Rattle.trace_command.specs.Configs.{IsInRange};
 use crate::failure::{Failure, failure_of};
 use crate::mount_server::MountServer;
 use fuse_serve::{Ended, Fault, Incoming, Outgoing, serve};
+use mount_replies::Mount;
 use std::alloc::Global;
 use trace_command::Config;
-use trace_mount::Mount;
 
 /// Mounts a tracer and serves it: reads requests, does each and writes its reply, until the input ends, the device is gone, a DESTROY was answered,
 /// or a fault stops it. What is owed, as the reply of a read that waited, is written before the next request is done. The files are this user's and

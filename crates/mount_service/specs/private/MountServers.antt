@@ -3,7 +3,7 @@ use Rattle.std.specs.Prelude.{◌≡◌, ℕ, Bool, List, [], ◌∷◌}
 use Rattle.mount_service.specs.TracerServices.{is_destroy}
 use Rattle.mount_service.specs.declared.mount_server.MountServer.{MountServer}
 use Rattle.trace_command.specs.Requests.{Request}
-use Rattle.trace_mount.specs.Mounted.{IsCalled, IsMounted, IsOwedCalled, MountSeen}
+use Rattle.mount_replies.specs.Mounted.{IsCalled, IsMounted, IsOwedCalled, MountSeen}
 
 -- a request was answered by these bytes, or for none they are what was owed
 abbrev pub IsTurn : List Request → MountSeen → MountSeen → List ℕ → List ℕ → Type 0

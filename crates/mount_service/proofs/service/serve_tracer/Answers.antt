@@ -2,7 +2,7 @@ use Rattle.std.proofs.Common.{[], Ok, Err, sym, ap, subst, ◌∙◌}
 use Rattle.fuse_serve.specs.Exchanges.{devices}
 use Rattle.mount_service.proofs.ServiceLemmas.{is_served, not_made}
 use Rattle.mount_service.proofs.service.serve_tracer.Goals as goal
-use Rattle.trace_mount.specs.Mounted.{IsMounted, MountSeen, terms_of}
+use Rattle.mount_replies.specs.Mounted.{IsMounted, MountSeen, terms_of}
 
 pub returns-in-Err-clause-service : goal.returns-in-Err-clause-service
 returns-in-Err-clause-service g c =

@@ -1,0 +1,101 @@
+-- What a mounted tracer did was done.
+use Rattle.std.proofs.Common.{◌≡◌, inl, inr, ℕ, ◌<◌, Bool, true, false, nat_lt, List, [], ◌∷◌, length, Option, Some, None, Result, Ok, Err, refl, sym, ap, subst, arith, ltb-true, append-nil}
+use Rattle.fuse_wire.specs.declared.reply.Reply.{Reply}
+use Rattle.trace_command.specs.Requests.{Request}
+use Rattle.trace_command.specs.declared.command.Config.{Config}
+use Rattle.trace_command.specs.declared.command.Reply.{Reply as Answer}
+use Rattle.trace_command.specs.declared.refusal.Refusal.{Refusal}
+use Rattle.trace_format.specs.Catalogs.{AreEvents}
+use Rattle.trace_format.specs.Definitions.{Definition}
+use Rattle.trace_history.proofs.EventLists.{AreEvents-push}
+use Rattle.trace_history.specs.History.{answer_with_room, unless_full}
+use Rattle.trace_history.specs.Pasts.{AreDone}
+use Rattle.trace_history.specs.Settings.{declared_events, declares}
+use Rattle.tracer_without_history.specs.Lives.{limited_answer, live_answer, most_done}
+use Rattle.mount_replies.proofs.NewEvents.{declared-new}
+use Rattle.mount_replies.specs.Mounted.{AreServed, Right, Wrong, Unframed, Does, IsAnswered, IsExchanged, Serves, TellsOwed, past_after}
+use Rattle.mount_replies.specs.Owed.{Owed, ReplyAt, WakeupAt, owed}
+use Rattle.mount_replies.specs.Served.{Step, Plain, Takes, Asks, AsksNoting, Clears, Parks, Interrupts}
+use Rattle.mount_replies.specs.Services.{Service, Terms}
+use Rattle.mount_replies.specs.PastLaws.{PastsAreDone, WasDone}
+
+-- ---- answers
+
+-- what is done has room, and is done without a limit
+pub had-room : (g : Config) (past : List Request) (request : Request) (answer : Answer) → live_answer g past request ≡ Ok answer
+    → (answer_with_room g past request ≡ Ok answer) × (length past < most_done)
+unfolding limited_answer
+had-room g past request answer is = by (answer_with_room g past request) is
+  where
+    by : (r : Result Answer Refusal) → unless_full most_done (length past) r ≡ Ok answer → (r ≡ Ok answer) × (length past < most_done)
+    by (Err refusal) h = absurd (let no : Err refusal ≡ Ok answer = h in cc)
+    by (Ok reply) h = let both = by_room (nat_lt (length past) most_done) refl h in (ap Ok both.0, both.1)
+      where
+        by_room : (room : Bool) → nat_lt (length past) most_done ≡ room → unless_full most_done (length past) (Ok reply) ≡ Ok answer
+            → (reply ≡ answer) × (length past < most_done)
+        by_room true is h' = (let same : unless_full most_done (length past) (Ok reply) ≡ Ok answer = h' in let e = rw is at same in cc, ltb-true (length past) most_done is)
+        by_room false is h' = absurd (let e = rw is at h' in cc)
+
+pub one-more : (g : Terms) (past : List Request) (request : Request) (answer : Result Answer Refusal) → WasDone g past → IsAnswered g past request answer
+    → WasDone g (past_after answer request past)
+one-more g past request (Err refusal) was answered = was
+one-more g past request (Ok answer) was answered =
+    let done = had-room g.config past request answer answered in
+    record { done = (rw done.0 refl, was.done); few = omega (arith, done.1) }
+
+-- ---- steps
+
+does-done : (g : Terms) (before : Service) (step : Step) (reply : Option Reply) (after : Service) → WasDone g before.past → Does g before step reply after
+    → WasDone g after.past
+does-done g before (Plain outcome) reply after was does = subst (WasDone g) (sym (ap (λ (s : Service). s.past) does.1)) was
+does-done g before (Takes outcome) reply after was (inl does) = subst (WasDone g) (sym (ap (λ (s : Service). s.past) does.1)) was
+does-done g before (Takes outcome) reply after was (inr does) = subst (WasDone g) (sym (ap (λ (s : Service). s.past) does.1)) was
+does-done g before (Asks request outcome) reply after was (answer, answered, told, is) =
+    subst (WasDone g) (sym (ap (λ (s : Service). s.past) is)) (one-more g before.past request answer was answered)
+does-done g before (Parks read) reply after was (inl does) = subst (WasDone g) (sym (ap (λ (s : Service). s.past) does.1)) was
+does-done g before (Parks read) reply after was (inr does) = subst (WasDone g) (sym (ap (λ (s : Service). s.past) does.1)) was
+does-done g before (Interrupts unique) reply after was does = subst (WasDone g) (sym (ap (λ (s : Service). s.past) does.1)) was
+does-done g before (AsksNoting request outcome noting) reply after was (answer, answered, told, is) =
+    subst (WasDone g) (sym (ap (λ (s : Service). s.past) is)) (one-more g before.past request answer was answered)
+does-done g before (Clears owner takes outcome) reply after was (inl does) = subst (WasDone g) (sym (ap (λ (s : Service). s.past) does.1)) was
+does-done g before (Clears owner takes outcome) reply after was (inr (may, told, same)) = subst (WasDone g) (sym (ap (λ (s : Service). s.past) same)) was
+
+owed-done : (g : Terms) (before : Service) (what : Option Owed) (bytes : List ℕ) (after : Service) → WasDone g before.past → TellsOwed g before what bytes after
+    → WasDone g after.past
+owed-done g before None bytes after was told = absurd told
+owed-done g before (Some (ReplyAt index)) bytes after was told = does-done g _ _ (Some told.reply) after was told.does
+owed-done g before (Some (WakeupAt handle)) bytes after was told = subst (WasDone g) (sym (ap (λ (s : Service). s.past) told.now)) was
+
+served-done : (g : Terms) (before : Service) (asked bytes : List ℕ) (after : Service) → WasDone g before.past → AreServed g before asked bytes after
+    → WasDone g after.past
+served-done g before asked bytes after was (Right request is served) = does-done g before _ served.reply after was served.does
+served-done g before asked bytes after was (Wrong opcode unique framed none told same) = subst (WasDone g) (sym (ap (λ (s : Service). s.past) same)) was
+served-done g before asked bytes after was (Unframed none told same) = subst (WasDone g) (sym (ap (λ (s : Service). s.past) same)) was
+
+exchange-done : (g : Terms) (before : Service) (asked bytes : List ℕ) (after : Service) → WasDone g before.past → IsExchanged g before asked bytes after
+    → WasDone g after.past
+exchange-done g before [] bytes after was is = owed-done g before (owed g before) bytes after was is
+exchange-done g before (byte ∷ asked) bytes after was is = served-done g before (byte ∷ asked) bytes after was is.1
+
+pub all-done : (g : Terms) (before : Service) (requests messages : List (List ℕ)) (after : Service) → WasDone g before.past
+    → Serves g before requests messages after → WasDone g after.past
+all-done g before [] [] after was is = subst (λ (s : Service). WasDone g s.past) (sym is) was
+all-done g before [] (bytes ∷ messages) after was is = absurd is
+all-done g before (asked ∷ requests) [] after was is = absurd is
+all-done g before (asked ∷ requests) (bytes ∷ messages) after was is =
+    all-done g is.0 requests messages after (exchange-done g before asked bytes is.0 was is.1) is.2
+
+pub pasts_are_done : PastsAreDone
+pasts_are_done g requests messages after is = all-done g _ requests messages after (record { done = tt; few = omega arith }) is
+
+-- ---- events
+
+-- the events that were declared have names, and no two have one
+pub events-are : (g : Config) (past : List Request) → AreDone g past → AreEvents [] (declared_events past)
+events-are g [] done = tt
+events-are g (request ∷ past) done = by (declares request) refl (events-are g past done.1)
+  where
+    by : (declared : Option Definition) → declares request ≡ declared → AreEvents [] (declared_events past) → AreEvents [] (declared_events (request ∷ past))
+    by None is before = rw (is, append-nil) before
+    by (Some event) is before =
+        rw is (AreEvents-push [] (declared_events past) event before (declared-new g past request event done.0 is))

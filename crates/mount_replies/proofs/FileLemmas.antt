@@ -1,0 +1,84 @@
+-- Open files that change.
+use Rattle.std.proofs.Common.{◌≡◌, ℕ, zero, suc, Bool, true, false, if◌then◌else◌, is_none, is_some, nat_lt, ◌<◌, List, [], ◌∷◌, ◌++◌, length, drop, get_or, unwrap_or, Option, Some, None, set, refl, sym, ap, ◌∙◌, arith}
+use Rattle.std.specs.List.{list_any, position}
+use Rattle.std.proofs.lemmas.Bool.{lt-ltb}
+use Rattle.std.proofs.lemmas.List.{set-get_or, set-set}
+use Rattle.std.proofs.lemmas.List.Quantifiers.{position-Some}
+use Rattle.std.specs.Option.{option_and_then, option_map}
+use Rattle.mount_replies.specs.Services.{OpenSeen, file_at, free_handle, has_wakeup, text_at, with_change, with_file, with_records, without_file}
+
+-- a file is taken out, changed and put back
+pub changed : (change : OpenSeen → OpenSeen) (files now after : List (Option OpenSeen)) (handle : ℕ) (file other : OpenSeen)
+    → Some file ≡ file_at handle files → now ≡ without_file handle files → other ≡ change file → after ≡ set now handle (Some other)
+    → after ≡ with_change change handle files
+changed change files now after handle file other found taken is put =
+    put ∙ ap (λ (f : List (Option OpenSeen)). set f handle (Some other)) taken ∙ set-set files handle None (Some other)
+    ∙ ap (λ (f : OpenSeen). set files handle (Some f)) is ∙ ap (λ (o : Option OpenSeen). set files handle (option_map change o)) found
+
+-- a part of the text of a file was given
+pub given-text : (files : List (Option OpenSeen)) (handle count : ℕ) (text : List ℕ) → text_at handle files ≡ Some text
+    → with_change (λ (file : OpenSeen). record file { text = option_map (drop count) file.text; has_read = true }) handle files
+    ≡ with_records (drop count text) handle files
+given-text files handle count text has = ap (λ (o : Option OpenSeen). set files handle o) (by (file_at handle files) has)
+  where
+    by : (o : Option OpenSeen) → option_and_then (λ (file : OpenSeen). file.text) o ≡ Some text
+        → option_map (λ (file : OpenSeen). record file { text = option_map (drop count) file.text; has_read = true }) o
+        ≡ option_map (λ (file : OpenSeen). record file { text = Some (drop count text); has_read = true }) o
+    by None h = refl
+    by (Some file) h = ap (λ (t : Option (List ℕ)). Some (record file { text = option_map (drop count) t; has_read = true })) h
+
+-- ---- polls that are to be told
+
+pub none-set : (p : Option OpenSeen → Bool) (files : List (Option OpenSeen)) (handle : ℕ) (slot : Option OpenSeen) → list_any p files ≡ false
+    → p slot ≡ false → list_any p (set files handle slot) ≡ false
+none-set p [] handle slot none is = refl
+none-set p (first ∷ files) zero slot none is = grind (arith, none, is)
+none-set p (first ∷ files) (suc handle) slot none is =
+    let rest : list_any p files ≡ false = grind (arith, none) in
+    let more : list_any p (set files handle slot) ≡ false = none-set p files handle slot rest is in
+    grind (arith, none, more)
+
+none-more : (p : Option OpenSeen → Bool) (files : List (Option OpenSeen)) (slot : Option OpenSeen) → list_any p files ≡ false → p slot ≡ false
+    → list_any p (files ++ slot ∷ []) ≡ false
+none-more p [] slot none is = rw is refl
+none-more p (first ∷ files) slot none is =
+    let rest : list_any p files ≡ false = grind (arith, none) in
+    let more : list_any p (files ++ slot ∷ []) ≡ false = none-more p files slot rest is in
+    grind (arith, none, more)
+
+-- a file that was just opened
+pub none-opened : (files : List (Option OpenSeen)) (handle : ℕ) (file : OpenSeen) → list_any has_wakeup files ≡ false → file.wakeup ≡ None
+    → list_any has_wakeup (with_file handle file files) ≡ false
+none-opened files handle file none is = by (nat_lt handle (length files))
+  where
+    quiet : has_wakeup (Some file) ≡ false
+    quiet = ap (λ (w : Option ℕ). is_some w) is
+
+    by : (t : Bool) → list_any has_wakeup (if t then set files handle (Some file) else files ++ Some file ∷ []) ≡ false
+    by true = none-set has_wakeup files handle (Some file) none quiet
+    by false = none-more has_wakeup files (Some file) none quiet
+
+-- ---- a file that is taken back
+
+none-there : (slot : Option OpenSeen) → is_none slot ≡ true → slot ≡ None
+none-there None is = refl
+none-there (Some file) is = absurd (cc)
+
+-- the handle that is given next has no file
+free-set : (files : List (Option OpenSeen)) (handle : ℕ) → handle ≡ free_handle files → handle < length files → set files handle None ≡ files
+free-set files handle is low = by (position (λ (file : Option OpenSeen). is_none file) files) refl is
+  where
+    by : (o : Option ℕ) → position (λ (file : Option OpenSeen). is_none file) files ≡ o → handle ≡ unwrap_or o (length files)
+        → set files handle None ≡ files
+    by None at same = absurd (omega (arith, same, low))
+    by (Some i) at same =
+        let none : get_or files i None ≡ None =
+        none-there (get_or files i None) (position-Some (λ (file : Option OpenSeen). is_none file) files i None at).1 in
+        rw same (ap (λ (slot : Option OpenSeen). set files i slot) (sym none) ∙ set-get_or files i None)
+
+pub taken-back : (files before after : List (Option OpenSeen)) (handle count : ℕ) (file : OpenSeen) → count ≡ length before
+    → handle ≡ free_handle before → files ≡ with_file handle file before → handle < count → after ≡ set files handle None → after ≡ before
+taken-back files before after handle count file many is was low now =
+    let below : handle < length before = omega (arith, many, low) in
+    let opened : files ≡ set before handle (Some file) = was ∙ (rw (lt-ltb handle (length before) below) refl) in
+    now ∙ ap (λ (f : List (Option OpenSeen)). set f handle None) opened ∙ set-set before handle (Some file) None ∙ free-set before handle is below

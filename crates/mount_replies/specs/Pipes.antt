@@ -1,0 +1,39 @@
+-- Whether a read of a pipe waits (ftrace.rst, "The File System": trace_pipe blocks where nothing is to be read; with `tracing_on` 0 it ends, if a read
+-- of the open file gave something before).
+use Rattle.std.specs.Prelude.{◌==◌, Bool, false, not, ◌&&◌, [], length, Option, Some, None, unwrap_or, Result, Ok, Err}
+use Rattle.trace_command.specs.declared.refusal.Refusal.{Refusal}
+use Rattle.trace_history.specs.Settings.{is_tracing}
+use Rattle.trace_history.specs.Waiting.{waiting}
+use Rattle.mount_tree.specs.Children.{is_there}
+use Rattle.mount_tree.specs.NodePaths.{file_meant, owner_name}
+use Rattle.mount_tree.specs.declared.file.File.{File}
+use Rattle.mount_tree.specs.declared.node.Node.TheVariants as nodes
+use Rattle.mount_tree.specs.declared.node.Owner.{Owner}
+use Rattle.mount_replies.specs.Services.{OpenSeen, Service, Terms, scene_of}
+
+abbrev pub is_no : Result Bool Refusal → Bool
+is_no (Ok waits) = not waits
+is_no (Err refusal) = false
+
+-- no record waits in a file, which is there and a pipe
+abbrev pub is_dry : Terms → Service → Owner → File → Bool
+is_dry g s owner file =
+    is_there (scene_of g s) (nodes.File owner file)
+    && is_no (waiting g.config s.past (owner_name (scene_of g s) owner) (file_meant (scene_of g s) file))
+
+-- a pipe with no record ends: its instance records nothing now, and a read of the open file gave records before
+abbrev pub ends : Terms → Service → OpenSeen → Bool
+ends g s file = file.has_read && not (is_tracing (owner_name (scene_of g s) file.owner) s.past)
+
+-- nothing that was taken is left for its reads
+abbrev pub is_used_up : OpenSeen → Bool
+is_used_up file = length (unwrap_or file.text []) == 0
+
+-- a read of an open file would wait
+abbrev pub would_wait : Terms → Service → OpenSeen → Bool
+would_wait g s file = is_used_up file && is_dry g s file.owner file.file && not (ends g s file)
+
+-- one of a handle would
+abbrev pub waits_at : Terms → Service → Option OpenSeen → Bool
+waits_at g s None = false
+waits_at g s (Some file) = would_wait g s file

@@ -1,0 +1,212 @@
+//! What is told of folders and files. Nothing of it changes anything.
+
+ghost use Rattle.std.specs.Prelude.{◌≡◌};
+ghost use Rattle.mount_replies.specs.Mounted.{terms_of};
+ghost use Rattle.mount_tree.specs.FileKinds.{access_of_file};
+ghost use Rattle.mount_replies.specs.Told as told;
+ghost use Rattle.mount_replies.specs.private.ShortReplies.{IsShort};
+
+use crate::mount::Mount;
+use file_list::Access;
+use fuse_wire::{Agreement, Attributes, Errno, FileKind, Reply};
+use mount_tree::{File, Node};
+
+/// What kind of node.
+pub(crate) fn kind_of_node(node: Node) -> FileKind
+    ensures { result ≡ told.kind_of_node node }
+{
+    match node {
+        Node::Folder(_, _) => FileKind::Directory,
+        Node::File(_, _) => FileKind::Regular,
+    }
+}
+
+/// Its permission bits.
+fn permissions_of(node: Node) -> u16
+    ensures { result ≡ told.permissions_of node }
+{
+    match node {
+        Node::Folder(_, _) => 0o750,
+        Node::File(_, file) => file_permissions(file.access()),
+    }
+}
+
+fn file_permissions(access: Access) -> u16
+    ensures { result ≡ told.file_permissions access }
+{
+    match access {
+        Access::Read => 0o440,
+        Access::Write => 0o200,
+        Access::Both => 0o640,
+    }
+}
+
+fn can_read(access: Access) -> bool
+    ensures { result ≡ told.can_read access }
+{
+    match access {
+        Access::Read | Access::Both => true,
+        Access::Write => false,
+    }
+}
+
+fn can_write(access: Access) -> bool
+    ensures { result ≡ told.can_write access }
+{
+    match access {
+        Access::Write | Access::Both => true,
+        Access::Read => false,
+    }
+}
+
+/// Whether a file may be used so.
+fn may(access: Access, reads: bool, writes: bool) -> bool
+    ensures { result ≡ told.may access reads writes }
+{
+    (can_read(access) || !reads) && (can_write(access) || !writes)
+}
+
+/// Whether the flags of open(2) want a file emptied.
+pub(crate) fn empties(flags: u32) -> bool
+    ensures { result ≡ told.empties flags }
+{
+    flags / 512 % 2 == 1
+}
+
+/// Whether a file may be opened with these flags.
+pub(crate) fn may_open(file: File, flags: u32) -> bool
+    ensures { result ≡ told.may (access_of_file file) (told.wants_read flags) (told.wants_write flags) }
+{
+    may(
+        file.access(),
+        flags % 4 != 1,
+        flags % 4 != 0 || empties(flags),
+    )
+}
+
+/// Whether a node may be used so, by the mask of access(2).
+fn may_use(node: Node, mask: u32) -> bool
+    ensures { result ≡ told.may_use node mask }
+{
+    match node {
+        Node::Folder(_, _) => true,
+        Node::File(_, file) => {
+            may(file.access(), mask / 4 % 2 == 1, mask / 2 % 2 == 1) && mask % 2 != 1
+        }
+    }
+}
+
+/// INIT: what is agreed.
+pub(crate) fn agree(major: u32, max_readahead: u32, flags: u32) -> Reply<'static>
+    ensures reply { result ≡ told.agree major max_readahead flags }
+    ensures short { IsShort result }
+{
+    if major < 7 {
+        return Reply::Error(Errno::EPROTO);
+    }
+    Reply::Init(Agreement {
+        major: 7,
+        minor: 31,
+        max_readahead,
+        flags: flags / 8 % 2 * 8 + flags / 32 % 2 * 32,
+        max_background: 65_535,
+        congestion_threshold: 65_535,
+        max_write: 131_072,
+    })
+}
+
+impl Mount {
+    /// The node that a request is about, if it is there.
+    pub(crate) fn known(&self, node: Option<Node>) -> Option<Node>
+        ensures { result ≡ told.known self.now.scene node }
+    {
+        let node = node?;
+        if self.scene.exists(node) {
+            Some(node)
+        } else {
+            None
+        }
+    }
+
+    /// The attributes of a node.
+    pub(crate) fn attributes_of(&self, node: Node) -> Attributes
+        ensures { result ≡ told.attributes_of (terms_of self.now) node }
+    {
+        Attributes {
+            node: node.number(),
+            size: 0,
+            kind: kind_of_node(node),
+            permissions: permissions_of(node),
+            links: 1,
+            uid: self.uid,
+            gid: self.gid,
+            block_size: 4096,
+        }
+    }
+
+    /// LOOKUP: the node of this name in a folder.
+    pub(crate) fn look_up(&self, folder: Option<Node>, name: &[u8]) -> Reply<'static>
+        ensures reply { result ≡ told.look_up (terms_of self.now) self.now.scene folder name.now }
+        ensures short { IsShort result }
+    {
+        let Some(folder) = folder else {
+            return Reply::Error(Errno::ENOENT);
+        };
+        match self.scene.lookup(folder, name) {
+            Some(node) => Reply::Entry(self.attributes_of(node)),
+            None => Reply::Error(Errno::ENOENT),
+        }
+    }
+
+    /// GETATTR.
+    pub(crate) fn get_attributes(&self, node: Option<Node>) -> Reply<'static>
+        ensures reply { result ≡ told.get_attributes (terms_of self.now) self.now.scene node }
+        ensures short { IsShort result }
+    {
+        match self.known(node) {
+            Some(node) => Reply::Attributes(self.attributes_of(node)),
+            None => Reply::Error(Errno::ENOENT),
+        }
+    }
+
+    /// SETATTR: nothing is set, and no size but 0 is accepted.
+    pub(crate) fn set_attributes(&self, node: Option<Node>, valid: u32, size: u64) -> Reply<'static>
+        ensures reply { result ≡ told.set_attributes (terms_of self.now) self.now.scene node valid size }
+        ensures short { IsShort result }
+    {
+        if valid / 8 % 2 == 1 && size != 0 {
+            return Reply::Error(Errno::EINVAL);
+        }
+        self.get_attributes(node)
+    }
+
+    /// OPENDIR: a folder has no handle.
+    pub(crate) fn open_folder(&self, node: Option<Node>) -> Reply<'static>
+        ensures reply { result ≡ told.open_folder self.now.scene node }
+        ensures short { IsShort result }
+    {
+        match self.known(node) {
+            Some(Node::Folder(_, _)) => Reply::Opened {
+                handle: 0,
+                flags: 0,
+            },
+            Some(Node::File(_, _)) => Reply::Error(Errno::ENOTDIR),
+            None => Reply::Error(Errno::ENOENT),
+        }
+    }
+
+    /// ACCESS.
+    pub(crate) fn check_access(&self, node: Option<Node>, mask: u32) -> Reply<'static>
+        ensures reply { result ≡ told.check_access self.now.scene node mask }
+        ensures short { IsShort result }
+    {
+        let Some(node) = self.known(node) else {
+            return Reply::Error(Errno::ENOENT);
+        };
+        if may_use(node, mask) {
+            Reply::Done
+        } else {
+            Reply::Error(Errno::EACCES)
+        }
+    }
+}

@@ -1,9 +1,0 @@
-use Rattle.std.proofs.Common.{arith}
-use Rattle.trace_mount.proofs.ShortLemmas.{short-sendable, short-size}
-use Rattle.trace_mount.proofs.telling.tell_short.Goals as goal
-
-pub tell-requires : goal.tell-requires
-tell-requires c = record {
-  sendable = short-sendable c.args.reply.now c.requires.short;
-  room = omega (arith, short-size c.args.reply.now c.requires.short, c.requires.room);
-}
