@@ -1,15 +1,10 @@
 -- Triggers in the order in which an event's file shows them.
-use Rattle.std.proofs.Common.{◌≡◌, ℕ, ◌+◌, ◌<◌, nat_lt, not, Bool, true, false, List, [], ◌∷◌, ◌++◌, length, map, filter, drop, get_or, append_assoc, Result, OnOk, refl, sym, ap, ◌∙◌, arith, rules, tests}
-use Rattle.std.proofs.lemmas.Result.{on_ok_weaker}
+use Rattle.std.proofs.Common.{◌≡◌, ℕ, ◌+◌, ◌<◌, nat_lt, not, Bool, true, false, List, [], ◌∷◌, ◌++◌, length, map, filter, drop, get_or, append_assoc, refl, sym, ap, ◌∙◌, arith, rules, tests}
 use mathlib.Core.Bool.{beq}
 use Rattle.std.proofs.lemmas.Bool.Decides.{nat_tests}
 use Rattle.std.proofs.lemmas.List.{at_drop_more, map-append}
 use Rattle.trace_instance.specs.private.Commands.{is_part}
 use Rattle.trace_instance.specs.declared.hists.AttachedHist.{AttachedHist}
-
--- what follows from what a call did, where memory was not refused
-pub then-ok : {T E P Q : Type 0} (r : Result T E) → OnOk r P → (P → Q) → OnOk r Q
-then-ok r told is = on_ok_weaker r is told
 
 -- the older ones, one more, and the others
 pub ordered : {X Y : Type 0} (f : X → Y) (none shown pushed : List X) (one : X) (kept : Y) (older newer : List Y) → none ≡ []

@@ -6,7 +6,6 @@ use Rattle.trace_command.specs.declared.command.Config.{Config}
 use Rattle.trace_command.specs.declared.command.Entry.{Entry}
 use Rattle.trace_history.specs.History.{past_of}
 use Rattle.command_log.specs.HistorySeen.{HistorySeen}
-use Rattle.tracer_state.specs.States.{IsPrepared}
 use Rattle.tracer_state.proofs.Histories.{length-past_of, past_of-push}
 use Rattle.tracer_without_history.specs.Lives.{limited_answer}
 use Rattle.trace_book.specs.BookSeen.{BookSeen}
@@ -14,6 +13,29 @@ use Rattle.trace_book.specs.Books.{seen}
 use Rattle.trace_book.specs.private.BookCalls.{IsBookCall}
 use Rattle.trace_book.proofs.BookCalls.{refused-call, memory-call, done-call}
 use Rattle.trace_book.proofs.book.Book.ask_other.Goals as goal
+use Rattle.trace_book.proofs.book.Book.ask_other.Goals.{After-append_written, In_ok-prepared}
+
+-- there is room for one more entry
+room : (c : In_ok-prepared) → length c.self.inside.history.entries < c.self.inside.live.config.history_limit
+room c =
+    let limit = ap (λ (k : Config). k.history_limit) c.config.ensures in
+    omega (arith, length-past_of c.self.inside.history.entries, c.self.invariant.lives.count, c.in_ok-prepared.ensures.room, limit)
+
+-- the call, once it is carried out and its entry counts
+done : (c : After-append_written) → length c.self.inside.history.entries < c.self.inside.live.config.history_limit
+    → IsBookCall (seen c.self.inside) (record { config = c.carry_out.new.self.config; entries = c.append_written.new.self.entries })
+    (record { ticket = c.args.ticket; by = c.args.by; command = c.args.command.now }) (Ok c.in_ok-prepared.prepared.reply)
+done c room =
+    let book = c.self.inside in
+    let entry : Entry = record { ticket = c.args.ticket; by = c.args.by; command = c.args.command.now } in
+    let written : c.write_ahead.new.self.ahead ≡ entry ∷ [] = search rules in
+    let items : c.append_written.new.self.entries ≡ book.history.entries ++ entry ∷ [] =
+    ap (λ (h : HistorySeen). h.entries) c.append_written.ensures ∙ rw (c.write_ahead.ensures.entries, written) refl in
+    let Below : BookSeen → Type 0 = λ before. All (λ (e : Entry). e.ticket < c.args.ticket) before.entries in
+    let below : All (λ (e : Entry). e.ticket < c.args.ticket) book.history.entries = subst Below (sym c.self.view_is) c.requires.rises in
+    done-call (seen book) _ entry c.in_ok-prepared.prepared.reply c.self.invariant.legal c.carry_out.ensures.config items
+    (c.ranges.ticket.fits, c.ranges.by.fits, c.in_ok-prepared.ensures.fits) below
+    (c.in_ok-prepared.ensures.prepared (past_of book.history.entries) c.self.invariant.lives).0 room
 
 pub returns-in_err-prepared : goal.returns-in_err-prepared
 returns-in_err-prepared c =
@@ -39,13 +61,11 @@ returns-in_err-write_ahead c =
     let book = c.self.inside in
     let past = past_of book.history.entries in
     let entry : Entry = record { ticket = c.args.ticket; by = c.args.by; command = c.args.command.now } in
-    let limit = ap (λ (k : Config). k.history_limit) c.config.ensures in
-    let room : length book.history.entries < book.live.config.history_limit =
-    omega (arith, length-past_of book.history.entries, c.self.invariant.lives.count, c.in_ok-prepared.ensures.room, limit) in
     let out : c.from_residual-in_err-write_ahead.result ≡ Err Memory = search rules in
     rw (out, ← c.self.view_is)
     (memory-call (seen book) _ entry c.in_ok-prepared.prepared.reply c.self.invariant.legal refl c.write_ahead.ensures.entries
-    (c.in_ok-prepared.ensures.prepared past c.self.invariant.lives).0 room)
+    (c.in_ok-prepared.ensures.prepared past c.self.invariant.lives).0
+    (room (goal.at.returns-in_err-write_ahead c).In_ok-prepared))
 
 pub carry_out-requires-clause-room : goal.carry_out-requires-clause-room
 carry_out-requires-clause-room c =
@@ -64,56 +84,27 @@ returns-in_err-reply c =
     let book = c.self.inside in
     let past = past_of book.history.entries in
     let entry : Entry = record { ticket = c.args.ticket; by = c.args.by; command = c.args.command.now } in
-    let limit = ap (λ (k : Config). k.history_limit) c.config.ensures in
-    let room : length book.history.entries < book.live.config.history_limit =
-    omega (arith, length-past_of book.history.entries, c.self.invariant.lives.count, c.in_ok-prepared.ensures.room, limit) in
     let out : c.from_residual-in_err-reply.result ≡ Err c.in_err-reply.field-0.0 = search rules in
     rw (out, ← c.self.view_is, c.in_err-reply.ensures.memory)
     (memory-call (seen book) _ entry c.in_ok-prepared.prepared.reply c.self.invariant.legal c.carry_out.ensures.config c.write_ahead.ensures.entries
-    (c.in_ok-prepared.ensures.prepared past c.self.invariant.lives).0 room)
+    (c.in_ok-prepared.ensures.prepared past c.self.invariant.lives).0
+    (room (goal.at.returns-in_err-reply c).In_ok-prepared))
 
 pub invariant_of-self-2 : goal.invariant_of-self-2
 invariant_of-self-2 c =
-    let book = c.self.inside in
-    let past = past_of book.history.entries in
-    let request = request_of c.args.command.now in
-    let entry : Entry = record { ticket = c.args.ticket; by = c.args.by; command = c.args.command.now } in
-    let written : c.write_ahead.new.self.ahead ≡ entry ∷ [] = search rules in
-    let items : c.append_written.new.self.entries ≡ book.history.entries ++ entry ∷ [] =
-    ap (λ (h : HistorySeen). h.entries) c.append_written.ensures ∙ rw (c.write_ahead.ensures.entries, written) refl in
-    let prepared : IsPrepared book.live.config past request book.live.state (Ok c.in_ok-prepared.prepared) = c.in_ok-prepared.ensures.prepared past c.self.invariant.lives in
-    let limit = ap (λ (k : Config). k.history_limit) c.config.ensures in
-    let room : length book.history.entries < book.live.config.history_limit =
-    omega (arith, length-past_of book.history.entries, c.self.invariant.lives.count, c.in_ok-prepared.ensures.room, limit) in
-    let Below : BookSeen → Type 0 = λ before. All (λ (e : Entry). e.ticket < c.args.ticket) before.entries in
-    let below : All (λ (e : Entry). e.ticket < c.args.ticket) book.history.entries = subst Below (sym c.self.view_is) c.requires.rises in
-    let after : BookSeen = record { config = c.carry_out.new.self.config; entries = c.append_written.new.self.entries } in
-    let call : IsBookCall (seen book) after entry (Ok c.in_ok-prepared.prepared.reply) =
-    done-call (seen book) after entry c.in_ok-prepared.prepared.reply c.self.invariant.legal c.carry_out.ensures.config items
-    (c.ranges.ticket.fits, c.ranges.by.fits, c.in_ok-prepared.ensures.fits) below prepared.0 room in
+    let past = past_of c.self.inside.history.entries in
+    let at = goal.at.invariant_of-self-2 c in
+    let call = done at.After-append_written (room at.In_ok-prepared) in
     record {
       legal = call.legal;
-      lives = rw (items, past_of-push) (c.in_ok-reply.ensures.done past request c.self.invariant.lives prepared);
+      lives = rw (call.done, past_of-push) (c.in_ok-reply.ensures.done past (request_of c.args.command.now) c.self.invariant.lives
+          (c.in_ok-prepared.ensures.prepared past c.self.invariant.lives));
     }
 
 pub returns : goal.returns
 returns c =
-    let book = c.self.inside in
-    let past = past_of book.history.entries in
-    let entry : Entry = record { ticket = c.args.ticket; by = c.args.by; command = c.args.command.now } in
-    let written : c.write_ahead.new.self.ahead ≡ entry ∷ [] = search rules in
-    let items : c.append_written.new.self.entries ≡ book.history.entries ++ entry ∷ [] =
-    ap (λ (h : HistorySeen). h.entries) c.append_written.ensures ∙ rw (c.write_ahead.ensures.entries, written) refl in
-    let prepared : IsPrepared book.live.config past (request_of c.args.command.now) book.live.state (Ok c.in_ok-prepared.prepared) =
-    c.in_ok-prepared.ensures.prepared past c.self.invariant.lives in
-    let limit = ap (λ (k : Config). k.history_limit) c.config.ensures in
-    let room : length book.history.entries < book.live.config.history_limit =
-    omega (arith, length-past_of book.history.entries, c.self.invariant.lives.count, c.in_ok-prepared.ensures.room, limit) in
-    let Below : BookSeen → Type 0 = λ before. All (λ (e : Entry). e.ticket < c.args.ticket) before.entries in
-    let below : All (λ (e : Entry). e.ticket < c.args.ticket) book.history.entries = subst Below (sym c.self.view_is) c.requires.rises in
-    rw (← c.self.view_is, c.in_ok-reply.ensures.reply)
-    (done-call (seen book) _ entry c.in_ok-prepared.prepared.reply c.self.invariant.legal c.carry_out.ensures.config items
-    (c.ranges.ticket.fits, c.ranges.by.fits, c.in_ok-prepared.ensures.fits) below prepared.0 room)
+    let at = goal.at.returns c in
+    rw (← c.self.view_is, c.in_ok-reply.ensures.reply) (done at.After-append_written (room at.In_ok-prepared))
 
 pub append_written-requires : goal.append_written-requires
 append_written-requires c =

@@ -16,6 +16,43 @@ use Rattle.trace_book.specs.Books.{seen}
 use Rattle.trace_book.specs.private.BookCalls.{IsBookCall}
 use Rattle.trace_book.proofs.BookCalls.{refused-call, memory-call, done-call}
 use Rattle.trace_book.proofs.book.Book.run_emission.Goals as goal
+use Rattle.trace_book.proofs.book.Book.run_emission.Goals.{After-append_written, In_ok-prepare_emission}
+
+-- what was prepared is the emission
+prepared : (c : In_ok-prepare_emission) → IsPreparedEmission c.prepare_emission.new.self.config (past_of c.self.inside.history.entries)
+    (request_of c.args.emission.now) c.prepare_emission.new.self.state c.prepare_emission.new.self.delivery
+prepared c =
+    let pid : to_z w32 (of_z w32 c.parts-cpu.result.2) ≡ c.parts-cpu.result.2 = to_z-of_z w32 c.parts-cpu.result.2 (search rules) in
+    rw c.parts-cpu.ensures (rw pid at c.in_ok-prepare_emission.ensures.prepared (past_of c.self.inside.history.entries) c.self.invariant.lives)
+
+-- so it is answered
+given : (c : In_ok-prepare_emission)
+    → answer_with_room c.self.inside.live.config (past_of c.self.inside.history.entries) (request_of c.args.emission.now) ≡ Ok Done
+given c = rw c.prepare_emission.ensures.config at (prepared c).0
+
+-- there is room for one more entry
+room : (c : In_ok-prepare_emission) → length c.self.inside.history.entries < c.self.inside.live.config.history_limit
+room c =
+    let lives = c.prepare_emission.ensures.lives (past_of c.self.inside.history.entries) c.self.invariant.lives in
+    let limit = ap (λ (k : Config). k.history_limit) c.config.ensures in
+    omega (arith, length-past_of c.self.inside.history.entries, lives.count, c.in_ok-prepare_emission.ensures.room, limit)
+
+-- the call, once it is delivered and its entry counts
+done : (c : After-append_written) → length c.self.inside.history.entries < c.self.inside.live.config.history_limit
+    → answer_with_room c.self.inside.live.config (past_of c.self.inside.history.entries) (request_of c.args.emission.now) ≡ Ok Done
+    → IsBookCall (seen c.self.inside) (record { config = c.deliver.new.self.config; entries = c.append_written.new.self.entries })
+    (record { ticket = c.args.ticket; by = c.args.by; command = c.args.emission.now }) (Ok Done)
+done c room given =
+    let book = c.self.inside in
+    let entry : Entry = record { ticket = c.args.ticket; by = c.args.by; command = c.args.emission.now } in
+    let written : c.write_emission_ahead.new.self.ahead ≡ entry ∷ [] = search rules in
+    let items : c.append_written.new.self.entries ≡ book.history.entries ++ entry ∷ [] =
+    ap (λ (h : HistorySeen). h.entries) c.append_written.ensures ∙ rw (c.write_emission_ahead.ensures.entries, written) refl in
+    let pid : to_z w32 (of_z w32 c.parts-cpu.result.2) ≡ c.parts-cpu.result.2 = to_z-of_z w32 c.parts-cpu.result.2 (search rules) in
+    let Below : BookSeen → Type 0 = λ before. All (λ (e : Entry). e.ticket < c.args.ticket) before.entries in
+    let below : All (λ (e : Entry). e.ticket < c.args.ticket) book.history.entries = subst Below (sym c.self.view_is) c.requires in
+    done-call (seen book) _ entry Done c.self.invariant.legal (c.deliver.ensures.config ∙ c.prepare_emission.ensures.config) items
+    (c.ranges.ticket.fits, c.ranges.by.fits, rw c.parts-cpu.ensures (rw pid at c.in_ok-prepare_emission.ensures.fits)) below given room
 
 pub invariant_of-self : goal.invariant_of-self
 invariant_of-self c = record {
@@ -47,22 +84,12 @@ invariant_of-self-in_err-write_emission_ahead c =
 
 pub returns-in_err-write_emission_ahead : goal.returns-in_err-write_emission_ahead
 returns-in_err-write_emission_ahead c =
-    let book = c.self.inside in
-    let g = book.live.config in
-    let past = past_of book.history.entries in
+    let at = goal.at.returns-in_err-write_emission_ahead c in
     let entry : Entry = record { ticket = c.args.ticket; by = c.args.by; command = c.args.emission.now } in
-    let live = c.prepare_emission.new.self in
-    let lives = c.prepare_emission.ensures.lives past c.self.invariant.lives in
-    let limit = ap (λ (k : Config). k.history_limit) c.config.ensures in
-    let pid : to_z w32 (of_z w32 c.parts-cpu.result.2) ≡ c.parts-cpu.result.2 = to_z-of_z w32 c.parts-cpu.result.2 (search rules) in
-    let prepared : IsPreparedEmission live.config past (request_of c.args.emission.now) live.state live.delivery =
-    rw c.parts-cpu.ensures (rw pid at c.in_ok-prepare_emission.ensures.prepared past c.self.invariant.lives) in
-    let given : answer_with_room g past (request_of c.args.emission.now) ≡ Ok Done = rw c.prepare_emission.ensures.config at prepared.0 in
-    let room : length book.history.entries < g.history_limit =
-    omega (arith, length-past_of book.history.entries, lives.count, c.in_ok-prepare_emission.ensures.room, limit) in
     let out : c.from_residual-in_err-write_emission_ahead.result ≡ Err Memory = search rules in
     rw (out, ← c.self.view_is)
-    (memory-call (seen book) _ entry Done c.self.invariant.legal c.prepare_emission.ensures.config c.write_emission_ahead.ensures.entries given room)
+    (memory-call (seen c.self.inside) _ entry Done c.self.invariant.legal c.prepare_emission.ensures.config c.write_emission_ahead.ensures.entries
+    (given at.In_ok-prepare_emission) (room at.In_ok-prepare_emission))
 
 pub deliver-requires-clause-room : goal.deliver-requires-clause-room
 deliver-requires-clause-room c =
@@ -71,58 +98,20 @@ deliver-requires-clause-room c =
 
 pub invariant_of-self-2 : goal.invariant_of-self-2
 invariant_of-self-2 c =
-    let book = c.self.inside in
-    let g = book.live.config in
-    let past = past_of book.history.entries in
-    let request = request_of c.args.emission.now in
-    let entry : Entry = record { ticket = c.args.ticket; by = c.args.by; command = c.args.emission.now } in
-    let written : c.write_emission_ahead.new.self.ahead ≡ entry ∷ [] = search rules in
-    let items : c.append_written.new.self.entries ≡ book.history.entries ++ entry ∷ [] =
-    ap (λ (h : HistorySeen). h.entries) c.append_written.ensures ∙ rw (c.write_emission_ahead.ensures.entries, written) refl in
-    let live = c.prepare_emission.new.self in
-    let lives = c.prepare_emission.ensures.lives past c.self.invariant.lives in
-    let limit = ap (λ (k : Config). k.history_limit) c.config.ensures in
-    let pid : to_z w32 (of_z w32 c.parts-cpu.result.2) ≡ c.parts-cpu.result.2 = to_z-of_z w32 c.parts-cpu.result.2 (search rules) in
-    let prepared : IsPreparedEmission live.config past request live.state live.delivery =
-    rw c.parts-cpu.ensures (rw pid at c.in_ok-prepare_emission.ensures.prepared past c.self.invariant.lives) in
-    let given : answer_with_room g past request ≡ Ok Done = rw c.prepare_emission.ensures.config at prepared.0 in
-    let room : length book.history.entries < g.history_limit =
-    omega (arith, length-past_of book.history.entries, lives.count, c.in_ok-prepare_emission.ensures.room, limit) in
-    let Below : BookSeen → Type 0 = λ before. All (λ (e : Entry). e.ticket < c.args.ticket) before.entries in
-    let below : All (λ (e : Entry). e.ticket < c.args.ticket) book.history.entries = subst Below (sym c.self.view_is) c.requires in
-    let after : BookSeen = record { config = c.deliver.new.self.config; entries = c.append_written.new.self.entries } in
-    let call : IsBookCall (seen book) after entry (Ok Done) =
-    done-call (seen book) after entry Done c.self.invariant.legal (c.deliver.ensures.config ∙ c.prepare_emission.ensures.config) items
-    (c.ranges.ticket.fits, c.ranges.by.fits, rw c.parts-cpu.ensures (rw pid at c.in_ok-prepare_emission.ensures.fits)) below given room in
+    let past = past_of c.self.inside.history.entries in
+    let at = goal.at.invariant_of-self-2 c in
+    let call = done at.After-append_written (room at.In_ok-prepare_emission) (given at.In_ok-prepare_emission) in
     record {
       legal = call.legal;
-      lives = rw (items, past_of-push) (c.deliver.ensures.done past request lives prepared);
+      lives = rw (call.done, past_of-push)
+          (c.deliver.ensures.done past (request_of c.args.emission.now) (c.prepare_emission.ensures.lives past c.self.invariant.lives)
+          (prepared at.In_ok-prepare_emission));
     }
 
 pub returns : goal.returns
 returns c =
-    let book = c.self.inside in
-    let g = book.live.config in
-    let past = past_of book.history.entries in
-    let request = request_of c.args.emission.now in
-    let entry : Entry = record { ticket = c.args.ticket; by = c.args.by; command = c.args.emission.now } in
-    let written : c.write_emission_ahead.new.self.ahead ≡ entry ∷ [] = search rules in
-    let items : c.append_written.new.self.entries ≡ book.history.entries ++ entry ∷ [] =
-    ap (λ (h : HistorySeen). h.entries) c.append_written.ensures ∙ rw (c.write_emission_ahead.ensures.entries, written) refl in
-    let live = c.prepare_emission.new.self in
-    let lives = c.prepare_emission.ensures.lives past c.self.invariant.lives in
-    let limit = ap (λ (k : Config). k.history_limit) c.config.ensures in
-    let pid : to_z w32 (of_z w32 c.parts-cpu.result.2) ≡ c.parts-cpu.result.2 = to_z-of_z w32 c.parts-cpu.result.2 (search rules) in
-    let prepared : IsPreparedEmission live.config past request live.state live.delivery =
-    rw c.parts-cpu.ensures (rw pid at c.in_ok-prepare_emission.ensures.prepared past c.self.invariant.lives) in
-    let given : answer_with_room g past request ≡ Ok Done = rw c.prepare_emission.ensures.config at prepared.0 in
-    let room : length book.history.entries < g.history_limit =
-    omega (arith, length-past_of book.history.entries, lives.count, c.in_ok-prepare_emission.ensures.room, limit) in
-    let Below : BookSeen → Type 0 = λ before. All (λ (e : Entry). e.ticket < c.args.ticket) before.entries in
-    let below : All (λ (e : Entry). e.ticket < c.args.ticket) book.history.entries = subst Below (sym c.self.view_is) c.requires in
-    rw (← c.self.view_is)
-    (done-call (seen book) _ entry Done c.self.invariant.legal (c.deliver.ensures.config ∙ c.prepare_emission.ensures.config) items
-    (c.ranges.ticket.fits, c.ranges.by.fits, rw c.parts-cpu.ensures (rw pid at c.in_ok-prepare_emission.ensures.fits)) below given room)
+    let at = goal.at.returns c in
+    rw (← c.self.view_is) (done at.After-append_written (room at.In_ok-prepare_emission) (given at.In_ok-prepare_emission))
 
 pub append_written-requires : goal.append_written-requires
 append_written-requires c =

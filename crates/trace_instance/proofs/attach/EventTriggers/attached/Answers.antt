@@ -1,11 +1,12 @@
-use Rattle.std.proofs.Common.{◌≡◌, false, Err, is_some, rules}
+use Rattle.std.proofs.Common.{◌≡◌, true, false, Err, is_some, rules}
 use Rattle.trace_command.specs.declared.refusal.Refusal.TheVariants.{TooMany}
 use Rattle.trace_instance.proofs.Answering.{attach-done, attach-exists, attach-full}
 use Rattle.trace_instance.proofs.attach.EventTriggers.attached.Goals as goal
 
 pub returns-then-is_some-clause-change : goal.returns-then-is_some-clause-change
 returns-then-is_some-clause-change c =
-    attach-exists c.args.trigger c.args.self c.args.written (search rules)
+    let some : is_some c.args.self.own.now.trigger ≡ true = search rules in
+    attach-exists c.args.trigger c.args.self c.args.written some
 
 pub returns-in_err-check_room-clause-change : goal.returns-in_err-check_room-clause-change
 returns-in_err-check_room-clause-change c =
