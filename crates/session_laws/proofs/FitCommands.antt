@@ -20,7 +20,6 @@ use Rattle.trace_script.specs.Lines.{number_up_to, process_id, line_of}
 use Rattle.trace_script.specs.declared.fault.ScriptFault.{ScriptFault}
 use Rattle.trace_script.specs.declared.line.Line.{Line}
 use Rattle.trace_script.specs.declared.line.Line.TheVariants.{Blank, Ask, Parallel, Thread, End}
-use Rattle.trace_script.specs.declared.token.Token.{Token}
 
 -- ---- lines
 
@@ -50,7 +49,8 @@ process_fits (b ∷ bs) pid is =
 abbrev Fits : Command → Type 0
 Fits command = FitsItsTypes (request_of command)
 
-command_fits : (tokens : List Token) (command : Command) → IsCommandOf tokens command → Fits command
+-- trace_script keeps the type of a token to itself
+command_fits : (tokens : _) (command : Command) → IsCommandOf tokens command → Fits command
 command_fits tokens command (AnEmit rest named of) =
     let few : of.cpu ≤ 2 ^ 32 - 1 = found_le (2 ^ 32 - 1) (decimal_number of.cpu_digits) of.cpu (sym of.cpu_number) in
     subst Fits (sym of.meaning) (omega arith, process_fits of.pid_digits of.pid of.pid_number)
@@ -62,7 +62,7 @@ command_fits tokens command (ATake rest named of) =
 command_fits tokens command (AMkdir rest named of) = subst Fits (sym of.meaning) tt
 command_fits tokens command (ARmdir rest named of) = subst Fits (sym of.meaning) tt
 
-tokens_fit : (tokens : List Token) (line : Line) (command : Command) → line ≡ Ask command → IsAskedBy tokens line → Fits command
+tokens_fit : (tokens : _) (line : Line) (command : Command) → line ≡ Ask command → IsAskedBy tokens line → Fits command
 tokens_fit tokens line command is (ACommand other of asks) =
     let same : other ≡ command = cc in
     subst Fits same (command_fits tokens other of)
