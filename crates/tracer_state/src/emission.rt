@@ -14,7 +14,6 @@ ghost use Rattle.tracer_state.specs.EventPlans.{IsPlanOf};
 ghost use Rattle.tracer_state.specs.private.Emissions as emissions;
 ghost use Rattle.tracer_state.specs.ValueEmissions.{values_emission};
 ghost use Rattle.trace_instance.specs.Instances.{IsAlike};
-ghost use Rattle.trace_instance.specs.KeptHists.{KeysAgree};
 ghost use Rattle.tracer_state.specs.States.{StandsFor, IsPreparedEmission, IsStateAlike, IsUsable, EachCame, ArePassed, NeedsHitMemory};
 ghost use Rattle.trace_instance.specs.Deliveries.{CanCountRow, most_requests};
 
@@ -219,8 +218,7 @@ fn reserve_if(
 ) -> Result<(), AllocError>
     requires none { triggered ≡ false → All (λ n. slice_index_or n.instance.hists event [] ≡ []) instances.old }
     requires few { length instances.old ≤ 8 }
-    requires event { All (λ n. event < length n.instance.hists) instances.old }
-    requires agree { All (λ n. KeysAgree (slice_index_or n.instance.hists event [])) instances.old }
+    requires each { All (λ n. emissions.HasEventAt event n.instance) instances.old }
     ensures alike { EachCame IsAlike instances.old instances.new }
     ensures passed { OnOk result (ArePassed (record { values = row.now.values; cpu = cpu; pid = pid }) event passed.new instances.old) }
     ensures counted { OnOk result (All (λ n. CanCountRow (record { values = row.now.values; cpu = cpu; pid = pid }) event n.instance) instances.new) }
@@ -244,8 +242,7 @@ fn reserve_each(
     passed: &mut [Passed; INSTANCES],
 ) -> Result<(), AllocError>
     requires few { length instances.old ≤ 8 }
-    requires event { All (λ n. event < length n.instance.hists) instances.old }
-    requires agree { All (λ n. KeysAgree (slice_index_or n.instance.hists event [])) instances.old }
+    requires each { All (λ n. emissions.HasEventAt event n.instance) instances.old }
     ensures alike { EachCame IsAlike instances.old instances.new }
     ensures passed { OnOk result (ArePassed (record { values = row.now.values; cpu = cpu; pid = pid }) event passed.new instances.old) }
     ensures counted { OnOk result (All (λ n. CanCountRow (record { values = row.now.values; cpu = cpu; pid = pid }) event n.instance) instances.new) }

@@ -69,8 +69,9 @@ impl EventPlan {
     }
 }
 
-// What an emission does in an instance that isn't asked.
-fn unasked(plan: Plan) -> Reach
+/// What an emission does in an instance that isn't asked.
+#[inline(always)]
+pub(crate) fn unasked(plan: Plan) -> Reach
     ensures { result ≡ plans.unasked plan }
 {
     match plan {
@@ -85,8 +86,9 @@ fn unasked(plan: Plan) -> Reach
     }
 }
 
-// Whether the instance has to be asked.
-fn asks(plan: Plan) -> bool
+/// Whether the instance has to be asked.
+#[inline(always)]
+pub(crate) fn asks(plan: Plan) -> bool
     ensures { result ≡ false → plan ≢ planned.Ask }
 {
     matches!(plan, Plan::Ask)

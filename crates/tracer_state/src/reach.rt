@@ -1,13 +1,12 @@
 //! What an emission does in each instance, apart from hist triggers: read off the event's plan, or asked of the instance.
 
-ghost use Rattle.std.specs.Prelude.{◌≡◌, ◌<◌, ◌≤◌, false, [], length, slice_index_or, All};
+ghost use Rattle.std.specs.Prelude.{◌≡◌, ◌≤◌, false, [], length, slice_index_or, All};
 ghost use Rattle.trace_instance.specs.Plans.{plan_of};
 ghost use Rattle.trace_instance.specs.Rows.{reach_of};
 ghost use Rattle.tracer_state.specs.EventPlans.{IsPlanOf};
-ghost use Rattle.tracer_state.specs.States.{no_reach};
 ghost use Rattle.tracer_state.specs.private.Emissions as emissions;
 
-use crate::plan::EventPlan;
+use crate::plan::{EventPlan, asks, unasked};
 use crate::state::Named;
 use trace_format::Row;
 use trace_instance::{INSTANCES, Instance, Plan, Reach};
@@ -34,10 +33,7 @@ pub(crate) fn reach_planned(
 ) -> Reached
     requires planned { IsPlanOf event plan.now instances.now }
     requires few { length instances.now ≤ 8 }
-    requires enabled { All (λ n. event < length n.instance.enabled) instances.now }
-    requires filters { All (λ n. event < length n.instance.filters) instances.now }
-    requires triggers { All (λ n. event < length n.instance.triggers) instances.now }
-    requires hists { All (λ n. event < length n.instance.hists) instances.now }
+    requires each { All (λ n. emissions.HasEventAt event n.instance) instances.now }
     ensures reached { emissions.AreReached event row.now cpu pid reaches.new result.recorded instances.now }
     ensures quiet { emissions.AreQuiet event reaches.new result.triggered instances.now }
 {
@@ -49,17 +45,6 @@ pub(crate) fn reach_planned(
         };
     }
     reach_each(plan, instances, event, row, cpu, pid, reaches)
-}
-
-// What an emission does where it does nothing.
-#[inline(always)]
-fn nothing() -> Reach
-    ensures { result ≡ no_reach }
-{
-    Reach {
-        records: false,
-        fires: false,
-    }
 }
 
 // As `reach_planned`, where some instance is asked.
@@ -75,10 +60,7 @@ fn reach_each(
 ) -> Reached
     requires planned { IsPlanOf event plan.now instances.now }
     requires few { length instances.now ≤ 8 }
-    requires enabled { All (λ n. event < length n.instance.enabled) instances.now }
-    requires filters { All (λ n. event < length n.instance.filters) instances.now }
-    requires triggers { All (λ n. event < length n.instance.triggers) instances.now }
-    requires hists { All (λ n. event < length n.instance.hists) instances.now }
+    requires each { All (λ n. emissions.HasEventAt event n.instance) instances.now }
     ensures reached { emissions.AreReached event row.now cpu pid reaches.new result.recorded instances.now }
     ensures quiet { emissions.AreQuiet event reaches.new result.triggered instances.now }
 {
@@ -114,32 +96,20 @@ fn reach_one(
     pid: i32,
 ) -> OneReached
     requires planned { plan ≡ plan_of instance.now event }
-    requires enabled { event < length instance.now.enabled }
-    requires filters { event < length instance.now.filters }
-    requires triggers { event < length instance.now.triggers }
-    requires hists { event < length instance.now.hists }
+    requires event { emissions.HasEventAt event instance.now }
     ensures reach { result.reach ≡ reach_of instance.now event row.now cpu pid }
     ensures fires { result.triggered ≡ false → result.reach.fires ≡ false }
     ensures hists { result.triggered ≡ false → slice_index_or instance.now.hists event [] ≡ [] }
 {
-    match plan {
-        Plan::Nothing => OneReached {
-            reach: nothing(),
+    if !asks(plan) {
+        return OneReached {
+            reach: unasked(plan),
             triggered: false,
-        },
-        Plan::Record => OneReached {
-            reach: Reach {
-                records: true,
-                fires: false,
-            },
-            triggered: false,
-        },
-        Plan::Ask => {
-            let reach = instance.reach(event, row, cpu, pid);
-            OneReached {
-                reach,
-                triggered: reach.fires | instance.has_hists(event),
-            }
-        }
+        };
+    }
+    let reach = instance.reach(event, row, cpu, pid);
+    OneReached {
+        reach,
+        triggered: reach.fires | instance.has_hists(event),
     }
 }

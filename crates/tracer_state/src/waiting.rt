@@ -1,6 +1,6 @@
 //! Whether a record waits to be read in a pipe, which is asked by no command.
 
-ghost use Rattle.std.specs.Prelude.{◌≡◌, ◌≢◌, List, IfErr};
+ghost use Rattle.std.specs.Prelude.{◌≡◌, List};
 ghost use Rattle.trace_command.specs.Paths as paths;
 ghost use Rattle.trace_command.specs.Requests.{Request};
 ghost use Rattle.trace_history.specs.Waiting.{waiting};

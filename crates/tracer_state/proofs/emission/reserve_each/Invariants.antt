@@ -1,4 +1,4 @@
-use Rattle.std.proofs.Common.{◌≡◌, ℕ, ◌≤◌, ◌<◌, false, [], ◌∷◌, length, slice_index_or}
+use Rattle.std.proofs.Common.{◌≡◌, ℕ, ◌≤◌, ◌<◌, [], length, slice_index_or}
 use Rattle.trace_instance.specs.Deliveries.{CanCountRow}
 use Rattle.trace_instance.specs.Instances.{IsAlike, passed_in}
 use Rattle.tracer_state.specs.declared.state.Named.{Named}
