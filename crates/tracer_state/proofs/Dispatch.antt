@@ -33,7 +33,6 @@ use Rattle.trace_instance.specs.declared.file.File.{File}
 use Rattle.trace_instance.specs.declared.file.File.TheVariants as file
 use Rattle.tracer_state.specs.declared.resolve.Target.TheVariants as target
 use Rattle.tracer_state.specs.declared.state.Named.{Named}
-use Rattle.tracer_state.specs.declared.state.Prepared.{Prepared}
 use Rattle.tracer_state.specs.declared.state.State.{State}
 use Rattle.tracer_state.proofs.EachInstance.{length-names_of}
 use Rattle.trace_instance.proofs.Effects.{declaration_effect, declarations_read, lawful_read, nothing_missing, other_read, other_write, own_read}
@@ -74,48 +73,6 @@ answered-there : {A : Type 0} (g : Config) (past : List Request) (name : Option 
     → instance_answer name past (file_answer g past answered (Some named)) ≡ answered named
 answered-there g past name answered named is none = rw (is, none) refl
 
--- and so is one that was found
-pub answered-found : {A : Type 0} (g : Config) (state : State) (past : List Request) (name : Option (List ℕ)) (answered : paths.File → Result A Refusal)
-    (found : File) → StandsFor g state past → is_there name past ≡ true → IsThere g.cpus state.catalog found
-    → instance_answer name past (file_answer g past answered (Some (file_at state.catalog found))) ≡ answered (file_at state.catalog found)
-answered-found g state past name answered found stands is there =
-    answered-there g past name answered (file_at state.catalog found) is
-    (nothing_missing g past state.catalog found stands.events
-    (subst (λ (events : List Definition). AreEvents [] events) (sym stands.events) stands.distinct) there)
-
--- a refusal of an equal answer
-refused-as : (refused : Refusal) (one other : Result Reply Refusal) → other ≡ one → IsRefusal refused one → IsRefusal refused other
-refused-as refused one other same is = subst (λ (answered : Result Reply Refusal). IsRefusal refused answered) (sym same) is
-
--- ---- a change of one instance
-
-changed-at : (g : Config) (state : State) (past : List Request) (request : Request) (index : ℕ) (name : Option (List ℕ)) (change : InstanceChange)
-    → IsAt state index name → IsPlain request
-    → ((other : Option (List ℕ)) → is_same other name ≡ false → IsEffect g other past request Keep)
-    → IsEffect g name past request change → IsChangeOf g state past request (Instance index change)
-changed-at g state past request index name change at plain others own = λ d.
-    let changed : IsChanged g past request name = record { plain = plain; others = others } in
-    subst (λ (n : Option (List ℕ)). IsChanged g past request n × IsEffect g n past request change) (sym (at.1 d)) (changed, own)
-
--- ---- writes
-
--- the request of a write to what was found
-abbrev pub write_to : State → Option (List ℕ) → File → Bool → List ℕ → Request
-write_to state name found append text = WriteFile name (Some (file_at state.catalog found)) append text
-
-write-answers : (g : Config) (state : State) (past : List Request) (name : Option (List ℕ)) (found : File) (append : Bool) (text : List ℕ)
-    → StandsFor g state past → is_there name past ≡ true → IsThere g.cpus state.catalog found
-    → answer_with_room g past (write_to state name found append text) ≡ write_answer g name past append text (file_at state.catalog found)
-write-answers g state past name found append text stands is there =
-    answered-found g state past name (write_answer g name past append text) found stands is there
-
-usable-at : (g : Config) (state : State) (past : List Request) (index : ℕ) (d : Named) → IsUsable g state → StandsFor g state past
-    → index < length state.instances.items
-    → IsUsableInstance g (length (declared_events past)) (get_or state.instances.items index d).instance
-usable-at g state past index d usable stands inside =
-    subst (λ (events : List Definition). IsUsableInstance g (length events) (get_or state.instances.items index d).instance) stands.events
-    (usable.each index d inside)
-
 -- the instance at an index is what the requests say of the one of this name
 pub stands-at : (g : Config) (state : State) (past : List Request) (index : ℕ) (name : Option (List ℕ)) (n : Named)
     → StandsFor g state past → IsAt state index name → n ≡ get_or state.instances.items index n → InstanceStandsFor g name past n.instance
@@ -125,54 +82,62 @@ stands-at g state past index name n stands at is =
     subst (λ (m : Named). InstanceStandsFor g m.name past m.instance) (sym is) (stands.each index n at.0) in
     subst (λ (o : Option (List ℕ)). InstanceStandsFor g o past n.instance) called own
 
-write-done : (g : Config) (state : State) (past : List Request) (name : Option (List ℕ)) (index : ℕ) (found : File) (append : Bool) (text : List ℕ)
-    (change : InstanceChange) → StandsFor g state past → is_there name past ≡ true → IsAt state index name
-    → IsThere g.cpus state.catalog found → IsWriteChange g name past append text (file_at state.catalog found) (Ok change)
-    → IsPrepared g past (write_to state name found append text) state (Ok (record { change = Instance index change; reply = Done }))
-write-done g state past name index found append text change stands is at there write =
-    let named = file_at state.catalog found in (
-      write-answers g state past name found append text stands is there ∙ write.0,
-      changed-at g state past (write_to state name found append text) index name change at (plain_write name state.catalog found append text)
-          (λ other differ. other_write g other name past named append text differ)
-          write.1,
-      (
-        at.0,
-        λ d. write.2 (get_or state.instances.items index d).instance
-            (subst (λ (o : Option (List ℕ)). InstanceStandsFor g o past (get_or state.instances.items index d).instance) (at.1 d) (stands.each index d at.0)),
-      ),
-    )
+-- a file of an instance that was found for an address
+module _ (g : Config) (state : State) (past : List Request) (a : Address) (index : ℕ) (found : File) (stands : StandsFor g state past)
+    (resolved : IsResolved g state past a (Ok (target.Of index found))) where
+  abbrev named : paths.File
+  named = file_at state.catalog found
 
-write-refused : (g : Config) (state : State) (past : List Request) (name : Option (List ℕ)) (found : File) (append : Bool) (text : List ℕ)
-    (refused : Refusal) → StandsFor g state past → is_there name past ≡ true
-    → IsThere g.cpus state.catalog found → IsWriteChange g name past append text (file_at state.catalog found) (Err refused)
-    → IsPrepared g past (write_to state name found append text) state (Err refused)
-write-refused g state past name found append text refused stands is there write =
-    refused-as refused (write_answer g name past append text (file_at state.catalog found)) _ (write-answers g state past name found append text stands is there) write
+  -- it is answered
+  pub answered-found : {A : Type 0} (answered : paths.File → Result A Refusal)
+      → instance_answer a.instance past (file_answer g past answered a.file) ≡ answered named
+  answered-found answered =
+      ap (λ (f : Option paths.File). instance_answer a.instance past (file_answer g past answered f)) resolved.2
+      ∙ answered-there g past a.instance answered named resolved.0
+      (nothing_missing g past state.catalog found stands.events
+      (subst (λ (events : List Definition). AreEvents [] events) (sym stands.events) stands.distinct) resolved.3)
 
--- the same of an address
-pub address-writes : (g : Config) (state : State) (past : List Request) (a : Address) (index : ℕ) (found : File) (append : Bool) (text : List ℕ)
-    (change : InstanceChange) → StandsFor g state past → IsResolved g state past a (Ok (target.Of index found))
-    → IsWriteChange g a.instance past append text (file_at state.catalog found) (Ok change)
-    → IsPrepared g past (WriteFile a.instance a.file append text) state (Ok (record { change = Instance index change; reply = Done }))
-address-writes g state past a index found append text change stands resolved write =
-    subst
-    (λ (f : Option paths.File). IsPrepared g past (WriteFile a.instance f append text) state (Ok (record { change = Instance index change; reply = Done })))
-    (sym resolved.2) (write-done g state past a.instance index found append text change stands resolved.0 resolved.1 resolved.3 write)
+  -- or refused, whatever is asked of it
+  pub refused-found : (answered : paths.File → Result Reply Refusal) (refused : Refusal) → IsRefusal refused (answered named)
+      → IsRefusal refused (instance_answer a.instance past (file_answer g past answered a.file))
+  refused-found answered refused is = subst (λ (r : Result Reply Refusal). IsRefusal refused r) (sym (answered-found answered)) is
 
-pub address-write_refused : (g : Config) (state : State) (past : List Request) (a : Address) (index : ℕ) (found : File) (append : Bool) (text : List ℕ)
-    (refused : Refusal) → StandsFor g state past → IsResolved g state past a (Ok (target.Of index found))
-    → IsWriteChange g a.instance past append text (file_at state.catalog found) (Err refused)
-    → IsPrepared g past (WriteFile a.instance a.file append text) state (Err refused)
-address-write_refused g state past a index found append text refused stands resolved write =
-    subst (λ (f : Option paths.File). IsPrepared g past (WriteFile a.instance f append text) state (Err refused))
-    (sym resolved.2) (write-refused g state past a.instance found append text refused stands resolved.0 resolved.3 write)
+  -- a request that changes it changes no other instance
+  changes-found : (request : Request) (change : InstanceChange) → IsPlain request
+      → ((other : Option (List ℕ)) → is_same other a.instance ≡ false → IsEffect g other past request Keep)
+      → IsEffect g a.instance past request change → IsChangeOf g state past request (Instance index change)
+  changes-found request change plain others own = λ d.
+      let changed : IsChanged g past request a.instance = record { plain = plain; others = others } in
+      subst (λ (n : Option (List ℕ)). IsChanged g past request n × IsEffect g n past request change) (sym (resolved.1.1 d)) (changed, own)
+
+  pub writes-found : (append : Bool) (text : List ℕ) (change : InstanceChange) → IsWriteChange g a.instance past append text named (Ok change)
+      → IsPrepared g past (WriteFile a.instance a.file append text) state (Ok (record { change = Instance index change; reply = Done }))
+  writes-found append text change write = (
+    answered-found (write_answer g a.instance past append text) ∙ write.0,
+    rw resolved.2 (changes-found (WriteFile a.instance (Some named) append text) change (plain_write a.instance state.catalog found append text)
+        (λ other differ. other_write g other a.instance past named append text differ) write.1),
+    (
+      resolved.1.0,
+      λ d. write.2 (get_or state.instances.items index d).instance
+          (subst (λ (o : Option (List ℕ)). InstanceStandsFor g o past (get_or state.instances.items index d).instance) (resolved.1.1 d)
+          (stands.each index d resolved.1.0)),
+    ),
+  )
+
+  pub reads-found : (limit : Option ℕ) (shown : Shown) → IsUsable g state → IsRead g a.instance past limit named (Ok shown)
+      → IsPrepared g past (ReadFile a.instance a.file limit) state (Ok (record { change = Instance index shown.change; reply = shown.reply }))
+  reads-found limit shown usable read = (
+    answered-found (read_answer g a.instance past limit) ∙ read.0,
+    rw resolved.2 (changes-found (ReadFile a.instance (Some named) limit) shown.change (plain_read a.instance (Some named) limit)
+        (λ other differ. other_read g other a.instance past (Some named) limit differ)
+        (own_read g a.instance past named limit shown.change read.1 read.2)),
+    (
+      resolved.1.0,
+      λ d. lawful_read g (length state.catalog) (get_or state.instances.items index d).instance shown.change (usable.each index d resolved.1.0) read.1,
+    ),
+  )
 
 -- ---- declarations
-
--- what a declaration answers, at its instance
-declaration-answers : (g : Config) (past : List Request) (name : Option (List ℕ)) (append : Bool) (text : List ℕ) → is_there name past ≡ true
-    → answer_with_room g past (WriteFile name (Some paths.SyntheticEvents) append text) ≡ declaration_answer g past append text
-declaration-answers g past name append text is = answered-there g past name (write_answer g name past append text) paths.SyntheticEvents is refl
 
 -- an event that may be added
 fresh_event : (g : Config) (past : List Request) (event : Definition) (id : ℕ) → IsDefinition event → id_for (declared_events past) event g.page_bytes ≡ Ok id
@@ -217,7 +182,7 @@ new-answers : (g : Config) (state : State) (past : List Request) (name : Option 
 unfolding declaration_answer
 new-answers g state past name append text event stands is read free =
     let same : (not append && nat_lt 0 (length (declared_events past))) ≡ false = rw (← stands.events) free in
-    declaration-answers g past name append text is ∙ ap (read_declaration_answer g past append) read
+    answered-there g past name (write_answer g name past append text) paths.SyntheticEvents is refl ∙ ap (read_declaration_answer g past append) read
     ∙ rw (same, stands.events) refl
 
 pub added : (g : Config) (state : State) (past : List Request) (name : Option (List ℕ)) (append : Bool) (text : List ℕ) (event : Definition)
@@ -238,59 +203,6 @@ added g state past name append text event id stands is read defined free given =
       (rw stands.events fresh.few, rw given refl),
     )
 
--- ---- reads
-
--- the request of a read of what was found
-abbrev pub read_of : State → Option (List ℕ) → File → Option ℕ → Request
-read_of state name found limit = ReadFile name (Some (file_at state.catalog found)) limit
-
-read-answers : (g : Config) (state : State) (past : List Request) (name : Option (List ℕ)) (found : File) (limit : Option ℕ)
-    → StandsFor g state past → is_there name past ≡ true → IsThere g.cpus state.catalog found
-    → answer_with_room g past (read_of state name found limit) ≡ read_answer g name past limit (file_at state.catalog found)
-read-answers g state past name found limit stands is there =
-    answered-found g state past name (read_answer g name past limit) found stands is there
-
-read-done : (g : Config) (state : State) (past : List Request) (name : Option (List ℕ)) (index : ℕ) (found : File) (limit : Option ℕ)
-    (shown : Shown) → IsUsable g state → StandsFor g state past → is_there name past ≡ true → IsAt state index name
-    → IsThere g.cpus state.catalog found → IsRead g name past limit (file_at state.catalog found) (Ok shown)
-    → IsPrepared g past (read_of state name found limit) state (Ok (record { change = Instance index shown.change; reply = shown.reply }))
-read-done g state past name index found limit shown usable stands is at there read =
-    let named = file_at state.catalog found in (
-      read-answers g state past name found limit stands is there ∙ read.0,
-      changed-at g state past (read_of state name found limit) index name shown.change at (plain_read name (Some named) limit)
-          (λ other differ. other_read g other name past (Some named) limit differ)
-          (own_read g name past named limit shown.change read.1 read.2),
-      (
-        at.0,
-        λ d. lawful_read g (length (declared_events past)) (get_or state.instances.items index d).instance shown.change
-            (usable-at g state past index d usable stands at.0) read.1,
-      ),
-    )
-
-read-refused : (g : Config) (state : State) (past : List Request) (name : Option (List ℕ)) (found : File) (limit : Option ℕ)
-    (refused : Refusal) → StandsFor g state past → is_there name past ≡ true
-    → IsThere g.cpus state.catalog found → IsRead g name past limit (file_at state.catalog found) (Err refused)
-    → IsPrepared g past (read_of state name found limit) state (Err refused)
-read-refused g state past name found limit refused stands is there read =
-    refused-as refused (read_answer g name past limit (file_at state.catalog found)) _ (read-answers g state past name found limit stands is there) read
-
-pub address-reads : (g : Config) (state : State) (past : List Request) (a : Address) (index : ℕ) (found : File) (limit : Option ℕ)
-    (shown : Shown) → IsUsable g state → StandsFor g state past → IsResolved g state past a (Ok (target.Of index found))
-    → IsRead g a.instance past limit (file_at state.catalog found) (Ok shown)
-    → IsPrepared g past (ReadFile a.instance a.file limit) state (Ok (record { change = Instance index shown.change; reply = shown.reply }))
-address-reads g state past a index found limit shown usable stands resolved read =
-    subst
-    (λ (f : Option paths.File). IsPrepared g past (ReadFile a.instance f limit) state (Ok (record { change = Instance index shown.change; reply = shown.reply })))
-    (sym resolved.2) (read-done g state past a.instance index found limit shown usable stands resolved.0 resolved.1 resolved.3 read)
-
-pub address-read_refused : (g : Config) (state : State) (past : List Request) (a : Address) (index : ℕ) (found : File) (limit : Option ℕ)
-    (refused : Refusal) → StandsFor g state past → IsResolved g state past a (Ok (target.Of index found))
-    → IsRead g a.instance past limit (file_at state.catalog found) (Err refused)
-    → IsPrepared g past (ReadFile a.instance a.file limit) state (Err refused)
-address-read_refused g state past a index found limit refused stands resolved read =
-    subst (λ (f : Option paths.File). IsPrepared g past (ReadFile a.instance f limit) state (Err refused))
-    (sym resolved.2) (read-refused g state past a.instance found limit refused stands resolved.0 resolved.3 read)
-
 -- the declarations are read whole, and nothing is changed
 pub declarations-shown : (g : Config) (state : State) (past : List Request) (name : Option (List ℕ)) (limit : Option ℕ) (text : List ℕ)
     → StandsFor g state past → is_there name past ≡ true → limit ≡ None → text ≡ declarations_text past
@@ -304,13 +216,6 @@ declarations-shown g state past name limit text stands is none shown =
       ),
       (some, λ d. tt),
     )
-
-pub address-lists : (g : Config) (state : State) (past : List Request) (a : Address) (limit : Option ℕ) (result : Result Prepared Refusal)
-    → IsResolved g state past a (Ok target.Declarations)
-    → IsPrepared g past (ReadFile a.instance (Some paths.SyntheticEvents) limit) state result
-    → IsPrepared g past (ReadFile a.instance a.file limit) state result
-address-lists g state past a limit result resolved is =
-    subst (λ (f : Option paths.File). IsPrepared g past (ReadFile a.instance f limit) state result) (sym resolved.1) is
 
 -- what the instance at an index is read from
 pub is-source : (g : Config) (state : State) (past : List Request) (source : FileSource) (index : ℕ) (name : Option (List ℕ)) (n : Named)

@@ -1,5 +1,5 @@
 -- Instances that are made and removed.
-use Rattle.std.proofs.Common.{◌≡◌, ℕ, ◌<◌, ◌≤◌, ltb, true, false, List, [], ◌∷◌, length, get_or, All, is_some, Option, Some, None, Ok, Err, refl, sym, ◌∙◌, subst, arith}
+use Rattle.std.proofs.Common.{◌≡◌, ℕ, suc, ◌<◌, ◌≤◌, ltb, true, false, List, ◌∷◌, length, get_or, All, is_some, Option, Some, None, Ok, Err, refl, sym, ◌∙◌, arith}
 use Rattle.std.specs.Global.{Box}
 use Rattle.std.specs.List.{list_any}
 use Rattle.std.specs.Str.{bytes_eq}
@@ -26,7 +26,8 @@ use Rattle.tracer_state.specs.declared.state.State.{State}
 use Rattle.trace_instance.proofs.Calm.{calm-effect, calm-make, calm-remove, no_event, quiet-keep}
 use Rattle.trace_instance.proofs.Answering.{done-late}
 use Rattle.trace_instance.proofs.Snapshotting.{refused}
-use Rattle.tracer_state.proofs.EachInstance.{length-names_of, name_at}
+use Rattle.tracer_state.proofs.Dispatch.{stands-at}
+use Rattle.tracer_state.proofs.EachInstance.{first, length-names_of, name_at}
 use Rattle.tracer_state.proofs.Resolving.{found-there, lost-there, place_in}
 
 -- ---- which instances are there
@@ -34,27 +35,18 @@ use Rattle.tracer_state.proofs.Resolving.{found-there, lost-there, place_in}
 -- an instance is there exactly if it has an index
 pub there-index : (g : Config) (state : State) (past : List Request) (name : Option (List ℕ)) (found : Option ℕ) → StandsFor g state past
     → place_in state name ≡ found → is_there name past ≡ is_some found
-there-index g state past name None stands is = lost-there g state past name (record { instance = name; file = None }) stands refl is
-there-index g state past name (Some index) stands is = (found-there g state past name (record { instance = name; file = None }) index stands refl is).0
+there-index g state past name None stands is = lost-there g state past name stands is
+there-index g state past name (Some index) stands is = (found-there g state past name index stands is).0
 
 -- the instance at the index of its name is what the requests say of it
 pub found-stands : (g : Config) (state : State) (past : List Request) (name : Option (List ℕ)) (index : ℕ) (named : Named) → StandsFor g state past
     → place_in state name ≡ Some index → named ≡ get_or state.instances.items index named → InstanceStandsFor g name past named.instance
-found-stands g state past name index named stands is at =
-    let there = found-there g state past name (record { instance = name; file = None }) index stands refl is in
-    let items = state.instances.items in
-    let stood : InstanceStandsFor g (get_or items index named).name past (get_or items index named).instance = stands.each index named there.1.0 in
-    subst (λ (n : Named). InstanceStandsFor g name past n.instance) (sym at)
-    (subst (λ (own : Option (List ℕ)). InstanceStandsFor g own past (get_or items index named).instance) (there.1.1 named) stood)
+found-stands g state past name index named stands is = stands-at g state past index name named stands (found-there g state past name index stands is).1
 
 -- a name that is none of these differs from each
 all-differ : (name : List ℕ) (names : List (List ℕ)) → list_any (bytes_eq name) names ≡ false → All (λ (other : List ℕ). bytes_eq other name ≡ false) names
 all-differ name names none = λ k d inside. bytes-differ name (get_or names k d)
     (false_from_ne_true (bytes_eq name (get_or names k d)) (λ is. false≢true (sym none ∙ list_any_at (bytes_eq name) names k d inside is)))
-
--- as many instances as names, and the top one
-few-names : (g : Config) (state : State) (past : List Request) → StandsFor g state past → length state.instances.items < 8 → length (instance_names past) < 7
-few-names g state past stands few = omega (arith, length-names_of state.instances.items (instance_names past) stands.names, few)
 
 -- ---- a new instance
 
@@ -85,11 +77,6 @@ removed-effect g past name other =
 
 -- ---- answers
 
-can_be_made : (past : List Request) (name : List ℕ) → is_name name ≡ true → is_there (Some name) past ≡ false → length (instance_names past) < 7
-    → named_answer past name ≡ Ok Done
-unfolding named_answer
-can_be_made past name good new few = rw (good, new, lt-ltb (length (instance_names past)) 7 few) refl
-
 pub make-bad_name : (g : Config) (state : State) (past : List Request) (path : Option (List ℕ)) (name : List ℕ) → path ≡ Some name → is_name name ≡ false
     → IsPrepared g past (MakeInstance path) state (Err BadValue)
 unfolding named_answer
@@ -103,47 +90,50 @@ make-exists g state past path name found stands is good at some =
     let there : is_there (Some name) past ≡ true = there-index g state past (Some name) found stands at ∙ some in
     rw is (refused InstanceExists (named_answer past name) (rw (good, there) refl))
 
-pub make-too_many : (g : Config) (state : State) (past : List Request) (path : Option (List ℕ)) (name : List ℕ) (found : Option ℕ) → StandsFor g state past
-    → path ≡ Some name → is_name name ≡ true → place_in state (Some name) ≡ found → is_some found ≡ false → 8 ≤ length state.instances.items
-    → IsPrepared g past (MakeInstance path) state (Err TooMany)
-unfolding named_answer
-make-too_many g state past path name found stands is good at none many =
-    let new : is_there (Some name) past ≡ false = there-index g state past (Some name) found stands at ∙ none in
-    let full : 7 ≤ length (instance_names past) = omega (arith, length-names_of state.instances.items (instance_names past) stands.names, many) in
-    let no : ltb (length (instance_names past)) 7 ≡ false = grind (arith, nat_tests) in
-    rw is (refused TooMany (named_answer past name) (rw (good, new, no) refl))
+-- the path is that of an instance that isn't there, and its name is one
+pub record IsNewPath (g : Config) (state : State) (past : List Request) (path : Option (List ℕ)) (name : List ℕ) : Type 0 where
+  pub stands : StandsFor g state past
+  pub is : path ≡ Some name
+  pub good : is_name name ≡ true
+  pub new : is_there (Some name) past ≡ false
 
-pub make-memory : (g : Config) (state : State) (past : List Request) (path : Option (List ℕ)) (name : List ℕ) (found : Option ℕ) → StandsFor g state past
-    → path ≡ Some name → is_name name ≡ true → place_in state (Some name) ≡ found → is_some found ≡ false → length state.instances.items < 8
-    → IsPrepared g past (MakeInstance path) state (Err Memory)
-make-memory g state past path name found stands is good at none few =
-    let new : is_there (Some name) past ≡ false = there-index g state past (Some name) found stands at ∙ none in
-    rw is (done-late (named_answer past name) (can_be_made past name good new (few-names g state past stands few)))
+module _ {g : Config} {state : State} {past : List Request} {path : Option (List ℕ)} {name : List ℕ} (path_is : IsNewPath g state past path name) where
+  many_names : length state.instances.items ≡ suc (length (instance_names past))
+  many_names = length-names_of state.instances.items (instance_names past) path_is.stands.names
 
-pub make-done : (g : Config) (state : State) (past : List Request) (path : Option (List ℕ)) (name : List ℕ) (found : Option ℕ) (made : Box Named)
-    → StandsFor g state past → path ≡ Some name → is_name name ≡ true → place_in state (Some name) ≡ found → is_some found ≡ false
-    → length state.instances.items < 8 → made.value.name ≡ Some name
-    → InstanceStandsFor g (Some name) (MakeInstance (Some name) ∷ past) made.value.instance
-    → IsPrepared g past (MakeInstance path) state (Ok (record { change = Make made; reply = Done }))
-make-done g state past path name found made stands is good at none few called own =
-    let new : is_there (Some name) past ≡ false = there-index g state past (Some name) found stands at ∙ none in
-    let fewer = few-names g state past stands few in
-    rw is (
-      can_be_made past name good new fewer,
-      record {
-        declares = refl;
-        name = name;
-        called = called;
-        made = refl;
-        removed = refl;
-        ticks = refl;
-        few = fewer;
-        new = all-differ name (instance_names past) new;
-        stands = own;
-        effect = made-effect g past name;
-      },
-      tt,
-    )
+  pub make-too_many : 8 ≤ length state.instances.items → IsPrepared g past (MakeInstance path) state (Err TooMany)
+  unfolding named_answer
+  make-too_many many =
+      let full : 7 ≤ length (instance_names past) = omega (arith, many_names, many) in
+      let no : ltb (length (instance_names past)) 7 ≡ false = grind (arith, nat_tests) in
+      rw path_is.is (refused TooMany (named_answer past name) (rw (path_is.good, path_is.new, no) refl))
+
+  can_be_made : length state.instances.items < 8 → named_answer past name ≡ Ok Done
+  unfolding named_answer
+  can_be_made few = rw (path_is.good, path_is.new, lt-ltb (length (instance_names past)) 7 (omega (arith, many_names, few))) refl
+
+  pub make-memory : length state.instances.items < 8 → IsPrepared g past (MakeInstance path) state (Err Memory)
+  make-memory few = rw path_is.is (done-late (named_answer past name) (can_be_made few))
+
+  pub make-done : (made : Box Named) → length state.instances.items < 8 → made.value.name ≡ Some name
+      → InstanceStandsFor g (Some name) (MakeInstance (Some name) ∷ past) made.value.instance
+      → IsPrepared g past (MakeInstance path) state (Ok (record { change = Make made; reply = Done }))
+  make-done made few called own = rw path_is.is (
+    can_be_made few,
+    record {
+      declares = refl;
+      name = name;
+      called = called;
+      made = refl;
+      removed = refl;
+      ticks = refl;
+      few = omega (arith, many_names, few);
+      new = all-differ name (instance_names past) path_is.new;
+      stands = own;
+      effect = made-effect g past name;
+    },
+    tt,
+  )
 
 pub remove-lost : (g : Config) (state : State) (past : List Request) (path : Option (List ℕ)) (name : List ℕ) → StandsFor g state past
     → path ≡ Some name → place_in state (Some name) ≡ None → IsPrepared g past (RemoveInstance path) state (Err NoSuchInstance)
@@ -155,11 +145,12 @@ pub remove-done : (g : Config) (state : State) (past : List Request) (path : Opt
     → path ≡ Some name → place_in state (Some name) ≡ Some index
     → IsPrepared g past (RemoveInstance path) state (Ok (record { change = Remove index; reply = Done }))
 remove-done g state past path name index stands is at =
-    let there = found-there g state past (Some name) (record { instance = Some name; file = None }) index stands refl at in
+    let there = found-there g state past (Some name) index stands at in
     let names = instance_names past in
     let items = state.instances.items in
     let inside = there.1.0 in
     let many = length-names_of items names stands.names in
+    let some = first items (omega (arith, inside)) in
     rw is (
       rw there.0 refl,
       record {
@@ -169,13 +160,8 @@ remove-done g state past path name index stands is at =
         removed = refl;
         ticks = refl;
         inside = omega (arith, inside, many);
-        there = sym (name_at items _ index (one items inside) stands.names inside) ∙ there.1.1 (one items inside);
+        there = sym (name_at items _ index some stands.names inside) ∙ there.1.1 some;
         effect = λ other. removed-effect g past name other;
       },
       inside,
     )
-  where
-    -- some instance
-    one : (instances : List Named) → index < length instances → Named
-    one [] within = absurd (omega arith)
-    one (n ∷ instances) within = n

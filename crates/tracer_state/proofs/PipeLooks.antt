@@ -8,7 +8,7 @@ use Rattle.trace_command.specs.declared.command.Reply.{Reply}
 use Rattle.trace_command.specs.declared.command.Reply.TheVariants.{Done}
 use Rattle.trace_command.specs.declared.refusal.Refusal.{Refusal}
 use Rattle.trace_command.specs.declared.refusal.Refusal.TheVariants.{BadValue, NoSuchFile, NoSuchInstance}
-use Rattle.trace_history.specs.History.{file_answer, instance_answer, missing, unless_refused}
+use Rattle.trace_history.specs.History.{file_answer, missing, unless_refused}
 use Rattle.trace_history.specs.Settings.{is_there}
 use Rattle.trace_history.specs.Waiting.{waiting, waits_in}
 use Rattle.trace_format.specs.Definitions.{Definition}
@@ -70,6 +70,4 @@ pub told-found : (g : Config) (state : State) (past : List Request) (a : Address
     → told ≡ waits_in g a.instance past (file_at state.catalog found) → told ≡ waiting g past a.instance a.file
 unfolding waiting
 told-found g state past a index found told stands resolved is =
-    let look = waits_in g a.instance past in
-    is ∙ sym (answered-found g state past a.instance look found stands resolved.0 resolved.3)
-    ∙ ap (λ (f : Option paths.File). instance_answer a.instance past (file_answer g past look f)) (sym resolved.2)
+    is ∙ sym (answered-found g state past a index found stands resolved (waits_in g a.instance past))

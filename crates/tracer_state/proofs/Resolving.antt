@@ -90,17 +90,16 @@ first-at p (x ∷ xs) i is =
 abbrev pub place_in : State → Option (List ℕ) → Option ℕ
 place_in state name = position (λ (n : Named). is_same n.name name) state.instances.items
 
-pub found-there : (g : Config) (state : State) (past : List Request) (name : Option (List ℕ)) (a : Address) (index : ℕ) → StandsFor g state past
-    → name ≡ a.instance → place_in state name ≡ Some index → (is_there a.instance past ≡ true) × IsAt state index a.instance
-found-there g state past name a index stands is found =
-    let at = first-at (λ (n : Named). is_same n.name a.instance) state.instances.items index (ap (place_in state) (sym is) ∙ found) in
-    (sym (any-there g state past a.instance stands) ∙ at.0, (at.1, λ d. same-is _ a.instance (at.2 d)))
+pub found-there : (g : Config) (state : State) (past : List Request) (name : Option (List ℕ)) (index : ℕ) → StandsFor g state past
+    → place_in state name ≡ Some index → (is_there name past ≡ true) × IsAt state index name
+found-there g state past name index stands found =
+    let at = first-at (λ (n : Named). is_same n.name name) state.instances.items index found in
+    (sym (any-there g state past name stands) ∙ at.0, (at.1, λ d. same-is _ name (at.2 d)))
 
-pub lost-there : (g : Config) (state : State) (past : List Request) (name : Option (List ℕ)) (a : Address) → StandsFor g state past
-    → name ≡ a.instance → place_in state name ≡ None → is_there a.instance past ≡ false
-lost-there g state past name a stands is lost =
-    sym (any-there g state past a.instance stands)
-    ∙ none-any (λ (n : Named). is_same n.name a.instance) state.instances.items (ap (place_in state) (sym is) ∙ lost)
+pub lost-there : (g : Config) (state : State) (past : List Request) (name : Option (List ℕ)) → StandsFor g state past → place_in state name ≡ None
+    → is_there name past ≡ false
+lost-there g state past name stands lost =
+    sym (any-there g state past name stands) ∙ none-any (λ (n : Named). is_same n.name name) state.instances.items lost
 
 -- ---- what an address answers
 

@@ -1,14 +1,16 @@
-use Rattle.std.proofs.Common.{◌≡◌, ◌<◌, ◌≤◌, ◌∷◌, true, false, List, length, is_some, Err, Some, sym, ap, ◌∙◌, subst, rules}
+use Rattle.std.proofs.Common.{◌≡◌, ◌∷◌, true, List, length, is_some, Err, Some, sym, ap, ◌∙◌, subst, rules}
 use Rattle.trace_lex.specs.Names.{is_name}
 use Rattle.trace_format.specs.Definitions.{Definition}
 use Rattle.trace_command.specs.Paths as paths
+use Rattle.trace_command.specs.Requests.{Request, MakeInstance}
 use Rattle.trace_command.specs.declared.refusal.Refusal.TheVariants.{Memory}
 use Rattle.trace_history.specs.Settings.{declared_events}
-use Rattle.trace_command.specs.Requests.{MakeInstance}
 use Rattle.trace_instance.specs.Instances.{InstanceStandsFor}
+use Rattle.tracer_state.specs.States.{StandsFor}
 use Rattle.tracer_state.specs.declared.state.Named.{Named}
-use Rattle.tracer_state.proofs.Making.{make-bad_name, make-exists, make-too_many, make-memory, make-done}
+use Rattle.tracer_state.proofs.Making.{IsNewPath, make-bad_name, make-exists, make-too_many, make-memory, make-done, there-index}
 use Rattle.tracer_state.proofs.state.State.prepare_make.Goals as goal
+use Rattle.tracer_state.proofs.state.State.prepare_make.Goals.{Else-is_some}
 
 pub returns-then-not-is_name : goal.returns-then-not-is_name
 returns-then-not-is_name c = λ past stands.
@@ -21,44 +23,36 @@ returns-then-is_some c = λ past stands.
     make-exists c.args.config.now c.args.self.now past (paths.instance_of c.args.path.now) c.in-Some.name.now c.index_of.result stands (sym c.in-Some.ensures)
     good (sym c.index_of.ensures) some
 
+path_is : (c : Else-is_some) (past : List Request) → StandsFor c.args.config.now c.args.self.now past
+    → IsNewPath c.args.config.now c.args.self.now past (paths.instance_of c.args.path.now) c.in-Some.name.now
+path_is c past stands = record {
+  stands = stands;
+  is = sym c.in-Some.ensures;
+  good = search rules;
+  new = there-index c.args.config.now c.args.self.now past _ c.index_of.result stands (sym c.index_of.ensures) ∙ search rules;
+}
+
 pub returns-then-len-ge-INSTANCES : goal.returns-then-len-ge-INSTANCES
 returns-then-len-ge-INSTANCES c = λ past stands.
-    let good : is_name c.in-Some.name.now ≡ true = search rules in
-    let none : is_some c.index_of.result ≡ false = search rules in
-    let many : 8 ≤ length c.args.self.now.instances.items = search rules in
-    make-too_many c.args.config.now c.args.self.now past (paths.instance_of c.args.path.now) c.in-Some.name.now c.index_of.result stands
-    (sym c.in-Some.ensures) good (sym c.index_of.ensures) none many
+    make-too_many (path_is (goal.at.returns-then-len-ge-INSTANCES c).Else-is_some past stands) (search rules)
 
 pub returns-in_err-named : goal.returns-in_err-named
 returns-in_err-named c = λ past stands.
-    let good : is_name c.in-Some.name.now ≡ true = search rules in
-    let none : is_some c.index_of.result ≡ false = search rules in
-    let few : length c.args.self.now.instances.items < 8 = search rules in
     let out : c.from_residual.result ≡ Err Memory = search rules in
-    rw out (make-memory c.args.config.now c.args.self.now past (paths.instance_of c.args.path.now) c.in-Some.name.now c.index_of.result stands
-    (sym c.in-Some.ensures) good (sym c.index_of.ensures) none few)
+    rw out (make-memory (path_is (goal.at.returns-in_err-named c).Else-is_some past stands) (search rules))
 
 pub returns-in_err-boxed : goal.returns-in_err-boxed
 returns-in_err-boxed c = λ past stands.
-    let good : is_name c.in-Some.name.now ≡ true = search rules in
-    let none : is_some c.index_of.result ≡ false = search rules in
-    let few : length c.args.self.now.instances.items < 8 = search rules in
     let out : c.from_residual-in_err-boxed.result ≡ Err Memory = search rules in
-    rw out (make-memory c.args.config.now c.args.self.now past (paths.instance_of c.args.path.now) c.in-Some.name.now c.index_of.result stands
-    (sym c.in-Some.ensures) good (sym c.index_of.ensures) none few)
+    rw out (make-memory (path_is (goal.at.returns-in_err-boxed c).Else-is_some past stands) (search rules))
 
 pub returns : goal.returns
 returns c = λ past stands.
-    let good : is_name c.in-Some.name.now ≡ true = search rules in
-    let none : is_some c.index_of.result ≡ false = search rules in
-    let few : length c.args.self.now.instances.items < 8 = search rules in
-    let events : c.len-2.result ≡ length (declared_events past) =
-    c.len-2.ensures.len ∙ ap (λ (l : List Definition). length l) stands.events in
     let name = c.in-Some.name.now in
     let made = c.in_ok-boxed.boxed in
     let is : made.value ≡ c.in_ok-named.named = c.in_ok-boxed.ensures.ok in
+    let events : c.len-2.result ≡ length (declared_events past) = c.len-2.ensures.len ∙ ap (λ (l : List Definition). length l) stands.events in
     let stood : InstanceStandsFor c.args.config.now (Some name) (MakeInstance (Some name) ∷ past) made.value.instance =
     subst (λ (n : Named). InstanceStandsFor c.args.config.now (Some name) (MakeInstance (Some name) ∷ past) n.instance) (sym is)
     (c.in_ok-named.ensures.stands past events) in
-    make-done c.args.config.now c.args.self.now past (paths.instance_of c.args.path.now) name c.index_of.result made stands
-    (sym c.in-Some.ensures) good (sym c.index_of.ensures) none few (ap (λ (n : Named). n.name) is ∙ c.in_ok-named.ensures.named) stood
+    make-done (path_is (goal.at.returns c).Else-is_some past stands) made (search rules) (ap (λ (n : Named). n.name) is ∙ c.in_ok-named.ensures.named) stood

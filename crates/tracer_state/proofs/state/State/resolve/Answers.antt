@@ -1,60 +1,61 @@
-use Rattle.std.proofs.Common.{◌≡◌, Option, Some, None, Ok, Err, refl, sym, ap, ◌∙◌, subst, rules}
+use Rattle.std.proofs.Common.{◌≡◌, List, Some, None, Ok, Err, true, refl, sym, ap, ◌∙◌, rules}
 use Rattle.trace_command.specs.Paths as paths
 use Rattle.trace_command.specs.Paths.{Address}
 use Rattle.trace_command.specs.FileNames.{file_at}
-use Rattle.tracer_state.specs.private.Files.{IsFound}
-use Rattle.trace_instance.specs.declared.file.File.{File}
+use Rattle.trace_command.specs.Requests.{Request}
+use Rattle.trace_history.specs.Settings.{is_there}
+use Rattle.tracer_state.specs.States.{StandsFor}
+use Rattle.tracer_state.specs.private.Files.{IsAt, IsFound}
 use Rattle.tracer_state.proofs.Resolving.{found-there, lost-there, no-instance, no-file, missing-file}
 use Rattle.tracer_state.proofs.state.State.resolve.Goals as goal
+use Rattle.tracer_state.proofs.state.State.resolve.Goals.{In-Some, In-Some-file}
+
+-- the instance is there
+there : (c : In-Some) (past : List Request) → StandsFor c.args.config.now c.args.self.now past
+    → (is_there (paths.address_of c.args.path.now).instance past ≡ true)
+    × IsAt c.args.self.now c.in-Some.index (paths.address_of c.args.path.now).instance
+there c past stands =
+    let name = ap (λ (a : Address). a.instance) c.address_of-address.ensures in
+    found-there c.args.config.now c.args.self.now past _ c.in-Some.index stands (rw name at (sym c.in-Some.ensures))
+
+-- and the path names a file
+named : (c : In-Some-file) → (paths.address_of c.args.path.now).file ≡ Some (file_at c.in-Some-file.named)
+named c = sym (ap (λ (a : Address). a.file) c.address_of-address.ensures) ∙ search rules
 
 pub returns-in_default-clause-resolved : goal.returns-in_default-clause-resolved
 returns-in_default-clause-resolved c = λ past stands answered.
-    let g = c.args.config.now in
-    let address = paths.address_of c.args.path.now in
     let name = ap (λ (a : Address). a.instance) c.address_of-address.ensures in
-    let lost = lost-there g c.args.self.now past _ address stands name (sym c.index_of.ensures ∙ search rules) in
-    no-instance g past address answered lost
+    let none : c.index_of.result ≡ None = search rules in
+    no-instance c.args.config.now past (paths.address_of c.args.path.now) answered
+    (lost-there c.args.config.now c.args.self.now past _ stands (rw name at (sym c.index_of.ensures ∙ none)))
 
 pub returns-in_default-file-clause-resolved : goal.returns-in_default-file-clause-resolved
 returns-in_default-file-clause-resolved c = λ past stands answered.
-    let g = c.args.config.now in
     let address : Address = paths.address_of c.args.path.now in
-    let name = ap (λ (a : Address). a.instance) c.address_of-address.ensures in
-    let there = found-there g c.args.self.now past _ address c.in-Some.index stands name (sym c.in-Some.ensures) in
     let none : address.file ≡ None = sym (ap (λ (a : Address). a.file) c.address_of-address.ensures) ∙ search rules in
-    no-file g past address answered there.0 none
+    no-file c.args.config.now past address answered (there (goal.at.returns-in_default-file-clause-resolved c).In-Some past stands).0 none
 
 pub returns-in_err-file-clause-resolved : goal.returns-in_err-file-clause-resolved
 returns-in_err-file-clause-resolved c = λ past stands.
-    let g = c.args.config.now in
-    let address : Address = paths.address_of c.args.path.now in
-    let name = ap (λ (a : Address). a.instance) c.address_of-address.ensures in
-    let there = found-there g c.args.self.now past _ address c.in-Some.index stands name (sym c.in-Some.ensures) in
-    let named : address.file ≡ Some (file_at c.in-Some-file.named) = sym (ap (λ (a : Address). a.file) c.address_of-address.ensures) ∙ search rules in
-    let missed = c.in_err-file.ensures.found g past refl stands.events in
+    let at = goal.at.returns-in_err-file-clause-resolved c in
+    let missed = c.in_err-file.ensures.found c.args.config.now past refl stands.events in
     let out : c.from_residual.result ≡ Err c.in_err-file.field-0.0 = search rules in
-    rw out (λ answered. missing-file g past address answered (file_at c.in-Some-file.named) c.in_err-file.field-0.0 there.0 named missed)
+    rw out (λ answered. missing-file c.args.config.now past (paths.address_of c.args.path.now) answered (file_at c.in-Some-file.named)
+    c.in_err-file.field-0.0 (there at.In-Some past stands).0 (named at.In-Some-file) missed)
 
 pub returns-in-Some-2-clause-resolved : goal.returns-in-Some-2-clause-resolved
 returns-in-Some-2-clause-resolved c = λ past stands.
-    let g = c.args.config.now in
-    let address : Address = paths.address_of c.args.path.now in
-    let name = ap (λ (a : Address). a.instance) c.address_of-address.ensures in
-    let there = found-there g c.args.self.now past _ address c.in-Some.index stands name (sym c.in-Some.ensures) in
-    let named : address.file ≡ Some (file_at c.in-Some-file.named) = sym (ap (λ (a : Address). a.file) c.address_of-address.ensures) ∙ search rules in
+    let at = goal.at.returns-in-Some-2-clause-resolved c in
+    let led = there at.In-Some past stands in
     let some : c.in_ok-file.field-0 ≡ Some c.in-Some-2.file = search rules in
-    let is : IsFound g past c.args.self.now.catalog (file_at c.in-Some-file.named) (Ok (Some c.in-Some-2.file)) =
-    subst (λ (o : Option File). IsFound g past c.args.self.now.catalog (file_at c.in-Some-file.named) (Ok o)) some (c.in_ok-file.ensures.found g past refl stands.events) in
-    (there.0, there.1, named ∙ ap Some is.0, is.1)
+    let is : IsFound c.args.config.now past c.args.self.now.catalog (file_at c.in-Some-file.named) (Ok (Some c.in-Some-2.file)) =
+    rw some at (c.in_ok-file.ensures.found c.args.config.now past refl stands.events) in
+    (led.0, led.1, named at.In-Some-file ∙ ap Some is.0, is.1)
 
 pub returns-in-None-clause-resolved : goal.returns-in-None-clause-resolved
 returns-in-None-clause-resolved c = λ past stands.
-    let g = c.args.config.now in
-    let address : Address = paths.address_of c.args.path.now in
-    let name = ap (λ (a : Address). a.instance) c.address_of-address.ensures in
-    let there = found-there g c.args.self.now past _ address c.in-Some.index stands name (sym c.in-Some.ensures) in
-    let named : address.file ≡ Some (file_at c.in-Some-file.named) = sym (ap (λ (a : Address). a.file) c.address_of-address.ensures) ∙ search rules in
+    let at = goal.at.returns-in-None-clause-resolved c in
     let none : c.in_ok-file.field-0 ≡ None = search rules in
-    let is : IsFound g past c.args.self.now.catalog (file_at c.in-Some-file.named) (Ok None) =
-    subst (λ (o : Option File). IsFound g past c.args.self.now.catalog (file_at c.in-Some-file.named) (Ok o)) none (c.in_ok-file.ensures.found g past refl stands.events) in
-    (there.0, named ∙ ap Some is)
+    let is : IsFound c.args.config.now past c.args.self.now.catalog (file_at c.in-Some-file.named) (Ok None) =
+    rw none at (c.in_ok-file.ensures.found c.args.config.now past refl stands.events) in
+    ((there at.In-Some past stands).0, named at.In-Some-file ∙ ap Some is)
