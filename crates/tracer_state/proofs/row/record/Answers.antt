@@ -1,4 +1,4 @@
-use Rattle.std.proofs.Common.{◌≡◌, ◌++◌, ℤ, List, ℕ, length, replicate, ap, ◌∙◌, to_z, of_z, w32, rules}
+use Rattle.std.proofs.Common.{◌≡◌, ◌++◌, ℤ, length, replicate, ap, ◌∙◌, to_z, of_z, w32, rules}
 use Rattle.std.proofs.lemmas.Int.{to_z-of_z}
 use Rattle.trace_record.specs.Record.{head_bytes, padding}
 use Rattle.trace_format.specs.Cells.{payload_of}
