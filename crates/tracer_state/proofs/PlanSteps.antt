@@ -12,7 +12,7 @@ use Rattle.trace_instance.specs.Instances.{InstanceSeen, IsAlike, IsUsableInstan
 use Rattle.trace_instance.specs.Plans.{plan_of, planned, touched}
 use Rattle.trace_instance.specs.declared.change.Delivery.{Delivery}
 use Rattle.trace_instance.specs.declared.change.InstanceChange.{InstanceChange}
-use Rattle.trace_instance.specs.declared.change.InstanceChange.TheVariants.{Keep, Switch, SwitchAll, SetFilter, SetFilters, ClearFilters, Triggers, SetOverwrite, SetTracing, Clear, ClearCpu, Take, TakeCpu, TakeSnapshot, FreeSpare, ClearSpare}
+use Rattle.trace_instance.specs.declared.change.InstanceChange.TheVariants.{Switch, SwitchAll, SetFilter, SetFilters, ClearFilters, Triggers, SetTracing}
 use Rattle.trace_instance.specs.declared.change.Reach.{Reach}
 use Rattle.trace_instance.specs.declared.change.TriggerChange.{TriggerChange}
 use Rattle.trace_instance.specs.declared.change.TriggerChange.TheVariants as attaching
@@ -93,11 +93,7 @@ other-triggers : (index : ℕ) (append : Bool) (change : TriggerChange) (trigger
     → get_or (triggers_after (Triggers index append change) triggers) event None ≡ get_or triggers event None
 other-triggers index append (attaching.Attach trigger) triggers event other = get_or-set_other triggers index event (Some trigger) None other
 other-triggers index append attaching.Detach triggers event other = get_or-set_other triggers index event None None other
-other-triggers index append attaching.Keep triggers event other = refl
-other-triggers index append (attaching.AttachHist attached) triggers event other = refl
-other-triggers index append (attaching.MakeHist made) triggers event other = refl
-other-triggers index append (attaching.DetachHist at) triggers event other = refl
-other-triggers index append (attaching.AskTable table action) triggers event other = refl
+other-triggers index append change triggers event other = refl
 
 -- an event at none of these indices
 abbrev IsOutside : Touched → ℕ → Type 0
@@ -136,15 +132,7 @@ untouched events (SwitchAll flag) i j event is inside outside = none-outside eve
 untouched events (SetFilters changes) i j event is inside outside = none-outside events event inside outside
 untouched events ClearFilters i j event is inside outside = none-outside events event inside outside
 untouched events (SetTracing flag) i j event is inside outside = none-outside events event inside outside
-untouched events Keep i j event is inside outside = same-settings i j event is.tracing is.enabled is.filters is.triggers is.hists
-untouched events (SetOverwrite flag) i j event is inside outside = same-settings i j event is.tracing is.enabled is.filters is.triggers is.hists
-untouched events Clear i j event is inside outside = same-settings i j event is.tracing is.enabled is.filters is.triggers is.hists
-untouched events (ClearCpu cpu) i j event is inside outside = same-settings i j event is.tracing is.enabled is.filters is.triggers is.hists
-untouched events (Take counts) i j event is inside outside = same-settings i j event is.tracing is.enabled is.filters is.triggers is.hists
-untouched events (TakeCpu cpu limit) i j event is inside outside = same-settings i j event is.tracing is.enabled is.filters is.triggers is.hists
-untouched events TakeSnapshot i j event is inside outside = same-settings i j event is.tracing is.enabled is.filters is.triggers is.hists
-untouched events FreeSpare i j event is inside outside = same-settings i j event is.tracing is.enabled is.filters is.triggers is.hists
-untouched events ClearSpare i j event is inside outside = same-settings i j event is.tracing is.enabled is.filters is.triggers is.hists
+untouched events change i j event is inside outside = same-settings i j event is.tracing is.enabled is.filters is.triggers is.hists
 
 -- ---- the instances of a state
 
@@ -245,19 +233,7 @@ lawful-within : (g : Config) (events : ℕ) (i : InstanceSeen) (change : Instanc
 lawful-within g events i (Switch index flag) usable lawful few = omega (arith, lawful, usable.enabled, few)
 lawful-within g events i (SetFilter index new) usable lawful few = omega (arith, lawful, usable.filters, few)
 lawful-within g events i (Triggers index append change) usable lawful few = omega (arith, lawful.0, usable.triggers, few)
-lawful-within g events i (SwitchAll flag) usable lawful few = omega arith
-lawful-within g events i (SetFilters changes) usable lawful few = omega arith
-lawful-within g events i ClearFilters usable lawful few = omega arith
-lawful-within g events i (SetTracing flag) usable lawful few = omega arith
-lawful-within g events i Keep usable lawful few = omega arith
-lawful-within g events i (SetOverwrite flag) usable lawful few = omega arith
-lawful-within g events i Clear usable lawful few = omega arith
-lawful-within g events i (ClearCpu cpu) usable lawful few = omega arith
-lawful-within g events i (Take counts) usable lawful few = omega arith
-lawful-within g events i (TakeCpu cpu limit) usable lawful few = omega arith
-lawful-within g events i TakeSnapshot usable lawful few = omega arith
-lawful-within g events i FreeSpare usable lawful few = omega arith
-lawful-within g events i ClearSpare usable lawful few = omega arith
+lawful-within g events i change usable lawful few = omega arith
 
 -- a change touches only events that may be declared
 pub touched-within : (g : Config) (state : State) (change : Change) → IsUsable g state → IsReady g state change

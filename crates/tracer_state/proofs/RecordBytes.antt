@@ -1,7 +1,7 @@
 -- The bytes of a record.
 use Rattle.std.proofs.Common.{◌≡◌, ℕ, ℤ, ◌+◌, ◌-◌, ◌≤◌, List, ◌++◌, length, take, drop, replicate, refl, sym, ap, ◌∙◌, subst, arith, append_assoc, drop-drop}
-use Rattle.std.proofs.Math.Seq.{drop-append_seam, take-append_seam}
-use Rattle.std.proofs.lemmas.List.{length-take, length-replicate, drop-replicate}
+use Rattle.std.proofs.Math.Seq.{drop-append_seam}
+use Rattle.std.proofs.lemmas.List.{length-take, drop-replicate}
 use Rattle.trace_record.specs.Record.{head_bytes, padding, record_size}
 use Rattle.trace_format.specs.Cells.{Cells, payload_of}
 use Rattle.trace_history.specs.Emissions.{record_bytes}
@@ -42,7 +42,3 @@ pub record_bytes-is : (timestamp : ℕ) (pid : ℤ) (id size : ℕ) (row : Cells
     ≡ record_bytes timestamp pid id row
 unfolding record_bytes
 record_bytes-is timestamp pid id size row is = rw is refl
-
--- what is written over all of a vector's elements
-pub written : (n : ℕ) (out rest : List ℕ) → length out ≡ n → take n (out ++ rest) ≡ out
-written n out rest is = subst (λ (k : ℕ). take k (out ++ rest) ≡ out) is (take-append_seam out rest)

@@ -77,9 +77,6 @@ few_rows_from_stands g state past done stands short = λ k d inside n attached t
     has_room name past i.tables own ((stands.each k d inside).tables n attached there j a within)
     (hits_within g name own.table past done) short
 
-pub early_from_stands : (g : Config) (state : State) (past : List Request) → StandsFor g state past → length past < most_requests → state.clock < most_requests
-early_from_stands g state past stands short = omega (arith, stands.early, short)
-
 -- ---- a new state
 
 pub stands_new : (g : Config) (state : State) (top : Named) → state.catalog ≡ [] → state.clock ≡ 0 → state.instances.items ≡ top ∷ [] → top.name ≡ None
