@@ -30,8 +30,8 @@ fn is_no(waits: Result<bool, Refusal>) -> bool
 }
 
 impl Mount {
-    // The instance of a file, if it is there.
-    fn instance_of(&self, owner: Owner) -> Option<&Instance>
+    /// The instance of a file, if it is there.
+    pub(crate) fn instance_of(&self, owner: Owner) -> Option<&Instance>
         ensures there { (past : List Request) → IsLive self.now.live.config past self.now.live → owner_is_there self.now.scene owner ≡ true
             → is_some result ≡ exists (owner_name self.now.scene owner) past }
         ensures gone { owner_is_there self.now.scene owner ≡ false → result ≡ None }

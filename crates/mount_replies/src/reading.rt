@@ -114,7 +114,9 @@ impl Mount {
             (given_tool read.handle offset read.size self.old.files (tool_text self.old.live.config past owner file)) read.unique out.new.items }
         ensures capacity { vec_capacity out.old ≤ vec_capacity out.new }
     {
-        match mount_stub_files::text_of(self.alloc, &self.live, &self.scene, owner, file) {
+        let config = self.live.config();
+        let instance = self.instance_of(owner);
+        match mount_stub_files::text_of(self.alloc, config, &self.scene, owner, instance, file) {
             Ok(Some(text)) => self.give_text(read, text, offset, out),
             Ok(None) => tell_error(read.unique, Errno::ENOENT, out),
             Err(_) => tell_error(read.unique, Errno::ENOMEM, out),

@@ -1,13 +1,12 @@
 //! What is read.
 
-ghost use Rattle.std.specs.Prelude.{◌≡◌, ◌++◌, List, ℕ, true, false, IfOk, OnOk};
+ghost use Rattle.std.specs.Prelude.{◌≡◌, ◌++◌, List, Option, ℕ, is_some, true, false, IfOk, IfSome, OnOk};
 ghost use Rattle.std.specs.Fmt.{decimal};
-ghost use Rattle.std.specs.Option.{option_map};
 ghost use Rattle.trace_command.specs.Requests.{Request};
-ghost use Rattle.tracer_without_history.specs.Lives.{IsLive};
-ghost use Rattle.trace_command.specs.FileNames.{bytes_now};
+ghost use Rattle.trace_history.specs.Settings.{is_there};
+ghost use Rattle.trace_instance.specs.Instances.{InstanceStandsFor};
 ghost use Rattle.mount_tree.specs.Children.{owner_is_there};
-ghost use Rattle.mount_tree.specs.NodePaths.{owner_name as name_of};
+ghost use Rattle.mount_tree.specs.NodePaths.{owner_name};
 ghost use Rattle.mount_tree.specs.ScenesAfter.{scene_after};
 ghost use Rattle.mount_stub_files.specs.ToolTexts as texts;
 ghost use Rattle.mount_stub_files.specs.private.Flags.{flagged_line, flagged_lines};
@@ -16,9 +15,9 @@ use crate::config::{cpu_mask, ring_kilobytes, total_kilobytes};
 use itoa::Buffer;
 use mount_tree::{Event, File, Node, Owner, Scene, ToolFile, TopTool};
 use std::alloc::{AllocError, Global};
+use trace_command::Config;
 use trace_instance::Instance;
 use trace_lex::Text;
-use tracer_without_history::Live;
 
 /// What `README` shows.
 const README: &str = "\
@@ -117,44 +116,21 @@ fn enabled_events(alloc: Global, scene: &Scene, instance: &Instance) -> Result<T
     Ok(Text::from(out))
 }
 
-/// The name of an instance; `None` for the top one.
-fn owner_name(scene: &Scene, owner: Owner) -> Option<&[u8]>
-    ensures { option_map bytes_now result ≡ name_of scene.now owner }
-{
-    match owner {
-        Owner::Top => None,
-        Owner::Made(serial) => scene.instance_name(serial),
-    }
-}
-
-// What `set_event` shows of an instance that is there.
-fn set_event(alloc: Global, live: &Live, scene: &Scene, owner: Owner) -> Result<Text, AllocError>
-    ensures { (past : List Request) → IsLive live.now.config past live.now → scene.now ≡ scene_after live.now.config.cpus past
-        → owner_is_there scene.now owner ≡ true → IfOk result (λ text. text ≡ texts.enabled_lines (name_of scene.now owner) past) }
-{
-    match live.instance(owner_name(scene, owner)) {
-        Some(instance) => enabled_events(alloc, scene, instance),
-        None => Ok(Text::new(alloc)),
-    }
-}
-
 // What a file of an instance shows that is there.
 #[tactic(auto, unfolding(crate::specs::ToolTexts::cpu_mask))]
 fn tool_file_text(
     alloc: Global,
-    live: &Live,
+    config: &Config,
     scene: &Scene,
-    owner: Owner,
+    instance: &Instance,
     file: ToolFile,
 ) -> Result<Text, AllocError>
-    ensures { (past : List Request) → IsLive live.now.config past live.now → scene.now ≡ scene_after live.now.config.cpus past
-        → owner_is_there scene.now owner ≡ true
-        → IfOk result (λ text. text ≡ texts.tool_file_text live.now.config (name_of scene.now owner) past file) }
+    ensures { (name : Option (List ℕ)) (past : List Request) → scene.now ≡ scene_after config.now.cpus past
+        → InstanceStandsFor config.now name past instance.now → IfOk result (λ text. text ≡ texts.tool_file_text config.now name past file) }
 {
-    let config = live.config();
     match file {
         ToolFile::AvailableTracers | ToolFile::CurrentTracer => line(alloc, b"nop".as_slice()),
-        ToolFile::SetEvent => set_event(alloc, live, scene, owner),
+        ToolFile::SetEvent => enabled_events(alloc, scene, instance),
         ToolFile::TraceClock => line(alloc, b"[counter]".as_slice()),
         ToolFile::TimestampMode => line(alloc, b"[delta] absolute".as_slice()),
         ToolFile::BufferSizeKb => number_line(alloc, ring_kilobytes(config)),
@@ -179,37 +155,42 @@ fn top_tool_text(alloc: Global, scene: &Scene, file: TopTool) -> Result<Text, Al
 // What a file of an instance that is there shows, if it is one of these files.
 fn text_there(
     alloc: Global,
-    live: &Live,
+    config: &Config,
     scene: &Scene,
-    owner: Owner,
+    instance: &Instance,
     file: File,
 ) -> Result<Option<Text>, AllocError>
-    ensures { (past : List Request) → IsLive live.now.config past live.now → scene.now ≡ scene_after live.now.config.cpus past
-        → owner_is_there scene.now owner ≡ true
-        → IfOk result (λ text. text ≡ texts.text_there live.now.config (name_of scene.now owner) past file) }
+    ensures { (name : Option (List ℕ)) (past : List Request) → scene.now ≡ scene_after config.now.cpus past
+        → InstanceStandsFor config.now name past instance.now → IfOk result (λ text. text ≡ texts.text_there config.now name past file) }
 {
     match file {
-        File::Tool(file) => Ok(Some(tool_file_text(alloc, live, scene, owner, file)?)),
+        File::Tool(file) => Ok(Some(tool_file_text(alloc, config, scene, instance, file)?)),
         File::OfTop(file) => Ok(Some(top_tool_text(alloc, scene, file)?)),
-        File::CpuSize(_) => Ok(Some(number_line(alloc, ring_kilobytes(live.config()))?)),
+        File::CpuSize(_) => Ok(Some(number_line(alloc, ring_kilobytes(config))?)),
         File::EventId(event) => Ok(Some(number_line(alloc, u64::from(event) + 1)?)),
         _ => Ok(None),
     }
 }
 
-/// What a file of an instance shows; `None`, if it is none of these files or is not there.
+/// What a file of an instance shows; `None`, if it is none of these or is not there. The instance is given if it is there.
 pub fn text_of(
     alloc: Global,
-    live: &Live,
+    config: &Config,
     scene: &Scene,
     owner: Owner,
+    instance: Option<&Instance>,
     file: File,
 ) -> Result<Option<Text>, AllocError>
-    ensures { (past : List Request) → IsLive live.now.config past live.now → scene.now ≡ scene_after live.now.config.cpus past
-        → IfOk result (λ text. text ≡ texts.tool_text live.now.config past owner file) }
+    ensures { (past : List Request) → scene.now ≡ scene_after config.now.cpus past
+        → (owner_is_there scene.now owner ≡ true → is_some instance.entry ≡ is_there (owner_name scene.now owner) past)
+        → IfSome instance.entry (λ kept. InstanceStandsFor config.now (owner_name scene.now owner) past kept.now)
+        → IfOk result (λ text. text ≡ texts.tool_text config.now past owner file) }
 {
     if scene.exists(Node::File(owner, file)) {
-        text_there(alloc, live, scene, owner, file)
+        match instance {
+            Some(instance) => text_there(alloc, config, scene, instance, file),
+            None => Ok(None),
+        }
     } else {
         Ok(None)
     }
