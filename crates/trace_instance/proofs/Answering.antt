@@ -1,8 +1,7 @@
 -- What a text that is written to an event's trigger file answers, and that the change made of it is the one that the definitions say.
-use Rattle.std.proofs.Common.{◌≡◌, ℕ, ◌+◌, ◌<◌, ◌≤◌, nat_lt, Bool, true, false, not, ◌||◌, if◌then◌else◌, List, [], ◌∷◌, length, is_some, Option, None, Some, Result, Ok, Err, refl, sym, ap, ◌∙◌, subst, arith, lt-ltb, ltb-true}
-use Rattle.std.specs.List.{list_any, position}
-use Rattle.std.proofs.lemmas.List.{length-map}
-use Rattle.std.proofs.lemmas.Option.{none-some}
+use Rattle.std.proofs.Common.{◌≡◌, ℕ, ◌+◌, ◌<◌, ◌≤◌, nat_lt, Bool, true, false, not, ◌||◌, if◌then◌else◌, List, [], ◌∷◌, length, All, IfSome, is_some, option_map, Option, None, Some, Result, Ok, Err, refl, sym, ap, ◌∙◌, subst, arith, lt-ltb, ltb-true}
+use Rattle.std.specs.List.{find, list_any}
+use Rattle.std.proofs.lemmas.List.{get_or-map, length-map}
 use Rattle.trace_format.specs.Definitions.{Definition}
 use Rattle.trace_trigger.specs.HistSpecs.{SpecSeen}
 use Rattle.trace_trigger.specs.declared.spec.Action.{Action}
@@ -24,12 +23,16 @@ use Rattle.trace_history.specs.History.{asked_answer, fitting_answer, hist_answe
 use Rattle.trace_history.specs.HistTriggers.{HistTrigger, fits_that, has_same, hist_triggers, hists_of, hists_said, named_by}
 use Rattle.trace_history.specs.Triggers as triggers
 use Rattle.trace_history.specs.Triggers.{trigger_of}
+use Rattle.trace_history.proofs.HistTriggers.{hist_triggers_are_in_order}
 use Rattle.trace_history.proofs.Members.{IsIn}
-use Rattle.trace_instance.specs.private.Attaching.{AreKept, IsAttached, IsChangeOf, kept_count}
+use Rattle.trace_history.proofs.Triggered.{number-before}
+use Rattle.trace_instance.specs.private.Attaching.{AreKept, IsAttached, IsChangeOf, kept_count, same_left}
 use Rattle.trace_instance.specs.Instances as instances
-use Rattle.trace_instance.specs.Instances.{TablesFit}
+use Rattle.trace_instance.specs.Changes.{IsNewest}
+use Rattle.trace_instance.specs.Instances.{TablesFit, kept_trigger}
 use Rattle.trace_instance.specs.KeptHists.{attached_as, kept_hists, says_same}
 use Rattle.trace_instance.specs.declared.attach.EventTriggers.{EventTriggers}
+use Rattle.trace_instance.specs.declared.hists.AttachedHist.{AttachedHist}
 use Rattle.trace_instance.specs.declared.change.TriggerChange.TheVariants.{Keep, Attach, Detach}
 use Rattle.trace_instance.specs.declared.trigger.Trigger.{Trigger}
 use Rattle.trace_instance.specs.declared.write.WrittenText.{WrittenText}
@@ -37,38 +40,33 @@ use Rattle.trace_instance.proofs.Attached.{IsNamed, all-are, all_left, hists-sta
 use Rattle.trace_history.proofs.NamedTables.{fit-fewer}
 use Rattle.trace_instance.proofs.FittingTables.{fit-tables, left-fit}
 use Rattle.trace_instance.proofs.EachEvent.{any-map}
-use Rattle.trace_instance.proofs.OneSays.{IsOnlyOne, found-only, some-position}
+use Rattle.trace_instance.proofs.OneSays.{some-found}
 use Rattle.trace_instance.proofs.Snapshotting.{none-is, refused, some-mapped, there-is}
 
 -- ---- what the requests say of what is kept
 
 has-snapshot : (name : Option (List ℕ)) (past : List Request) (event : Definition) (kept : EventTriggers) → AreKept name past event kept
-    → is_some (trigger_of name event past) ≡ is_some kept.own.now.trigger
+    → is_some (trigger_of name event past) ≡ is_some kept.own.now.triggers.snapshot
 has-snapshot name past event kept are =
     sym (some-mapped (instances.kept_as past event) (trigger_of name event past)) ∙ ap is_some (sym are.snapshot)
 
 pub has-same : (name : Option (List ℕ)) (past : List Request) (event : Definition) (kept : EventTriggers) (spec : SpecSeen) → AreKept name past event kept
-    → has_same spec (hists_of name event past) ≡ list_any (says_same spec) kept.own.now.hists
+    → has_same spec (hists_of name event past) ≡ list_any (says_same spec) kept.own.now.triggers.hists
 has-same name past event kept spec are =
     sym (any-map (says_same spec) attached_as (hists_of name event past)) ∙ ap (list_any (says_same spec)) (sym are.hists)
 
--- the index of the one that says the same, of those that `>` or `>>` leaves
-abbrev pub same_left : SpecSeen → EventTriggers → Bool → Option ℕ
-same_left spec kept append = if append then position (says_same spec) kept.own.now.hists else None
-
 pub has-same_left : (name : Option (List ℕ)) (past : List Request) (event : Definition) (kept : EventTriggers) (spec : SpecSeen) (append : Bool)
     → AreKept name past event kept → has_same spec (own_left name past event append) ≡ is_some (same_left spec kept append)
-has-same_left name past event kept spec true are = has-same name past event kept spec are ∙ sym (some-position (says_same spec) kept.own.now.hists)
+has-same_left name past event kept spec true are = has-same name past event kept spec are ∙ sym (some-found (says_same spec) kept.own.now.triggers.hists)
 has-same_left name past event kept spec false are = refl
 
--- and it is the only one
-pub only-left : (name : Option (List ℕ)) (past : List Request) (event : Definition) (kept : EventTriggers) (spec : SpecSeen) (index : ℕ) (append : Bool)
-    → AreKept name past event kept → same_left spec kept append ≡ Some index → IsOnlyOne spec (if append then kept_hists name past event else []) index
-only-left name past event kept spec index true are found = found-only name past event spec kept.own.now.hists index are.hists found
-only-left name past event kept spec index false are found = absurd (none-some index found)
+pub found-left : (name : Option (List ℕ)) (past : List Request) (event : Definition) (kept : EventTriggers) (spec : SpecSeen) (a : AttachedHist) (append : Bool)
+    → AreKept name past event kept → same_left spec kept append ≡ Some a → find (says_same spec) (if append then kept_hists name past event else []) ≡ Some a
+found-left name past event kept spec a true are found = ap (find (says_same spec)) (sym are.hists) ∙ found
+found-left name past event kept spec a false are found = found
 
 many-left : (name : Option (List ℕ)) (past : List Request) (event : Definition) (kept : EventTriggers) (append : Bool) → AreKept name past event kept
-    → length (own_left name past event append) ≡ (if append then length kept.own.now.hists else 0)
+    → length (own_left name past event append) ≡ (if append then length kept.own.now.triggers.hists else 0)
 many-left name past event kept true are =
     sym (length-map (hists_of name event past) attached_as) ∙ ap length (sym are.hists)
 many-left name past event kept false are = refl
@@ -82,6 +80,31 @@ count-left name past event kept append are =
         ≡ length (own_left name past event append) + (if is_some o then 1 else 0)
     by None = omega arith
     by (Some t) = refl
+
+-- a trigger that is attached where there is room is the newest
+pub newest-left : (name : Option (List ℕ)) (past : List Request) (event : Definition) (kept : EventTriggers) (append : Bool) → AreKept name past event kept
+    → kept_count kept append < 4 → IsNewest (length past) (kept_trigger name past event) (if append then kept_hists name past event else [])
+newest-left name past event kept append are few = record {
+  few = few_of append few;
+  after_snapshot = by (trigger_of name event past) refl;
+  after_hists = all append;
+}
+  where
+    few_of : (b : Bool) → kept_count kept b < 4
+        → length (if b then kept_hists name past event else []) + (if is_some (kept_trigger name past event) then 1 else 0) < 4
+    few_of true few = rw (← are.snapshot, ← are.hists) few
+    few_of false few = rw (← are.snapshot) few
+
+    by : (o : Option triggers.Trigger) → trigger_of name event past ≡ o → IfSome (option_map (instances.kept_as past event) o) (λ t. t.number < length past)
+    by None is = tt
+    by (Some t) is = number-before name event past t is
+
+    all : (b : Bool) → All (λ (a : AttachedHist). a.number < length past) (if b then kept_hists name past event else [])
+    all true = λ k d within.
+        let t : HistTrigger = record { event = event; number = d.number; spec = d.spec; table = d.table } in
+        let inside : k < length (hists_of name event past) = omega (arith, within, length-map (hists_of name event past) attached_as) in
+        rw (get_or-map attached_as (hists_of name event past) k t d inside) ((hist_triggers_are_in_order name event past).1 k t inside)
+    all false = λ k d within. absurd (omega (arith, within))
 
 -- ---- answers
 
@@ -205,14 +228,14 @@ text-nothing event kept written is = λ name past number are. (
 -- ---- triggers for snapshots
 
 some-snapshot : (name : Option (List ℕ)) (past : List Request) (event : Definition) (kept : EventTriggers) → AreKept name past event kept
-    → is_some kept.own.now.trigger ≡ true → (t : triggers.Trigger) × (trigger_of name event past ≡ Some t)
+    → is_some kept.own.now.triggers.snapshot ≡ true → (t : triggers.Trigger) × (trigger_of name event past ≡ Some t)
 some-snapshot name past event kept are some = there-is (trigger_of name event past) (has-snapshot name past event kept are ∙ some)
 
 no-snapshot : (name : Option (List ℕ)) (past : List Request) (event : Definition) (kept : EventTriggers) → AreKept name past event kept
-    → is_some kept.own.now.trigger ≡ false → trigger_of name event past ≡ None
+    → is_some kept.own.now.triggers.snapshot ≡ false → trigger_of name event past ≡ None
 no-snapshot name past event kept are none = none-is (trigger_of name event past) (has-snapshot name past event kept are ∙ none)
 
-pub attach-exists : (trigger : SnapshotTrigger) (kept : EventTriggers) (written : WrittenText) → is_some kept.own.now.trigger ≡ true
+pub attach-exists : (trigger : SnapshotTrigger) (kept : EventTriggers) (written : WrittenText) → is_some kept.own.now.triggers.snapshot ≡ true
     → IsAttached trigger kept written (Err refusal.TriggerExists)
 attach-exists trigger kept written some = λ event name past number are is.
     let there = some-snapshot name past event kept are some in
@@ -221,7 +244,7 @@ attach-exists trigger kept written some = λ event name past number are is.
     ∙ ap (λ (o : Option triggers.Trigger). said_answer written.append o (own_left name past event written.append) (all_left name past event written.append) (Ok (said.Attach trigger))) there.1)
 
 attach-answer : (trigger : SnapshotTrigger) (kept : EventTriggers) (written : WrittenText) (event : Definition) (name : Option (List ℕ)) (past : List Request)
-    → AreKept name past event kept → is_some kept.own.now.trigger ≡ false → said_of event written.text.now ≡ Ok (said.Attach trigger)
+    → AreKept name past event kept → is_some kept.own.now.triggers.snapshot ≡ false → said_of event written.text.now ≡ Ok (said.Attach trigger)
     → trigger_answer name past written.append written.text.now event ≡ room_answer (trigger_of name event past) (own_left name past event written.append)
 attach-answer trigger kept written event name past are none is =
     let gone = no-snapshot name past event kept are none in
@@ -229,7 +252,7 @@ attach-answer trigger kept written event name past are none is =
     ∙ ap (λ (o : Option triggers.Trigger). said_answer written.append o (own_left name past event written.append) (all_left name past event written.append) (Ok (said.Attach trigger))) gone
     ∙ ap (λ (o : Option triggers.Trigger). room_answer o (own_left name past event written.append)) (sym gone)
 
-pub attach-full : (trigger : SnapshotTrigger) (kept : EventTriggers) (written : WrittenText) → is_some kept.own.now.trigger ≡ false
+pub attach-full : (trigger : SnapshotTrigger) (kept : EventTriggers) (written : WrittenText) → is_some kept.own.now.triggers.snapshot ≡ false
     → 4 ≤ kept_count kept written.append → IsAttached trigger kept written (Err refusal.TooMany)
 attach-full trigger kept written none many = λ event name past number are is.
     let full : 4 ≤ trigger_count (trigger_of name event past) (own_left name past event written.append) =
@@ -238,7 +261,7 @@ attach-full trigger kept written none many = λ event name past number are is.
     (attach-answer trigger kept written event name past are none is
     ∙ room-full (trigger_of name event past) (own_left name past event written.append) full)
 
-pub attach-done : (trigger : SnapshotTrigger) (kept : EventTriggers) (written : WrittenText) → is_some kept.own.now.trigger ≡ false
+pub attach-done : (trigger : SnapshotTrigger) (kept : EventTriggers) (written : WrittenText) → is_some kept.own.now.triggers.snapshot ≡ false
     → kept_count kept written.append < 4
     → IsAttached trigger kept written (Ok (Attach (record { number = written.number; left = trigger.count; filter = trigger.filter })))
 attach-done trigger kept written none few = λ event name past number are is.
@@ -250,7 +273,10 @@ attach-done trigger kept written none few = λ event name past number are is.
         snapshot = snapshot-attached name past event written.append written.text.now trigger is
             ∙ ap (λ (n : ℕ). (let t : Option Trigger = Some (record { number = n; left = trigger.count; filter = trigger.filter }) in t)) number;
         hists = hists-stay name past event are.id written.append written.text.now are.named (Ok (said.Attach trigger)) is refl;
-        possible = tt;
+        possible = (
+          sym are.snapshot ∙ none-is kept.own.now.triggers.snapshot none,
+          rw (← number) (newest-left name past event kept written.append are few),
+        );
         tables = λ table. tables-stay name past event are.id written.append written.text.now are.named (Ok (said.Attach trigger)) table is refl;
         joined = tt;
         fitting = fit-stays name past event are.id written.append written.text.now (Ok (said.Attach trigger)) are.named is refl;
@@ -259,7 +285,7 @@ attach-done trigger kept written none few = λ event name past number are is.
     )
 
 pub text-detaches : (event : Definition) (kept : EventTriggers) (written : WrittenText) → said_of event written.text.now ≡ Ok said.Remove
-    → is_some kept.own.now.trigger ≡ true → IsChangeOf event kept written (Ok Detach)
+    → is_some kept.own.now.triggers.snapshot ≡ true → IsChangeOf event kept written (Ok Detach)
 text-detaches event kept written is some = λ name past number are.
     let there = some-snapshot name past event kept are some in (
       answered name past event written.append written.text.now (Ok said.Remove) is
@@ -276,7 +302,7 @@ text-detaches event kept written is some = λ name past number are.
     )
 
 pub text-lacks : (event : Definition) (kept : EventTriggers) (written : WrittenText) → said_of event written.text.now ≡ Ok said.Remove
-    → is_some kept.own.now.trigger ≡ false → IsChangeOf event kept written (Err refusal.NoSuchTrigger)
+    → is_some kept.own.now.triggers.snapshot ≡ false → IsChangeOf event kept written (Err refusal.NoSuchTrigger)
 text-lacks event kept written is none = λ name past number are.
     refused refusal.NoSuchTrigger (trigger_answer name past written.append written.text.now event)
     (answered name past event written.append written.text.now (Ok said.Remove) is

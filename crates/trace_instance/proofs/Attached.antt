@@ -1,12 +1,12 @@
 -- What a trigger text changes of an event's triggers, and what it asks of tables.
-use Rattle.std.proofs.Common.{◌≡◌, ℕ, ◌==◌, Bool, true, false, not, ◌&&◌, ◌||◌, if◌then◌else◌, unwrap_or, List, [], ◌∷◌, ◌++◌, length, map, filter, bytes_eq, get_or, Option, None, Some, option_map, Result, Ok, refl, ap, ◌∙◌, append-nil}
-use Rattle.std.specs.List.{list_any}
+use Rattle.std.proofs.Common.{◌≡◌, ℕ, ◌==◌, Bool, true, false, not, ◌&&◌, ◌||◌, if◌then◌else◌, unwrap_or, List, [], ◌∷◌, ◌++◌, length, map, filter, bytes_eq, Option, None, Some, option_map, Result, Ok, refl, ap, ◌∙◌, append-nil, arith}
+use Rattle.std.specs.List.{AllPairs, find, list_any}
 use Rattle.std.proofs.lemmas.Slice.Eq.{bytes_eq-Decides}
 use Rattle.std.proofs.lemmas.List.{map-append}
 use Rattle.hist_entries.specs.Hits.{Hit}
 use Rattle.trace_format.specs.Definitions.{Definition}
 use Rattle.trace_trigger.specs.HistSpecs.{SpecSeen}
-use Rattle.trace_trigger.specs.SameSpecs.{is_same}
+use Rattle.trace_trigger.specs.SameSpecs.{IsSame, is_same}
 use Rattle.trace_trigger.specs.declared.spec.Action.{Action}
 use Rattle.trace_trigger.specs.TriggerTexts.{said_of}
 use Rattle.trace_trigger.specs.declared.fault.TriggerFault.{TriggerFault}
@@ -21,19 +21,20 @@ use Rattle.trace_history.specs.Settings.{event_named}
 use Rattle.trace_history.specs.Triggers as triggers
 use Rattle.trace_history.specs.Triggers.{trigger_of, written_trigger}
 use Rattle.trace_history.proofs.EventHists.{hists_of-after, own_after, own_said}
-use Rattle.trace_history.proofs.HistTriggers.{same-back}
+use Rattle.trace_history.proofs.HistTriggers.{hist_triggers_differ, same-itself}
 use Rattle.trace_history.proofs.OwnFiles.{OwnWritten, as_written, own-declared, own_written, trigger_after, trigger_of-after}
 use Rattle.trace_history.proofs.TableSteps.{nothing-counted}
 use Rattle.trace_history.proofs.Triggered.{number-before, times_left-attached, times_left-same}
 use Rattle.trace_instance.specs.Changes.{IsAsked}
 use Rattle.trace_instance.specs.Instances.{kept_trigger}
 use Rattle.trace_instance.specs.Instances as instances
-use Rattle.trace_instance.specs.KeptHists.{attached_as, kept_hists}
+use Rattle.trace_instance.specs.KeptHists as kept
+use Rattle.trace_instance.specs.KeptHists.{attached_as, kept_hists, without_same}
 use Rattle.trace_instance.specs.declared.hists.AttachedHist.{AttachedHist}
 use Rattle.trace_instance.specs.declared.trigger.Trigger.{Trigger}
 use Rattle.trace_instance.proofs.Calm.{kept-as_left}
 use Rattle.trace_instance.proofs.Effects.{same_instance}
-use Rattle.trace_instance.proofs.OneSays.{IsOnlyOne, one-speaks, or-none, speaks_for, without_same}
+use Rattle.trace_instance.proofs.OneSays.{one-speaks, or-none, speaks_for}
 
 -- the request that writes a text to an event's trigger file
 abbrev pub text_request : Option (List ℕ) → Definition → Bool → List ℕ → Request
@@ -91,10 +92,6 @@ any-speaks : (spec : SpecSeen) (number : ℕ) (hists : List HistTrigger)
     → list_any (speaks_of spec number) hists ≡ list_any (speaks_for spec number) (map attached_as hists)
 any-speaks spec number [] = refl
 any-speaks spec number (t ∷ hists) = ap (λ (b : Bool). (is_same spec t.spec && (t.table == number)) || b) (any-speaks spec number hists)
-
--- a text says the same as itself
-same-itself : (spec : SpecSeen) → is_same spec spec ≡ true
-same-itself spec = same-back spec spec (record { name = refl; keys = refl; values = refl; sort = refl; filter = refl })
 
 new-speaks : (spec : SpecSeen) (number : ℕ) (new : HistTrigger) (hists : List HistTrigger) → new.spec ≡ spec → has_same spec hists ≡ false
     → list_any (speaks_of spec number) (hists ++ new ∷ []) ≡ (new.table == number)
@@ -224,20 +221,23 @@ module _ (name : Option (List ℕ)) (past : List Request) (event : Definition) (
   tables-stay r number is none = asked-table name past event append text None number (asked-by r number is ∙ none)
 
   -- the table of the one that says the same is asked
-  pub tables-asked : (spec : SpecSeen) (index : ℕ) (d : AttachedHist) (number : ℕ) → said_of event text ≡ Ok (said.Hist spec)
-      → has_same spec (own_left name past event append) ≡ true → IsOnlyOne spec (if append then kept_hists name past event else []) index
-      → IsAsked name past request_for
-      (if (get_or (if append then kept_hists name past event else []) index d).table == number then Some spec.action else None) number
-  tables-asked spec index d number is same only =
+  pub tables-asked : (spec : SpecSeen) (a : AttachedHist) (number : ℕ) → said_of event text ≡ Ok (said.Hist spec)
+      → has_same spec (own_left name past event append) ≡ true → find (kept.says_same spec) (if append then kept_hists name past event else []) ≡ Some a
+      → IsAsked name past request_for (if a.table == number then Some spec.action else None) number
+  tables-asked spec a number is same found =
       let r : Result TriggerText TriggerFault = Ok (said.Hist spec) in
-      let kept : List AttachedHist = if append then kept_hists name past event else [] in
       let left : List HistTrigger = own_left name past event append in
-      let speaks : list_any (speaks_of spec number) left ≡ ((get_or kept index d).table == number) =
-      any-speaks spec number left ∙ ap (list_any (speaks_for spec number)) (left-kept name past event append) ∙ one-speaks spec number kept index d only in
-      asked-table name past event append text (if (get_or kept index d).table == number then Some spec.action else None) number
+      let speaks : list_any (speaks_of spec number) left ≡ (a.table == number) =
+      any-speaks spec number left
+      ∙ one-speaks spec number left a (left-differ append) (ap (find (kept.says_same spec)) (left-kept name past event append) ∙ found) in
+      asked-table name past event append text (if a.table == number then Some spec.action else None) number
       (asked-by r number is
       ∙ ap (λ (hists : List HistTrigger). asked_of number hists r) (then-same name past event append spec same)
       ∙ ap (λ (b : Bool). (let a : Option Action = if b then Some spec.action else None in a)) speaks)
+    where
+      left-differ : (b : Bool) → AllPairs (λ (t u : HistTrigger). IsSame t.spec u.spec → ⊥) (own_left name past event b)
+      left-differ true = hist_triggers_differ name event past
+      left-differ false = λ j k d less within. absurd (omega (arith, within))
 
   -- the table of the one that the text attaches is asked
   pub tables-attached : (spec : SpecSeen) (number : ℕ) → said_of event text ≡ Ok (said.Hist spec)

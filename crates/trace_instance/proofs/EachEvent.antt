@@ -10,6 +10,7 @@ use Rattle.trace_instance.specs.Changes.{changed_filter, changed_filters}
 use Rattle.trace_instance.specs.Deliveries.{counted_down}
 use Rattle.trace_instance.specs.Instances.{InstanceSeen}
 use Rattle.trace_instance.specs.private.EventLists.{all_enabled, all_filters, all_hists, all_triggers, with_filters}
+use Rattle.trace_instance.specs.private.TriggerLists.{TriggersSeen}
 use Rattle.trace_instance.specs.declared.change.FilterChange.{FilterChange}
 use Rattle.trace_instance.specs.declared.event.InstanceEvent.{InstanceEvent}
 use Rattle.trace_instance.specs.declared.instance.Instance.TheInside.{Inside}
@@ -43,14 +44,14 @@ read f events at one d is inside = ap f is ∙ sym (get_or-map f events at one d
 pub inside_of : (value : InstanceSeen) (old : Inside) (at : ℕ) → view_of old ≡ value → at < length value.hists → at < length old.events.items
 inside_of value old at view within =
     let many = ap (λ (v : InstanceSeen). length v.hists) view in
-    omega (arith, many, within, length-map old.events.items (λ (e : InstanceEvent). e.hists))
+    omega (arith, many, within, length-map old.events.items (λ (e : InstanceEvent). e.triggers.hists))
 
 pub hists_in : (value : InstanceSeen) (old : Inside) (at : ℕ) (one : InstanceEvent) → view_of old ≡ value → at < length value.hists
-    → one ≡ get_or old.events.items at one → one.hists ≡ get_or (all_hists old.events.items) at []
-hists_in value old at one view within is = read (λ (e : InstanceEvent). e.hists) old.events.items at one [] is (inside_of value old at view within)
+    → one ≡ get_or old.events.items at one → one.triggers.hists ≡ get_or (all_hists old.events.items) at []
+hists_in value old at one view within is = read (λ (e : InstanceEvent). e.triggers.hists) old.events.items at one [] is (inside_of value old at view within)
 
 pub hists_at : (value : InstanceSeen) (old : Inside) (at : ℕ) (one : InstanceEvent) → view_of old ≡ value → at < length value.hists
-    → one ≡ get_or old.events.items at one → one.hists ≡ get_or value.hists at []
+    → one ≡ get_or old.events.items at one → one.triggers.hists ≡ get_or value.hists at []
 hists_at value old at one view within is = hists_in value old at one view within is ∙ ap (λ (v : InstanceSeen). get_or v.hists at []) view
 
 -- what a write leaves of it
@@ -59,17 +60,17 @@ pub still : {A : Type 0} (f : InstanceEvent → A) (events : List InstanceEvent)
 still f events at old new is same = map-set_same f events at new old (same ∙ ap f is)
 
 -- its trigger has acted
-pub counted : (value : InstanceSeen) (old : Inside) (at : ℕ) (one new : InstanceEvent) → view_of old ≡ value → at < length value.triggers
-    → one ≡ get_or old.events.items at one → new ≡ record one { trigger = counted_down one.trigger }
-    → all_triggers (set old.events.items at new)
+pub counted : (value : InstanceSeen) (old : Inside) (at : ℕ) (one : InstanceEvent) (new : TriggersSeen) → view_of old ≡ value → at < length value.triggers
+    → one ≡ get_or old.events.items at one → new.snapshot ≡ counted_down one.triggers.snapshot
+    → all_triggers (set old.events.items at (record one { triggers = new }))
     ≡ set (all_triggers old.events.items) at (counted_down (get_or (all_triggers old.events.items) at None))
 counted value old at one new view within is after =
     let events = old.events.items in
-    let trigger : InstanceEvent → Option Trigger = λ e. e.trigger in
+    let snapshot : InstanceEvent → Option Trigger = λ e. e.triggers.snapshot in
     let many = ap (λ (v : InstanceSeen). length v.triggers) view in
-    let inside : at < length events = omega (arith, many, within, length-map events trigger) in
-    map-set trigger events at new ∙ ap (λ (e : InstanceEvent). set (all_triggers events) at e.trigger) after
-    ∙ ap (λ (t : Option Trigger). set (all_triggers events) at (counted_down t)) (read trigger events at one None is inside)
+    let inside : at < length events = omega (arith, many, within, length-map events snapshot) in
+    map-set snapshot events at (record one { triggers = new }) ∙ ap (set (all_triggers events) at) after
+    ∙ ap (λ (t : Option Trigger). set (all_triggers events) at (counted_down t)) (read snapshot events at one None is inside)
 
 -- ---- each event
 

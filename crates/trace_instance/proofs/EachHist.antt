@@ -1,5 +1,5 @@
 -- Hist triggers that an emission reaches one after the other: what a loop over those of its event keeps of their tables.
-use Rattle.std.proofs.Common.{◌≡◌, ◌≢◌, ℕ, zero, suc, ◌+◌, ◌<◌, ◌≤◌, ◌==◌, Bool, true, false, ◌&&◌, if◌then◌else◌, List, [], ◌∷◌, ◌++◌, length, map, take, get_or, IfSome, Option, None, Some, option_map, ⊎_elim, refl, sym, ap, ◌∙◌, subst, arith, below_more, eq-eqb, append-nil}
+use Rattle.std.proofs.Common.{◌≡◌, ◌≢◌, ℕ, zero, suc, ◌+◌, ◌<◌, ◌≤◌, ◌==◌, Bool, true, false, ◌&&◌, if◌then◌else◌, List, [], ◌∷◌, ◌++◌, length, map, take, get_or, set, IfSome, Option, None, Some, option_map, ⊎_elim, refl, sym, ap, ◌∙◌, subst, arith, below_more, eq-eqb, append-nil}
 use Rattle.std.specs.List.{flat_map, Any}
 use Rattle.std.proofs.lemmas.Bool.{and_right, cases_eq, false≢true, ne_eqb}
 use Rattle.std.proofs.lemmas.List.{append_assoc, get_or_default}
@@ -12,18 +12,12 @@ use Rattle.hist_entries.specs.Hits.{Hit, key_cell}
 use Rattle.trace_hist.specs.TriggerHits.{hit_of}
 use Rattle.hist_entries.specs.HistEntries.{Entry}
 use Rattle.hist_entries.specs.RowPlaces.{Place, Unknown, In, Nowhere, IsPlaceOf, most_rows}
-use Rattle.trace_hist.specs.Hists.{IsCountedFor, IsReservedAs, Seen, StandsFor, counted}
+use Rattle.trace_hist.specs.Hists.{HasRoom, IsCountedFor, IsReservedAs, Seen, StandsFor, counted}
 use Rattle.trace_trigger.specs.SameSpecs.{is_passed}
 use Rattle.trace_instance.specs.KeptHists.{CanCount, IsHit, IsHitIf, KeptTable, KeysAgree, NeedsMemory, NeedsMemoryIn, is_passed_at, kept_at, kept_table, passed, row_counted, rows_counted, table_numbered}
 use Rattle.trace_instance.specs.private.Tables.{IsCounted}
 use Rattle.trace_instance.specs.declared.hists.AttachedHist.{AttachedHist}
 use Rattle.trace_instance.specs.declared.tables.Table.{Table}
-
--- the one at an index
-pub element : (hists : List AttachedHist) (i : ℕ) → i < length hists → (a : AttachedHist) × (a ≡ get_or hists i a)
-element [] i inside = absurd (omega (arith, inside))
-element (a ∷ hists) zero inside = (a, refl)
-element (a ∷ hists) (suc i) inside = element hists i (omega (arith, inside))
 
 -- ---- the filters that an emission passes
 
@@ -34,9 +28,10 @@ passed_at emission [] i d inside = absurd (omega (arith, inside))
 passed_at emission (a ∷ hists) zero d inside = refl
 passed_at emission (a ∷ hists) (suc i) d inside = passed_at emission hists i d (omega (arith, inside))
 
-pub passed_here : (emission : Emission) (hists : List AttachedHist) (i : ℕ) (d : AttachedHist) → i < length hists → i < 4
-    → get_or (passed emission hists) i false ≡ is_passed (get_or hists i d).spec.filter emission
-passed_here emission hists i d inside small = get_or_passed i small ∙ passed_at emission hists i d inside
+pub passed_here : (emission : Emission) (hists : List AttachedHist) (i : ℕ) (a : AttachedHist) → i < length hists → i < 4 → a ≡ get_or hists i a
+    → get_or (passed emission hists) i false ≡ is_passed a.spec.filter emission
+passed_here emission hists i a inside small is =
+    get_or_passed i small ∙ passed_at emission hists i a inside ∙ ap (λ (b : AttachedHist). is_passed b.spec.filter emission) (sym is)
   where
     get_or_passed : (i : ℕ) → i < 4 → get_or (passed emission hists) i false ≡ is_passed_at emission hists i
     get_or_passed zero small = refl
@@ -45,10 +40,18 @@ passed_here emission hists i d inside small = get_or_passed i small ∙ passed_a
     get_or_passed (suc (suc (suc zero))) small = refl
     get_or_passed (suc (suc (suc (suc i)))) small = absurd (omega (arith, small))
 
-pub passed_past : (emission : Emission) (hists : List AttachedHist) (index : ℕ) → length hists ≤ index → false ≡ is_passed_at emission hists index
-passed_past emission [] index past = refl
-passed_past emission (h ∷ hists) zero past = absurd (omega (arith, past))
-passed_past emission (h ∷ hists) (suc index) past = passed_past emission hists index (omega (arith, past))
+-- what is known with one more of them
+pub passed-more : (emission : Emission) (hists : List AttachedHist) (k : ℕ) (a : AttachedHist) → k < length hists → k < 4 → a ≡ get_or hists k a
+    → set (passed emission (take k hists)) k (is_passed a.spec.filter emission) ≡ passed emission (take (k + 1) hists)
+passed-more emission [] k a inside small is = absurd (omega (arith, inside))
+passed-more emission (h ∷ hists) zero a inside small is = rw is refl
+passed-more emission (h ∷ []) (suc k) a inside small is = absurd (omega (arith, inside))
+passed-more emission (h ∷ i ∷ hists) (suc zero) a inside small is = rw is refl
+passed-more emission (h ∷ i ∷ []) (suc (suc k)) a inside small is = absurd (omega (arith, inside))
+passed-more emission (h ∷ i ∷ j ∷ hists) (suc (suc zero)) a inside small is = rw is refl
+passed-more emission (h ∷ i ∷ j ∷ []) (suc (suc (suc k))) a inside small is = absurd (omega (arith, inside))
+passed-more emission (h ∷ i ∷ j ∷ l ∷ hists) (suc (suc (suc zero))) a inside small is = rw is refl
+passed-more emission (h ∷ i ∷ j ∷ l ∷ hists) (suc (suc (suc (suc k)))) a inside small is = absurd (omega (arith, small))
 
 -- ---- memory that is reserved
 
@@ -281,6 +284,22 @@ room-more : (by : SpecSeen) (emission : Emission) (i : ℕ) (now new : Option Se
 room-more by emission i now None came few = tt
 room-more by emission i None (Some new) came few = absurd came
 room-more by emission i (Some now) (Some new) came few = omega (arith, few, counted-few by emission now new came)
+
+-- what the one at an index needs is there
+pub ready-here : (emission : Emission) (hists : List AttachedHist) (i : ℕ) (a : AttachedHist) (old now : List Table) → i < length hists
+    → a ≡ get_or hists i a → is_passed a.spec.filter emission ≡ true → AreReached emission hists i old now
+    → IfSome (table_numbered a.table now) (λ (hist : Seen). IsReservedAs hist a.spec emission)
+ready-here emission hists i a old now inside is on was = subst (CanCount emission now) (sym is) (was.ready i a (omega arith) inside) on
+
+pub room-here : (emission : Emission) (hists : List AttachedHist) (i : ℕ) (a : AttachedHist) (old now : List Table) → i < 4 → i < length hists
+    → a ≡ get_or hists i a → AreReached emission hists i old now → IfSome (table_numbered a.table now) HasRoom
+room-here emission hists i a old now small inside is was =
+    by (table_numbered a.table now) (subst (λ (b : AttachedHist). IfSome (table_numbered b.table now) (λ (hist : Seen). counted hist + 4 ≤ most_rows + i)) (sym is)
+    (was.few i a inside))
+  where
+    by : (found : Option Seen) → IfSome found (λ (hist : Seen). counted hist + 4 ≤ most_rows + i) → IfSome found HasRoom
+    by None few = tt
+    by (Some hist) few = omega (arith, few, small)
 
 -- one that was reached has counted its row
 pub reached-more : (emission : Emission) (hists : List AttachedHist) (i : ℕ) (a : AttachedHist) (old now new : List Table) → KeysAgree hists

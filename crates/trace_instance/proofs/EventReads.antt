@@ -1,6 +1,7 @@
 -- What the files of an event and the file of the spare side show is what the requests say.
 use Rattle.std.proofs.Common.{◌≡◌, ℕ, zero, suc, ◌+◌, ◌<◌, nat_lt, Bool, true, false, not, if◌then◌else◌, List, [], ◌∷◌, ◌++◌, length, map, filter, get_or, All, IfSome, Option, Some, None, option_map, refl, sym, ap, ◌∙◌, subst, arith}
-use Rattle.std.proofs.lemmas.List.{get_or-map}
+use Rattle.std.proofs.lemmas.List.{get_or-map, map-append}
+use Rattle.std.proofs.lemmas.Simd.{map-map}
 use Rattle.trace_command.specs.Requests.{Request}
 use Rattle.trace_command.specs.declared.command.Config.{Config}
 use Rattle.trace_filter.specs.Filters.{parsed_of}
@@ -15,20 +16,22 @@ use Rattle.trace_hist.specs.Groups.{group, grouped}
 use Rattle.hist_entries.specs.Hits.{Hit}
 use Rattle.trace_trigger.specs.FittingLaws.{CountsAlike}
 use Rattle.trace_trigger.specs.HistSpecs.{SpecSeen}
-use Rattle.trace_history.specs.FileTexts.{filter_text, format_of_event, hists_of_event, in_order, shown_hist, shown_trigger, triggers_of_event}
+use Rattle.trace_history.specs.FileTexts.{filter_text, format_of_event, hists_of_event, in_order as in_order_said, shown_hist, shown_trigger, triggers_of_event}
 use Rattle.trace_history.specs.HistTriggers.{HistTrigger, hists_of, hits_of}
 use Rattle.trace_history.specs.Triggers as history
 use Rattle.trace_history.specs.Triggers.{trigger_of}
 use Rattle.trace_history.specs.Settings.{declared_events, event_named, filter_of, is_enabled, kept_filter}
 use Rattle.record_text.specs.FormatText.{format_text}
 use Rattle.trace_instance.specs.FileAnswers.{IsSource}
-use Rattle.trace_instance.specs.private.Commands.{kept_in_order, shown_attached, shown_filter, shown_with}
+use Rattle.trace_instance.specs.private.Commands.{shown_attached, shown_filter, shown_of, shown_with}
+use Rattle.trace_instance.specs.private.TriggerLists.{in_order}
 use Rattle.trace_instance.specs.Instances.{HasShape, kept_as, kept_trigger}
 use Rattle.trace_instance.specs.KeptHists.{KeptTable, TableStandsFor, attached_as, kept_hists}
 use Rattle.trace_instance.specs.Files.{name_at}
 use Rattle.trace_instance.specs.declared.hists.AttachedHist.{AttachedHist}
 use Rattle.trace_instance.specs.declared.read.FileSource.{FileSource}
 use Rattle.trace_instance.specs.declared.tables.Table.{Table}
+use Rattle.trace_instance.specs.declared.trigger.EventTrigger.TheVariants.{Snapshot, Hist}
 use Rattle.trace_instance.specs.declared.trigger.Trigger.{Trigger}
 use Rattle.trace_instance.proofs.Calm.{no_event}
 
@@ -103,12 +106,17 @@ all-hists name past tables (h ∷ hists) all =
 -- triggers are shown in the order of those that were attached
 shown-in_order : (name : Option (List ℕ)) (past : List Request) (tables : List Table) (event : Definition) (t : Option history.Trigger) (hists : List HistTrigger)
     → All (TableStandsFor name past tables) (map attached_as hists)
-    → kept_in_order tables (option_map (kept_as past event) t) (map attached_as hists) ≡ in_order name past event t hists
-shown-in_order name past tables event None hists all = all-hists name past tables hists all
+    → map (shown_of tables) (in_order (option_map (kept_as past event) t) (map attached_as hists)) ≡ in_order_said name past event t hists
+shown-in_order name past tables event None hists all =
+    map-map (shown_of tables) Hist (map attached_as hists) ∙ all-hists name past tables hists all
 shown-in_order name past tables event (Some t) hists all =
-    let older = shown-hists name past tables (λ (a : AttachedHist). nat_lt a.number t.number) hists all in
-    let newer = shown-hists name past tables (λ (a : AttachedHist). not (nat_lt a.number t.number)) hists all in
-    λ i. older i ++ shown_trigger past event t ∷ newer i
+    let is_older : AttachedHist → Bool = λ a. nat_lt a.number t.number in
+    let is_newer : AttachedHist → Bool = λ a. not (nat_lt a.number t.number) in
+    let older = map-map (shown_of tables) Hist (filter is_older (map attached_as hists)) ∙ shown-hists name past tables is_older hists all in
+    let newer = map-map (shown_of tables) Hist (filter is_newer (map attached_as hists)) ∙ shown-hists name past tables is_newer hists all in
+    map-append (shown_of tables) (map Hist (filter is_older (map attached_as hists)))
+    (Snapshot (kept_as past event t) ∷ map Hist (filter is_newer (map attached_as hists)))
+    ∙ (λ i. older i ++ shown_trigger past event t ∷ newer i)
 
 -- ---- the event at an index of what is read
 
@@ -164,7 +172,7 @@ module _ (g : Config) (name : Option (List ℕ)) (past : List Request) (source :
 
   -- its triggers
   pub triggers-at_place : event < length source.instance.now.hists
-      → trigger_text (kept_in_order source.instance.now.tables (get_or source.instance.now.triggers event None) (get_or source.instance.now.hists event []))
+      → trigger_text (map (shown_of source.instance.now.tables) (in_order (get_or source.instance.now.triggers event None) (get_or source.instance.now.hists event [])))
       ≡ triggers_of_event name past (event_named (name_at source.catalog.now event) past)
   triggers-at_place there =
       let at_place = event_at past event in
@@ -173,7 +181,7 @@ module _ (g : Config) (name : Option (List ℕ)) (past : List Request) (source :
       let kept : get_or source.instance.now.triggers event None ≡ kept_trigger name past at_place =
       ap (λ (ts : List (Option Trigger)). get_or ts event None) is.instance.triggers
       ∙ get_or-map (kept_trigger name past) (declared_events past) event no_event None declared in
-      (λ i. trigger_text (kept_in_order tables (kept i) (kept-at_place i)))
+      (λ i. trigger_text (map (shown_of tables) (in_order (kept i) (kept-at_place i))))
       ∙ ap trigger_text (shown-in_order name past tables at_place (trigger_of name at_place past) (hists_of name at_place past) (tables-at_place there))
       ∙ sym (ap (λ (n : List ℕ). triggers_of_event name past (event_named n past)) (sym called) ∙ ap (triggers_of_event name past) found)
 

@@ -1,7 +1,6 @@
 -- What a text that says something of a hist trigger answers, and that the change made of it is the one that the definitions say.
-use Rattle.std.proofs.Common.{◌≡◌, ℕ, ◌<◌, ◌≤◌, ◌==◌, length, Bool, true, false, not, ◌&&◌, ◌||◌, if◌then◌else◌, List, [], ◌∷◌, get_or, is_some, Option, None, Some, Result, Ok, Err, refl, sym, ap, ◌∙◌, subst, arith}
-use Rattle.std.specs.List.{list_any, position}
-use Rattle.std.proofs.lemmas.Bool.{false≢true}
+use Rattle.std.proofs.Common.{◌≡◌, ℕ, ◌<◌, ◌≤◌, length, Bool, true, false, not, ◌&&◌, ◌||◌, if◌then◌else◌, List, ◌∷◌, is_some, Option, None, Some, Result, Ok, Err, refl, sym, ap, ◌∙◌, subst, arith}
+use Rattle.std.specs.List.{list_any}
 use Rattle.trace_format.specs.Definitions.{Definition}
 use Rattle.trace_trigger.specs.HistSpecs.{SpecSeen}
 use Rattle.trace_trigger.specs.declared.spec.Action.{Action}
@@ -19,20 +18,18 @@ use Rattle.trace_history.specs.Triggers as triggers
 use Rattle.trace_history.specs.Triggers.{trigger_of}
 use Rattle.trace_history.proofs.EventHists.{own-left}
 use Rattle.trace_history.proofs.Members.{IsIn, in-filter}
-use Rattle.trace_instance.specs.private.Attaching.{AreKept, IsAsked, IsRemovedHist, asked_change, attaches, kept_count}
-use Rattle.trace_instance.specs.Changes.{IsAsked as IsAskedOf}
+use Rattle.trace_instance.specs.private.Attaching.{AreKept, IsAsked, IsRemovedHist, asked_change, attaches, kept_count, same_left}
 use Rattle.trace_instance.specs.Instances.{TablesFit}
-use Rattle.trace_instance.specs.KeptHists.{kept_hists, says_same}
+use Rattle.trace_instance.specs.KeptHists.{says_same}
 use Rattle.trace_instance.specs.declared.attach.EventTriggers.{EventTriggers}
-use Rattle.trace_instance.specs.declared.change.TriggerChange.TheVariants.{Keep, DetachHist, AskTable}
+use Rattle.trace_instance.specs.declared.change.TriggerChange.TheVariants.{DetachHist, AskTable}
 use Rattle.trace_instance.specs.declared.hists.AttachedHist.{AttachedHist}
 use Rattle.trace_instance.specs.declared.write.WrittenText.{WrittenText}
 use Rattle.trace_instance.proofs.Attached.{IsNamed, all-are, all_left, hists-asked, hists-removed, own_left, snapshot-stays, tables-asked, tables-stay, text_request}
 use Rattle.trace_history.proofs.NamedTables.{fit-fewer}
 use Rattle.trace_instance.proofs.FittingTables.{fit-tables, left-fit}
-use Rattle.trace_instance.proofs.OneSays.{one-removed, some-position, without_same}
 use Rattle.trace_instance.proofs.Snapshotting.{refused}
-use Rattle.trace_instance.proofs.Answering.{answered, count-left, fit-stays, has-same, has-same_left, only-left, room-full, room-had, same_left}
+use Rattle.trace_instance.proofs.Answering.{answered, count-left, fit-stays, found-left, has-same, has-same_left, room-full, room-had}
 
 -- ---- what is asked of one that is attached
 
@@ -72,29 +69,19 @@ said-same name past event append spec same =
     ap (has_same spec) (own-left event append (hist_triggers name past)) ∙ same in
     rw there refl
 
--- the book has the event's hist triggers that are left
-left-now : (name : Option (List ℕ)) (past : List Request) (event : Definition) (kept : EventTriggers) (spec : SpecSeen) (append : Bool) (index : ℕ)
-    → AreKept name past event kept → same_left spec kept append ≡ Some index → (if append then kept_hists name past event else []) ≡ kept.own.now.hists
-left-now name past event kept spec true index are found = sym are.hists
-left-now name past event kept spec false index are found = absurd (cc)
-
-ask-done : (spec : SpecSeen) (event : Definition) (kept : EventTriggers) (written : WrittenText) (index : ℕ) (d : AttachedHist)
-    → same_left spec kept written.append ≡ Some index
-    → (spec.action ≡ action.Attach → ⊥) → IsAsked spec event kept written (Ok (AskTable (get_or kept.own.now.hists index d).table spec.action))
-ask-done spec event kept written index d found other = λ name past number are is.
+ask-done : (spec : SpecSeen) (event : Definition) (kept : EventTriggers) (written : WrittenText) (a : AttachedHist)
+    → same_left spec kept written.append ≡ Some a
+    → (spec.action ≡ action.Attach → ⊥) → IsAsked spec event kept written (Ok (AskTable a.table spec.action))
+ask-done spec event kept written a found other = λ name past number are is.
     let same : is_some (same_left spec kept written.append) ≡ true = ap is_some found in
-    let there : has_same spec (own_left name past event written.append) ≡ true = has-same_left name past event kept spec written.append are ∙ same in
-    let only = only-left name past event kept spec index written.append are found in
-    let now = left-now name past event kept spec written.append index are found in (
+    let there : has_same spec (own_left name past event written.append) ≡ true = has-same_left name past event kept spec written.append are ∙ same in (
       ask-answer spec kept written true event name past same are is ∙ asked-done spec.action other,
       record {
         snapshot = snapshot-stays name past event written.append written.text.now (Ok (said.Hist spec)) is refl;
         hists = hists-asked name past event are.id written.append written.text.now are.named spec is there;
         possible = tt;
-        tables = λ table. subst
-            (λ (hists : List AttachedHist). IsAskedOf name past (text_request name event written.append written.text.now)
-            (if (get_or hists index d).table == table then Some spec.action else None) table)
-            now (tables-asked name past event are.id written.append written.text.now are.named spec index d table is there only);
+        tables = λ table. tables-asked name past event are.id written.append written.text.now are.named spec a table is there
+            (found-left name past event kept spec a written.append are found);
         joined = tt;
         fitting = fit-stays name past event are.id written.append written.text.now (Ok (said.Hist spec)) are.named is
             (said-same name past event written.append spec there);
@@ -102,22 +89,18 @@ ask-done spec event kept written index d found other = λ name past number are i
       },
     )
 
-pub ask-again : (spec : SpecSeen) (event : Definition) (kept : EventTriggers) (written : WrittenText) (index : ℕ) (d : AttachedHist)
-    → same_left spec kept written.append ≡ Some index
-    → IsAsked spec event kept written (asked_change (get_or kept.own.now.hists index d).table spec.action)
-ask-again spec event kept written index d found = by spec.action refl
+pub ask-again : (spec : SpecSeen) (event : Definition) (kept : EventTriggers) (written : WrittenText) (a : AttachedHist)
+    → same_left spec kept written.append ≡ Some a → IsAsked spec event kept written (asked_change a.table spec.action)
+ask-again spec event kept written a found = by spec.action refl
   where
-    table : ℕ
-    table = (get_or kept.own.now.hists index d).table
+    done : (asked : Action) → spec.action ≡ asked → (asked ≡ action.Attach → ⊥) → IsAsked spec event kept written (Ok (AskTable a.table asked))
+    done asked is other =
+        subst (λ (b : Action). IsAsked spec event kept written (Ok (AskTable a.table b))) is
+        (ask-done spec event kept written a found (λ attaching. other (sym is ∙ attaching)))
 
-    done : (a : Action) → spec.action ≡ a → (a ≡ action.Attach → ⊥) → IsAsked spec event kept written (Ok (AskTable table a))
-    done a is other =
-        subst (λ (b : Action). IsAsked spec event kept written (Ok (AskTable table b))) is
-        (ask-done spec event kept written index d found (λ attaching. other (sym is ∙ attaching)))
-
-    by : (a : Action) → spec.action ≡ a → IsAsked spec event kept written (asked_change table a)
+    by : (asked : Action) → spec.action ≡ asked → IsAsked spec event kept written (asked_change a.table asked)
     by action.Attach is = ask-refused spec event kept written (ap is_some found) is
-    by a is = done a is (λ other. absurd (cc))
+    by asked is = done asked is (λ other. absurd (cc))
 
 -- ---- where none says the same
 
@@ -169,27 +152,23 @@ fit-answer spec kept written event name past none attaching few are is =
     room-answer spec kept written event name past none attaching are is
     ∙ ap (fitting_answer (fits_named name past event written.append spec)) (room-had (trigger_of name event past) (own_left name past event written.append) room)
 
--- where there is room for one more trigger there is for one more hist trigger
-pub few-left : (name : Option (List ℕ)) (past : List Request) (event : Definition) (kept : EventTriggers) (append : Bool) → AreKept name past event kept
-    → kept_count kept append < 4 → length (if append then kept_hists name past event else []) < 4
-few-left name past event kept true are few =
-    let many : length kept.own.now.hists ≡ length (kept_hists name past event) = ap length are.hists in
-    omega (arith, few, many)
-few-left name past event kept false are few = omega arith
-
 -- ---- removals
 
-removed-answer : (append same : Bool) (event : Definition) (kept : EventTriggers) (written : WrittenText) (spec : SpecSeen) (name : Option (List ℕ)) (past : List Request)
-    → written.append ≡ append → list_any (says_same spec) kept.own.now.hists ≡ same → AreKept name past event kept
-    → said_of event written.text.now ≡ Ok (said.RemoveHist spec)
-    → trigger_answer name past written.append written.text.now event ≡ (if not append || same then Ok Done else Err refusal.NoSuchTrigger)
-removed-answer true same event kept written spec name past appends is are says =
-    answered name past event written.append written.text.now (Ok (said.RemoveHist spec)) says
-    ∙ ap (λ (b : Bool). remove_hist_answer b (own_left name past event b) spec) appends
-    ∙ ap (λ (b : Bool). (let a : Result Reply Refusal = if b then Ok Done else Err refusal.NoSuchTrigger in a)) (has-same name past event kept spec are ∙ is)
-removed-answer false same event kept written spec name past appends is are says =
-    answered name past event written.append written.text.now (Ok (said.RemoveHist spec)) says
-    ∙ ap (λ (b : Bool). remove_hist_answer b (own_left name past event b) spec) appends
+-- whether a text may say that one is removed: `>` removes all of them, so that none has to match
+abbrev pub may_remove : SpecSeen → EventTriggers → Bool → Bool
+may_remove spec kept append = not append || list_any (says_same spec) kept.own.now.triggers.hists
+
+removed-answer : (event : Definition) (kept : EventTriggers) (written : WrittenText) (spec : SpecSeen) (name : Option (List ℕ)) (past : List Request)
+    → AreKept name past event kept → said_of event written.text.now ≡ Ok (said.RemoveHist spec)
+    → trigger_answer name past written.append written.text.now event
+    ≡ (if may_remove spec kept written.append then Ok Done else Err refusal.NoSuchTrigger)
+removed-answer event kept written spec name past are says =
+    answered name past event written.append written.text.now (Ok (said.RemoveHist spec)) says ∙ by written.append
+  where
+    by : (append : Bool) → remove_hist_answer append (own_left name past event append) spec
+        ≡ (let a : Result Reply Refusal = if may_remove spec kept append then Ok Done else Err refusal.NoSuchTrigger in a)
+    by true = ap (λ (b : Bool). (let a : Result Reply Refusal = if b then Ok Done else Err refusal.NoSuchTrigger in a)) (has-same name past event kept spec are)
+    by false = refl
 
 -- those that are not removed fit still
 fit-removed : (name : Option (List ℕ)) (past : List Request) (event : Definition) (id : ℕ) (append : Bool) (text : List ℕ) (spec : SpecSeen)
@@ -203,46 +182,14 @@ fit-removed name past event id append text spec named is fit =
     (λ t there. (in-filter t (λ (u : HistTrigger). not (is_of event u && says_same_as spec u)) left (subst (IsIn t) fewer there)).0)
     (left-fit name past event append fit))
 
--- the same one
-pub remove-done : (spec : SpecSeen) (kept : EventTriggers) (written : WrittenText) (index : ℕ) → written.append ≡ true
-    → position (says_same spec) kept.own.now.hists ≡ Some index → IsRemovedHist spec kept written (Ok (DetachHist index))
-remove-done spec kept written index appends found = λ event name past number are is.
-    let same : list_any (says_same spec) kept.own.now.hists ≡ true = sym (some-position (says_same spec) kept.own.now.hists) ∙ ap is_some found in
-    let left : same_left spec kept written.append ≡ Some index = rw appends found in
-    let only = only-left name past event kept spec index written.append are left in (
-      removed-answer true true event kept written spec name past appends same are is,
-      record {
-        snapshot = snapshot-stays name past event written.append written.text.now (Ok (said.RemoveHist spec)) is refl;
-        hists = hists-removed name past event are.id written.append written.text.now are.named spec is
-            ∙ one-removed spec (if written.append then kept_hists name past event else []) index only;
-        possible = only.inside;
-        tables = λ table. tables-stay name past event are.id written.append written.text.now are.named (Ok (said.RemoveHist spec)) table is refl;
-        joined = tt;
-        fitting = fit-removed name past event are.id written.append written.text.now spec are.named is;
-        spare = rw is refl;
-      },
-    )
-
--- none says the same
-pub remove-lacks : (spec : SpecSeen) (kept : EventTriggers) (written : WrittenText) → written.append ≡ true
-    → position (says_same spec) kept.own.now.hists ≡ None → IsRemovedHist spec kept written (Err refusal.NoSuchTrigger)
-remove-lacks spec kept written appends none = λ event name past number are is.
-    let lacking : list_any (says_same spec) kept.own.now.hists ≡ false = sym (some-position (says_same spec) kept.own.now.hists) ∙ ap is_some none in
-    refused refusal.NoSuchTrigger (trigger_answer name past written.append written.text.now event)
-    (removed-answer true false event kept written spec name past appends lacking are is)
-
--- `>` left none
-none-left : (spec : SpecSeen) (append : Bool) (hists : List AttachedHist) → append ≡ false
-    → without_same spec (if append then hists else []) ≡ (if append then hists else [])
-none-left spec true hists is = absurd (false≢true (sym is))
-none-left spec false hists is = refl
-
-pub remove-keeps : (spec : SpecSeen) (kept : EventTriggers) (written : WrittenText) → written.append ≡ false → IsRemovedHist spec kept written (Ok Keep)
-remove-keeps spec kept written anew = λ event name past number are is. (
-  removed-answer false (list_any (says_same spec) kept.own.now.hists) event kept written spec name past anew refl are is,
+pub remove-done : (spec : SpecSeen) (kept : EventTriggers) (written : WrittenText) → may_remove spec kept written.append ≡ true
+    → IsRemovedHist spec kept written (Ok (DetachHist spec))
+remove-done spec kept written may = λ event name past number are is. (
+  removed-answer event kept written spec name past are is
+      ∙ ap (λ (b : Bool). (let a : Result Reply Refusal = if b then Ok Done else Err refusal.NoSuchTrigger in a)) may,
   record {
     snapshot = snapshot-stays name past event written.append written.text.now (Ok (said.RemoveHist spec)) is refl;
-    hists = hists-removed name past event are.id written.append written.text.now are.named spec is ∙ none-left spec written.append (kept_hists name past event) anew;
+    hists = hists-removed name past event are.id written.append written.text.now are.named spec is;
     possible = tt;
     tables = λ table. tables-stay name past event are.id written.append written.text.now are.named (Ok (said.RemoveHist spec)) table is refl;
     joined = tt;
@@ -250,3 +197,10 @@ remove-keeps spec kept written anew = λ event name past number are is. (
     spare = rw is refl;
   },
 )
+
+pub remove-lacks : (spec : SpecSeen) (kept : EventTriggers) (written : WrittenText) → may_remove spec kept written.append ≡ false
+    → IsRemovedHist spec kept written (Err refusal.NoSuchTrigger)
+remove-lacks spec kept written may = λ event name past number are is.
+    refused refusal.NoSuchTrigger (trigger_answer name past written.append written.text.now event)
+    (removed-answer event kept written spec name past are is
+    ∙ ap (λ (b : Bool). (let a : Result Reply Refusal = if b then Ok Done else Err refusal.NoSuchTrigger in a)) may)

@@ -20,10 +20,10 @@ use Rattle.trace_history.proofs.Members.{IsIn, in-contains}
 use Rattle.trace_history.proofs.NamedTables.{fit-fewer, fit-new, left-old}
 use Rattle.trace_history.proofs.SharedTables.{said-alike}
 use Rattle.trace_history.proofs.Tables.{found-in}
-use Rattle.trace_instance.specs.private.Attaching.{AreKept, IsAsked, IsJoinedChange, IsMadeChange, attaches, kept_count}
+use Rattle.trace_instance.specs.private.Attaching.{AreKept, IsAsked, IsJoinedChange, IsMadeChange, attaches, kept_count, same_left}
 use Rattle.trace_instance.specs.private.SharedTables.{left_of, named_in}
-use Rattle.trace_instance.specs.Changes.{IsAsked as IsAskedOf, Joins}
-use Rattle.trace_instance.specs.Instances.{TablesFit}
+use Rattle.trace_instance.specs.Changes.{IsAsked as IsAskedOf, IsNewest, Joins}
+use Rattle.trace_instance.specs.Instances.{TablesFit, kept_trigger}
 use Rattle.trace_instance.specs.KeptHists.{attached_as, kept_hists}
 use Rattle.trace_instance.specs.declared.attach.EventTriggers.{EventTriggers}
 use Rattle.trace_instance.specs.declared.change.NewHist.{NewHist}
@@ -34,8 +34,8 @@ use Rattle.trace_instance.specs.declared.write.WrittenText.{WrittenText}
 use Rattle.trace_instance.proofs.Attached.{IsNamed, all-are, all_left, hists-attached, new_of, own_left, snapshot-stays, tables-attached, text_request}
 use Rattle.trace_instance.proofs.FittingTables.{fit-tables, left-fit, left-there}
 use Rattle.trace_instance.proofs.Named.{book-alike, book-there, book_left, found-as}
-use Rattle.trace_instance.proofs.Answering.{done-late, has-same_left, same_left}
-use Rattle.trace_instance.proofs.HistAnswering.{few-left, fit-answer, fits_named}
+use Rattle.trace_instance.proofs.Answering.{done-late, has-same_left, newest-left}
+use Rattle.trace_instance.proofs.HistAnswering.{fit-answer, fits_named}
 use Rattle.trace_instance.proofs.Snapshotting.{refused}
 
 -- ---- one that is attached
@@ -134,6 +134,11 @@ module _ (spec : SpecSeen) (event : Definition) (kept : EventTriggers) (written 
         (subst (λ (n : ℕ). IsAskedOf name past request (if n == k then Some spec.action else None) k) at
         (tables-attached name past event are.id written.append written.text.now are.named spec k is lacks))
 
+    -- it is the newest
+    newest-now : (a : AttachedHist) (table : ℕ) → a ≡ new_as written.number table spec
+        → IsNewest a.number (kept_trigger name past event) (if written.append then kept_hists name past event else [])
+    newest-now a table same = rw (same, ← number) (newest-left name past event kept written.append are few)
+
   -- ---- one that names the table of another trigger
 
   module _ (other : AttachedHist) (found : named_in spec (left_of kept written.append) ≡ Some other) where
@@ -159,7 +164,7 @@ module _ (spec : SpecSeen) (event : Definition) (kept : EventTriggers) (written 
           record {
             snapshot = snapshot-stays name past event written.append written.text.now (Ok (said.Hist spec)) is refl;
             hists = hists-now name past number are is attached.value other.table same table;
-            possible = few-left name past event kept written.append are few;
+            possible = newest-now name past number are is attached.value other.table same;
             tables = asked-now name past number are is attached.value other.table same table;
             joined = subst (Joins name past) (sym same) (record {
               t = joined.t;
@@ -214,7 +219,7 @@ module _ (spec : SpecSeen) (event : Definition) (kept : EventTriggers) (written 
           record {
             snapshot = snapshot-stays name past event written.append written.text.now (Ok (said.Hist spec)) is refl;
             hists = hists-now name past number are is made.value.attached written.number same table;
-            possible = few-left name past event kept written.append are few;
+            possible = newest-now name past number are is made.value.attached written.number same;
             tables = asked-now name past number are is made.value.attached written.number same table;
             joined = record {
               table = ap (λ (a : AttachedHist). a.table) same ∙ sym number;

@@ -1,20 +1,20 @@
 -- What a change of an event's triggers and an emission make of the triggers of an instance and of their tables.
-use Rattle.std.proofs.Common.{◌≡◌, ℕ, ◌<◌, ◌==◌, Bool, true, false, if◌then◌else◌, List, [], ◌∷◌, length, filter, get_or, set, take, drop, ◌++◌, Option, Some, None, option_map, refl, sym, ap, ◌∙◌, subst, arith}
+use Rattle.std.proofs.Common.{◌≡◌, ℕ, ◌<◌, ◌==◌, Bool, true, false, if◌then◌else◌, List, [], length, filter, get_or, set, take, drop, ◌++◌, Option, Some, None, option_map, refl, sym, ap, ◌∙◌, subst}
 use Rattle.std.proofs.lemmas.List.{map-set, take_at}
 use Rattle.std.specs.Global.{Vec}
 use Rattle.std.specs.Vec.{vec_len}
-use Rattle.std.specs.List.{remove}
 use Rattle.trace_buffer.specs.Buffers as buffers
 use Rattle.trace_command.specs.declared.command.Config.{Config}
 use Rattle.trace_trigger.specs.declared.spec.Action.{Action}
 use Rattle.trace_hist.specs.Hists.{Seen}
 use Rattle.trace_snapshot.specs.Sides.{HasShapeOf, IsSpareOf, SideFamilies, SidesSeen, StandsFor, with_spare}
-use Rattle.trace_instance.specs.Changes.{IsApplied, hists_changed, sides_changed, table_changed, trigger_changed, triggers_after}
+use Rattle.trace_instance.specs.Changes.{IsApplied, IsPossible, hists_changed, sides_changed, table_changed, trigger_changed, triggers_after}
 use Rattle.trace_instance.specs.Instances.{InstanceSeen, IsAlike, IsShaped, WereOffered}
 use Rattle.trace_instance.specs.KeptHists.{AreHit, KeptTable, asked, asked_if, is_used, kept_at, kept_table}
 use Rattle.trace_instance.specs.Deliveries.{IsOffered, row_of}
 use Rattle.trace_instance.specs.private.EventLists.{all_hists, all_triggers}
 use Rattle.trace_instance.specs.private.Tables.{AreSet}
+use Rattle.trace_instance.specs.private.TriggerLists.{TriggersSeen}
 use Rattle.trace_instance.specs.declared.change.Delivery.{Delivery}
 use Rattle.trace_instance.specs.declared.change.InstanceChange.TheVariants.{Triggers}
 use Rattle.trace_instance.specs.declared.change.TriggerChange.{TriggerChange}
@@ -24,7 +24,7 @@ use Rattle.trace_instance.specs.declared.hists.AttachedHist.{AttachedHist}
 use Rattle.trace_instance.specs.declared.instance.Instance.TheInside.{Inside}
 use Rattle.trace_instance.specs.declared.tables.Table.{Table}
 use Rattle.trace_instance.specs.declared.trigger.Trigger.{Trigger}
-use Rattle.trace_instance.proofs.EachEvent.{hists_at, hists_in, seen, still, view_of}
+use Rattle.trace_instance.proofs.EachEvent.{hists_in, inside_of, read, seen, still, view_of}
 use Rattle.trace_instance.proofs.LiveSide.{armed_offered, armed_shaped}
 use Rattle.trace_instance.proofs.Lookups.{kept-still, none-kept}
 
@@ -85,50 +85,56 @@ armed_sides at append trigger old new live spare stands shape = record {
   offered = λ most all. armed_offered most old new live spare all;
 }
 
--- what it makes of the event
-abbrev pub event_changed : Bool → TriggerChange → InstanceEvent → InstanceEvent
-event_changed append change e = record e { trigger = trigger_changed change e.trigger; hists = hists_changed change (if append then e.hists else []) }
+-- what it makes of the event's triggers
+pub record AreTriggersOf (append : Bool) (change : TriggerChange) (old new : TriggersSeen) : Type 0 where
+  pub snapshot : new.snapshot ≡ trigger_changed change old.snapshot
+  pub hists : new.hists ≡ hists_changed change (if append then old.hists else [])
 
-triggers-changed : (events : List InstanceEvent) (at : ℕ) (append : Bool) (change : TriggerChange) (one : InstanceEvent) → one ≡ get_or events at one
-    → all_triggers (set events at (event_changed append change one)) ≡ triggers_after (Triggers at append change) (all_triggers events)
-triggers-changed events at append change one is = by change
+triggers-changed : (events : List InstanceEvent) (at : ℕ) (append : Bool) (change : TriggerChange) (one : InstanceEvent) (new : TriggersSeen)
+    → one ≡ get_or events at one → new.snapshot ≡ trigger_changed change one.triggers.snapshot
+    → all_triggers (set events at (record one { triggers = new })) ≡ triggers_after (Triggers at append change) (all_triggers events)
+triggers-changed events at append change one new is = by change
   where
-    by : (c : TriggerChange) → all_triggers (set events at (event_changed append c one)) ≡ triggers_after (Triggers at append c) (all_triggers events)
-    by (Attach new) = map-set (λ (e : InstanceEvent). e.trigger) events at (event_changed append (Attach new) one)
-    by Detach = map-set (λ (e : InstanceEvent). e.trigger) events at (event_changed append Detach one)
-    by c = still (λ (e : InstanceEvent). e.trigger) events at one (event_changed append c one) is refl
+    snapshots : (o : Option Trigger) → new.snapshot ≡ o → all_triggers (set events at (record one { triggers = new })) ≡ set (all_triggers events) at o
+    snapshots o same = map-set (λ (e : InstanceEvent). e.triggers.snapshot) events at (record one { triggers = new }) ∙ ap (set (all_triggers events) at) same
+
+    by : (c : TriggerChange) → new.snapshot ≡ trigger_changed c one.triggers.snapshot
+        → all_triggers (set events at (record one { triggers = new })) ≡ triggers_after (Triggers at append c) (all_triggers events)
+    by (Attach trigger) same = snapshots (Some trigger) same
+    by Detach same = snapshots None same
+    by c same = still (λ (e : InstanceEvent). e.triggers.snapshot) events at one (record one { triggers = new }) is same
 
 -- its hist triggers that a text leaves
 left-now : (append : Bool) (at : ℕ) (value : InstanceSeen) (old : Inside) (one : InstanceEvent) → view_of old ≡ value → at < length value.hists
-    → one ≡ get_or old.events.items at one → (if append then one.hists else []) ≡ (if append then get_or (all_hists old.events.items) at [] else [])
+    → one ≡ get_or old.events.items at one → (if append then one.triggers.hists else []) ≡ (if append then get_or (all_hists old.events.items) at [] else [])
 left-now true at value old one view within is = hists_in value old at one view within is
 left-now false at value old one view within is = refl
 
--- one of so many that a text leaves is one of those that are there
-pub one_of : (append : Bool) (at index : ℕ) (value : InstanceSeen) (old : Inside) (one : InstanceEvent) → view_of old ≡ value → at < length value.hists
-    → one ≡ get_or old.events.items at one → index < length (if append then get_or value.hists at [] else []) → index < length one.hists
-one_of true at index value old one view within is inside =
-    subst (λ (l : List AttachedHist). index < length l) (sym (hists_at value old at one view within is)) inside
-one_of false at index value old one view within is inside = absurd (omega (arith, inside))
+-- what can be made of an instance can be made of the event
+pub possible-here : (at : ℕ) (append : Bool) (change : TriggerChange) (value : InstanceSeen) (old : Inside) (one : InstanceEvent) → view_of old ≡ value
+    → at < length value.hists → one ≡ get_or old.events.items at one
+    → IsPossible change (get_or value.triggers at None) (if append then get_or value.hists at [] else [])
+    → IsPossible change one.triggers.snapshot (if append then one.triggers.hists else [])
+possible-here at append change value old one view within is possible =
+    let snapshot : one.triggers.snapshot ≡ get_or (all_triggers old.events.items) at None =
+    read (λ (e : InstanceEvent). e.triggers.snapshot) old.events.items at one None is (inside_of value old at view within) in
+    rw (snapshot, left-now append at value old one view within is) (rw (← view) at possible)
 
-pub removed_of : (append : Bool) (at index : ℕ) (value : InstanceSeen) (hists : List AttachedHist)
-    → index < length (if append then get_or value.hists at [] else []) → remove hists index ≡ remove (if append then hists else []) index
-removed_of true at index value hists inside = refl
-removed_of false at index value hists inside = absurd (omega (arith, inside))
-
-pub are_set : (at : ℕ) (append : Bool) (change : TriggerChange) (value : InstanceSeen) (old : Inside) (one new : InstanceEvent) (tables : List Table)
-    (sides : SidesSeen) → view_of old ≡ value → at < length value.hists → one ≡ get_or old.events.items at one → new ≡ event_changed append change one
+pub are_set : (at : ℕ) (append : Bool) (change : TriggerChange) (value : InstanceSeen) (old : Inside) (one : InstanceEvent) (new : TriggersSeen)
+    (tables : List Table) (sides : SidesSeen) → view_of old ≡ value → at < length value.hists → one ≡ get_or old.events.items at one
+    → AreTriggersOf append change one.triggers new
     → ((number : ℕ) → kept_at number tables ≡ table_changed change number (kept_at number old.tables.items))
     → AreSidesOf at append change old.sides sides
-    → AreSet at append change value (seen (set old.events.items at new) tables old.overwrite old.tracing sides)
+    → AreSet at append change value (seen (set old.events.items at (record one { triggers = new })) tables old.overwrite old.tracing sides)
 are_set at append change value old one new tables sides view within is changed lookups both =
     let events = old.events.items in
-    subst (λ (v : InstanceSeen). AreSet at append change v (seen (set events at new) tables old.overwrite old.tracing sides)) view (record {
-      enabled = still (λ (e : InstanceEvent). e.enabled) events at one new is (ap (λ (e : InstanceEvent). e.enabled) changed);
-      filters = still (λ (e : InstanceEvent). e.filter) events at one new is (ap (λ (e : InstanceEvent). e.filter) changed);
-      triggers = ap (λ (e : InstanceEvent). all_triggers (set events at e)) changed ∙ triggers-changed events at append change one is;
-      hists = map-set (λ (e : InstanceEvent). e.hists) events at new
-          ∙ ap (λ (e : InstanceEvent). set (all_hists events) at e.hists) changed
+    let one_now = record one { triggers = new } in
+    subst (λ (v : InstanceSeen). AreSet at append change v (seen (set events at one_now) tables old.overwrite old.tracing sides)) view (record {
+      enabled = still (λ (e : InstanceEvent). e.enabled) events at one one_now is refl;
+      filters = still (λ (e : InstanceEvent). e.filter) events at one one_now is refl;
+      triggers = triggers-changed events at append change one new is changed.snapshot;
+      hists = map-set (λ (e : InstanceEvent). e.triggers.hists) events at one_now
+          ∙ ap (set (all_hists events) at) changed.hists
           ∙ ap (λ (l : List AttachedHist). set (all_hists events) at (hists_changed change l)) (left-now append at value old one view within is);
       tables = lookups;
       overwrite = refl;
@@ -137,6 +143,25 @@ are_set at append change value old one new tables sides view within is changed l
       shaped = both.shaped;
       offered = both.offered;
     })
+
+-- nor does it change anything that there is memory for more
+pub memory-more : (at : ℕ) (value : InstanceSeen) (old : Inside) (one : InstanceEvent) (new : TriggersSeen) (sides : SidesSeen) → view_of old ≡ value
+    → one ≡ get_or old.events.items at one → new.snapshot ≡ one.triggers.snapshot → new.hists ≡ one.triggers.hists → sides ≡ old.sides
+    → seen (set old.events.items at (record one { triggers = new })) old.tables.items old.overwrite old.tracing sides ≡ value
+memory-more at value old one new sides view is snapshot hists same =
+    let events = old.events.items in
+    let one_now = record one { triggers = new } in
+    (λ i. record {
+      enabled = still (λ (e : InstanceEvent). e.enabled) events at one one_now is refl i;
+      filters = still (λ (e : InstanceEvent). e.filter) events at one one_now is refl i;
+      triggers = still (λ (e : InstanceEvent). e.triggers.snapshot) events at one one_now is snapshot i;
+      hists = still (λ (e : InstanceEvent). e.triggers.hists) events at one one_now is hists i;
+      tables = old.tables.items;
+      overwrite = old.overwrite;
+      tracing = old.tracing;
+      sides = same i;
+    })
+    ∙ view
 
 -- and then tables of no trigger go
 pub applied : (event : ℕ) (append : Bool) (change : TriggerChange) (value set : InstanceSeen) (tables : List Table) → AreSet event append change value set

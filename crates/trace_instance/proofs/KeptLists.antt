@@ -1,7 +1,7 @@
 -- The attached hist triggers of all events, as lists of lists: what holds of each, and that each is one of the requests' own.
-use Rattle.std.proofs.Common.{◌≡◌, inl, inr, ℕ, zero, suc, ◌-◌, ◌<◌, ◌==◌, Bool, true, false, if◌then◌else◌, List, [], ◌∷◌, length, map, take, drop, get_or, All, Option, refl, sym, ap, ◌∙◌, subst, arith, eq-eqb}
+use Rattle.std.proofs.Common.{◌≡◌, inl, inr, ℕ, zero, suc, ◌-◌, ◌<◌, ◌==◌, Bool, true, false, not, if◌then◌else◌, List, [], ◌∷◌, length, map, get_or, All, Option, refl, sym, ap, ◌∙◌, subst, arith, eq-eqb}
 use Rattle.std.proofs.lemmas.List.{get_or-map, length-map}
-use Rattle.std.proofs.lemmas.List.Elements.{All-append, All-drop, All-map, All-nil, All-push, All-set, All-take}
+use Rattle.std.proofs.lemmas.List.Elements.{All-filter, All-map, All-nil, All-push, All-set}
 use Rattle.std.proofs.lemmas.List.Folds.{list_any_at}
 use Rattle.std.proofs.lemmas.Slice.Eq.{bytes_eq-Decides}
 use Rattle.trace_format.specs.Definitions.{Definition}
@@ -14,7 +14,7 @@ use Rattle.trace_history.proofs.LegalEvents.{named-is_numbered}
 use Rattle.trace_history.proofs.Members.{IsIn, each-in, filter-in, in-all, in-filter}
 use Rattle.trace_history.proofs.OwnFiles.{IsNamed, all-named}
 use Rattle.trace_instance.specs.Changes.{hists_after, hists_changed}
-use Rattle.trace_instance.specs.KeptHists.{attached_as, is_used, kept_hists, uses_table}
+use Rattle.trace_instance.specs.KeptHists.{attached_as, is_used, kept_hists, says_same, uses_table}
 use Rattle.trace_instance.specs.declared.hists.AttachedHist.{AttachedHist}
 use Rattle.trace_instance.specs.declared.change.InstanceChange.{InstanceChange}
 use Rattle.trace_instance.specs.declared.change.InstanceChange.TheVariants.{Triggers}
@@ -98,8 +98,7 @@ changed-all : (P : AttachedHist → Type 0) (change : TriggerChange) (hists : Li
     → All P (hists_changed change hists)
 changed-all P (AttachHist attached) hists all new = All-push P hists attached.value all new
 changed-all P (MakeHist made) hists all new = All-push P hists made.value.attached all new
-changed-all P (DetachHist index) hists all new =
-    All-append P (take index hists) (drop (suc index) hists) (All-take P index hists all) (All-drop P (suc index) hists all)
+changed-all P (DetachHist spec) hists all new = All-filter (λ (a : AttachedHist). not (says_same spec a)) P hists all
 changed-all P change hists all new = all
 
 -- each is one of those before, or the one that the change attaches

@@ -27,4 +27,4 @@ pub mod Triggering
 pub mod Effects
 pub mod Filtering
 pub mod UsableInstance
-pub mod Showing
+pub mod TriggerLists

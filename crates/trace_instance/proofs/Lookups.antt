@@ -1,9 +1,9 @@
 -- Tables that are looked up by their numbers: the first of a number counts, and one that is changed in place, put in front or let go leaves the others.
-use Rattle.std.proofs.Common.{◌≡◌, ℕ, zero, suc, ◌<◌, ◌==◌, Bool, true, false, ◌||◌, if◌then◌else◌, List, [], ◌∷◌, length, filter, get_or, set, Option, None, Some, option_map, is_some, refl, sym, ap, ◌∙◌, arith, eq-eqb, eqb-true}
+use Rattle.std.proofs.Common.{◌≡◌, ℕ, zero, suc, ◌+◌, ◌<◌, ◌==◌, nat_lt, Bool, true, false, not, ◌||◌, if◌then◌else◌, List, [], ◌∷◌, length, filter, get_or, set, Option, None, Some, option_map, is_some, refl, sym, ap, ◌∙◌, arith, eq-eqb, eqb-true, lt-ltb, ltb-true}
 use Rattle.std.specs.Prelude.{Result, Ok, Err, OnOk, OnErr}
-use Rattle.std.specs.List.{list_any, position}
+use Rattle.std.specs.List.{list_any, position, position_or_len}
 use Rattle.std.specs.declared.alloc.AllocError.{AllocError}
-use Rattle.std.proofs.lemmas.Bool.{false≢true, ne_eqb}
+use Rattle.std.proofs.lemmas.Bool.{false≢true, ltb-false, ne_eqb}
 use Rattle.std.proofs.lemmas.List.Quantifiers.{position-Some}
 use Rattle.trace_format.specs.Operands.{Emission}
 use Rattle.trace_hist.specs.Groups.{grouped}
@@ -14,7 +14,6 @@ use Rattle.trace_trigger.specs.declared.spec.Action.TheVariants.{Clear}
 use Rattle.trace_instance.specs.KeptHists.{KeptTable, asked, is_used, kept_at, kept_table, table_numbered}
 use Rattle.trace_instance.specs.declared.hists.AttachedHist.{AttachedHist}
 use Rattle.trace_instance.specs.declared.tables.Table.{Table}
-use Rattle.trace_instance.proofs.OneSays.{some-position}
 
 -- whether a table has a number
 abbrev pub is_numbered : ℕ → Table → Bool
@@ -44,6 +43,32 @@ pub none-at : (number : ℕ) (tables : List Table) → list_any (is_numbered num
 none-at number [] none = refl
 none-at number (t ∷ tables) none =
     or-none (t.number == number) (list_any (is_numbered number) tables) (Some t.hist) (table_numbered number tables) none (none-at number tables)
+
+-- a test finds one exactly if some value passes
+one-later : (a b c : ℕ) → c ≡ b + 1 → nat_lt (1 + a) c ≡ nat_lt a b
+one-later a b c is = by (nat_lt (1 + a) c) (nat_lt a b) refl refl
+  where
+    by : (one other : Bool) → nat_lt (1 + a) c ≡ one → nat_lt a b ≡ other → one ≡ other
+    by true true less also = refl
+    by true false less not = absurd (omega (arith, is, ltb-true (1 + a) c less, ltb-false a b not))
+    by false true not less = absurd (omega (arith, is, ltb-false (1 + a) c not, ltb-true a b less))
+    by false false not also = refl
+
+index-inside : {A : Type 0} (test : A → Bool) (xs : List A) → nat_lt (position_or_len test xs) (length xs) ≡ list_any test xs
+index-inside test [] = refl
+index-inside {A = A} test (x ∷ xs) = by (test x) (index-inside test xs)
+  where
+    by : (passes : Bool) → nat_lt (position_or_len test xs) (length xs) ≡ list_any test xs
+        → nat_lt (if not passes then 1 + position_or_len test xs else 0) (length (x ∷ xs)) ≡ (passes || list_any test xs)
+    by true rest = lt-ltb 0 (length (x ∷ xs)) (omega arith)
+    by false rest = one-later (position_or_len test xs) (length xs) (length (x ∷ xs)) (omega arith) ∙ rest
+
+some-position : {A : Type 0} (test : A → Bool) (xs : List A) → is_some (position test xs) ≡ list_any test xs
+some-position {A = A} test xs = is-some (nat_lt (position_or_len test xs) (length xs)) ∙ index-inside test xs
+  where
+    is-some : (found : Bool) → is_some (if found then Some (position_or_len test xs) else None) ≡ found
+    is-some true = refl
+    is-some false = refl
 
 pub none-found : (number : ℕ) (tables : List Table) → position (is_numbered number) tables ≡ None → table_numbered number tables ≡ None
 none-found number tables none = none-at number tables (sym (some-position (is_numbered number) tables) ∙ ap is_some none)

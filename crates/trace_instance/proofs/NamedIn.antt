@@ -24,9 +24,9 @@ named-next spec lists i inside =
 
 -- the lists of which one is to be left out
 many-left : (triggers : EventTriggers) (append : Bool) → length (left_of triggers append) ≡ length triggers.all.now
-many-left triggers true = length-map triggers.all.now (λ (e : InstanceEvent). e.hists)
+many-left triggers true = length-map triggers.all.now (λ (e : InstanceEvent). e.triggers.hists)
 many-left triggers false =
-    length-set (all_hists triggers.all.now) triggers.event [] ∙ length-map triggers.all.now (λ (e : InstanceEvent). e.hists)
+    length-set (all_hists triggers.all.now) triggers.event [] ∙ length-map triggers.all.now (λ (e : InstanceEvent). e.triggers.hists)
 
 -- one that is left
 left-at : (triggers : EventTriggers) (append : Bool) (i : ℕ) → (append ≡ true) ⊎ (i ≡ triggers.event → ⊥)
@@ -38,11 +38,11 @@ left-at triggers false i (inr other) = get_or-set_other (all_hists triggers.all.
 list-next : (spec : SpecSeen) (triggers : EventTriggers) (append : Bool) (i : ℕ) (one : InstanceEvent)
     → i < length triggers.all.now → one ≡ get_or triggers.all.now i one → (append ≡ true) ⊎ (i ≡ triggers.event → ⊥)
     → named_in spec (drop i (left_of triggers append))
-    ≡ option_or (find (names_table_of spec) one.hists) (named_in spec (drop (i + 1) (left_of triggers append)))
+    ≡ option_or (find (names_table_of spec) one.triggers.hists) (named_in spec (drop (i + 1) (left_of triggers append)))
 list-next spec triggers append i one inside at which =
     let within : i < length (left_of triggers append) = omega (arith, inside, many-left triggers append) in
-    let here : get_or (left_of triggers append) i [] ≡ one.hists =
-    left-at triggers append i which ∙ sym (read (λ (e : InstanceEvent). e.hists) triggers.all.now i one [] at inside) in
+    let here : get_or (left_of triggers append) i [] ≡ one.triggers.hists =
+    left-at triggers append i which ∙ sym (read (λ (e : InstanceEvent). e.triggers.hists) triggers.all.now i one [] at inside) in
     named-next spec (left_of triggers append) i within
     ∙ ap (λ (l : List AttachedHist). option_or (find (names_table_of spec) l) (named_in spec (drop (i + 1) (left_of triggers append)))) here
 
@@ -58,19 +58,19 @@ none-first (Some x) other is = absurd (cc)
 -- one that is found there is the first
 pub named-here : (spec : SpecSeen) (triggers : EventTriggers) (append : Bool) (i : ℕ) (one : InstanceEvent)
     → i < length triggers.all.now → one ≡ get_or triggers.all.now i one → (append ≡ true) ⊎ (i ≡ triggers.event → ⊥)
-    → is_some (find (names_table_of spec) one.hists) ≡ true → named_in spec (drop i (left_of triggers append)) ≡ find (names_table_of spec) one.hists
+    → is_some (find (names_table_of spec) one.triggers.hists) ≡ true → named_in spec (drop i (left_of triggers append)) ≡ find (names_table_of spec) one.triggers.hists
 named-here spec triggers append i one inside at which found =
     list-next spec triggers append i one inside at which
-    ∙ some-first (find (names_table_of spec) one.hists) (named_in spec (drop (i + 1) (left_of triggers append))) found
+    ∙ some-first (find (names_table_of spec) one.triggers.hists) (named_in spec (drop (i + 1) (left_of triggers append))) found
 
 -- where none of it is named, the next ones are looked through
 pub named-further : (spec : SpecSeen) (triggers : EventTriggers) (append : Bool) (i : ℕ) (one : InstanceEvent)
     → i < length triggers.all.now → one ≡ get_or triggers.all.now i one → (append ≡ true) ⊎ (i ≡ triggers.event → ⊥)
-    → is_some (find (names_table_of spec) one.hists) ≡ false
+    → is_some (find (names_table_of spec) one.triggers.hists) ≡ false
     → named_in spec (drop i (left_of triggers append)) ≡ named_in spec (drop (i + 1) (left_of triggers append))
 named-further spec triggers append i one inside at which none =
     list-next spec triggers append i one inside at which
-    ∙ none-first (find (names_table_of spec) one.hists) (named_in spec (drop (i + 1) (left_of triggers append))) none
+    ∙ none-first (find (names_table_of spec) one.triggers.hists) (named_in spec (drop (i + 1) (left_of triggers append))) none
 
 -- and so it is with a list that is left out
 pub named-past : (spec : SpecSeen) (triggers : EventTriggers) (append : Bool) (i : ℕ) → i < length triggers.all.now → append ≡ false → i ≡ triggers.event
@@ -79,7 +79,7 @@ named-past spec triggers true i inside anew is = absurd (cc)
 named-past spec triggers false i inside anew is =
     let lists : List (List AttachedHist) = set (all_hists triggers.all.now) triggers.event [] in
     let within : i < length lists = omega (arith, inside, many-left triggers false) in
-    let many = length-map triggers.all.now (λ (e : InstanceEvent). e.hists) in
+    let many = length-map triggers.all.now (λ (e : InstanceEvent). e.triggers.hists) in
     let gone : get_or lists i [] ≡ [] =
     ap (λ (k : ℕ). get_or lists k []) is ∙ get_or-set_same (all_hists triggers.all.now) triggers.event [] [] (omega (arith, inside, is, many)) in
     named-next spec lists i within ∙ ap (λ (l : List AttachedHist). option_or (find (names_table_of spec) l) (named_in spec (drop (i + 1) lists))) gone

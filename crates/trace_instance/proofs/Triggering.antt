@@ -27,7 +27,7 @@ use Rattle.trace_history.proofs.EventLists.{map-set, named_at}
 use Rattle.trace_history.proofs.OwnFiles.{own-none, own_written}
 use Rattle.trace_history.proofs.Sides.{AreStaying, rings-stay}
 use Rattle.trace_instance.specs.private.Attaching.{AreKept, IsTriggerChange, IsTriggerEffect, arms, write_of}
-use Rattle.trace_instance.specs.Changes.{IsAsked, IsEffect, IsPossible, asks_triggers, hists_changed, sides_changed, trigger_changed, triggers_after}
+use Rattle.trace_instance.specs.Changes.{IsAsked, IsEffect, asks_triggers, hists_changed, sides_changed, trigger_changed, triggers_after}
 use Rattle.trace_instance.specs.FileAnswers.{IsWriteChange}
 use Rattle.trace_instance.specs.Files.{name_at}
 use Rattle.trace_instance.specs.Instances.{InstanceSeen, InstanceStandsFor, IsSpared, TablesFit, kept_as, kept_trigger, side_families}
@@ -248,16 +248,11 @@ kept-there g name past i index stands inside =
     ap (λ (hs : List (List AttachedHist)). get_or hs index []) stands.hists
     ∙ get_or-map (kept_hists name past) (declared_events past) index no_event [] inside
 
--- so one of those is one of these
-possible-stands : (g : Config) (name : Option (List ℕ)) (past : List Request) (i : InstanceSeen) (index : ℕ) (append : Bool) (change : TriggerChange)
-    → InstanceStandsFor g name past i → index < length (declared_events past)
-    → IsPossible change (length (if append then kept_hists name past (event_at past index) else []))
-    → IsPossible change (length (if append then get_or i.hists index [] else []))
-possible-stands g name past i index append change stands inside one = subst (IsPossible change) (many append) one
-  where
-    many : (a : Bool) → length (if a then kept_hists name past (event_at past index) else []) ≡ length (if a then get_or i.hists index [] else [])
-    many true = ap length (sym (kept-there g name past i index stands inside))
-    many false = refl
+snapshot-there : (g : Config) (name : Option (List ℕ)) (past : List Request) (i : InstanceSeen) (index : ℕ) → InstanceStandsFor g name past i
+    → index < length (declared_events past) → get_or i.triggers index None ≡ kept_trigger name past (event_at past index)
+snapshot-there g name past i index stands inside =
+    ap (λ (ts : List (Option Trigger)). get_or ts index None) stands.triggers
+    ∙ get_or-map (kept_trigger name past) (declared_events past) index no_event None inside
 
 pub trigger-written : (g : Config) (name : Option (List ℕ)) (past : List Request) (index : ℕ) (event : Definition) (written : WrittenText) (change : TriggerChange)
     → AreEvents [] (declared_events past) → index < length (declared_events past) → event ≡ get_or (declared_events past) index event
@@ -272,7 +267,7 @@ trigger-written g name past index event written change distinct inside at is =
       λ i stands. let usable = usable-stands g name past i stands in (
         rw usable.triggers inside,
         rw usable.hists inside,
-        possible-stands g name past i index written.append change stands inside here.1.possible,
+        rw (snapshot-there g name past i index stands inside, kept-there g name past i index stands inside) here.1.possible,
       ),
     )
 
@@ -290,7 +285,7 @@ trigger-refused g name past index event written refused distinct inside at is =
 pub kept-at : (g : Config) (name : Option (List ℕ)) (past : List Request) (i : InstanceSeen) (index : ℕ) (event : Definition) (triggers : EventTriggers)
     → InstanceStandsFor g name past i → AreEvents [] (declared_events past) → index < length (declared_events past)
     → event ≡ get_or (declared_events past) index event
-    → triggers.own.now.trigger ≡ get_or i.triggers index None → triggers.own.now.hists ≡ get_or i.hists index []
+    → triggers.own.now.triggers.snapshot ≡ get_or i.triggers index None → triggers.own.now.triggers.hists ≡ get_or i.hists index []
     → all_hists triggers.all.now ≡ i.hists → triggers.event ≡ index → AreKept name past event triggers
 kept-at g name past i index event triggers stands distinct inside at snapshot hists all place = record {
   id = suc index;
@@ -300,9 +295,7 @@ kept-at g name past i index event triggers stands distinct inside at snapshot hi
       ∙ ap (λ (n : List ℕ). event_named n past) (sym (name-at_place (declared_events past) index no_event inside))
       ∙ found-event past index distinct inside
       ∙ ap (λ (e : Definition). (let k : Option NumberedEvent = Some (record { id = suc index; event = e }) in k)) (sym here);
-  snapshot = snapshot ∙ ap (λ (ts : List (Option Trigger)). get_or ts index None) stands.triggers
-      ∙ get_or-map (kept_trigger name past) (declared_events past) index no_event None inside
-      ∙ ap (kept_trigger name past) (sym (at-index past index event inside at));
+  snapshot = snapshot ∙ snapshot-there g name past i index stands inside ∙ ap (kept_trigger name past) (sym (at-index past index event inside at));
   hists = hists ∙ kept-there g name past i index stands inside ∙ ap (kept_hists name past) (sym (at-index past index event inside at));
   all = all ∙ stands.hists;
   index = subst (λ (k : ℕ). IsIndexOf (declared_events past) event.name k event) (sym place)

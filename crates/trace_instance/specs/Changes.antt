@@ -1,6 +1,6 @@
 -- What a request that is done changes of one instance.
-use Rattle.std.specs.Prelude.{◌≡◌, ℕ, ◌<◌, min, slice_index_or, slice_set, replicate, Bool, true, false, List, [], ◌∷◌, ◌++◌, length, map, Option, Some, None, option_map, if◌then◌else◌, ◌==◌, ⊤}
-use Rattle.std.specs.List.{Contains, remove}
+use Rattle.std.specs.Prelude.{◌≡◌, ℕ, ◌+◌, ◌<◌, min, slice_index_or, slice_set, replicate, Bool, true, false, List, [], ◌∷◌, ◌++◌, length, map, All, Option, Some, None, is_some, IfSome, option_map, if◌then◌else◌, ◌==◌, ⊤}
+use Rattle.std.specs.List.{Contains}
 use Rattle.page_ring.specs.Events.{Event}
 use Rattle.trace_buffer.specs.Buffers as buffers
 use Rattle.trace_buffer.specs.Families.{with_cleared, all_cleared, cpu_readings}
@@ -18,7 +18,7 @@ use Rattle.trace_snapshot.specs.Sides as snapshot
 use Rattle.trace_snapshot.specs.Sides.{SideFamilies, exchanged, spare_cleared, with_spare, without_spare}
 use Rattle.trace_history.specs.Settings.{can_take, declared_events, is_enabled, is_tracing, kept_filter, overwrites}
 use Rattle.trace_instance.specs.Instances.{InstanceSeen, IsShaped, IsSpared, TablesFit, WereOffered, kept_trigger, side_families}
-use Rattle.trace_instance.specs.KeptHists.{KeptTable, asked_if, is_used, kept_at, kept_hists, kept_table}
+use Rattle.trace_instance.specs.KeptHists.{KeptTable, asked_if, is_used, kept_at, kept_hists, kept_table, without_same}
 use Rattle.trace_instance.specs.declared.hists.AttachedHist.{AttachedHist}
 use Rattle.trace_instance.specs.declared.trigger.Trigger.{Trigger}
 use Rattle.trace_instance.specs.declared.change.InstanceChange.{InstanceChange}
@@ -75,7 +75,7 @@ triggers_after change triggers = triggers
 abbrev pub hists_changed : TriggerChange → List AttachedHist → List AttachedHist
 hists_changed (AttachHist attached) hists = hists ++ attached.value ∷ []
 hists_changed (MakeHist made) hists = hists ++ made.value.attached ∷ []
-hists_changed (DetachHist index) hists = remove hists index
+hists_changed (DetachHist spec) hists = without_same spec hists
 hists_changed change hists = hists
 
 -- those of each event
@@ -133,12 +133,18 @@ sides_changed cpus pages page_bytes FreeSpare f = without_spare f
 sides_changed cpus pages page_bytes ClearSpare f = spare_cleared f
 sides_changed cpus pages page_bytes change f = record { live = rings_changed pages page_bytes change f.live; spare = f.spare }
 
--- a change of an event's triggers can be made where so many hist triggers are left: the one that it names is one of them, or there is room for one more
-abbrev pub IsPossible : TriggerChange → ℕ → Type 0
-IsPossible (AttachHist attached) many = many < 4
-IsPossible (MakeHist made) many = many < 4
-IsPossible (DetachHist index) many = index < many
-IsPossible change many = ⊤
+-- a trigger with this number can be attached where these are left: there is room for it, and they were attached before
+pub record IsNewest (number : ℕ) (trigger : Option Trigger) (hists : List AttachedHist) : Type 0 where
+  pub few : length hists + (if is_some trigger then 1 else 0) < 4
+  pub after_snapshot : IfSome trigger (λ t. t.number < number)
+  pub after_hists : All (λ a. a.number < number) hists
+
+-- a change of an event's triggers can be made where these are left
+abbrev pub IsPossible : TriggerChange → Option Trigger → List AttachedHist → Type 0
+IsPossible (Attach new) trigger hists = (trigger ≡ None) × IsNewest new.number trigger hists
+IsPossible (AttachHist attached) trigger hists = IsNewest attached.value.number trigger hists
+IsPossible (MakeHist made) trigger hists = IsNewest made.value.attached.number trigger hists
+IsPossible change trigger hists = ⊤
 
 -- a change can be made: what it names is there
 abbrev pub IsLawful : InstanceSeen → InstanceChange → Type 0
@@ -146,7 +152,7 @@ IsLawful i (Switch index flag) = index < length i.enabled
 IsLawful i (SetFilter index new) = index < length i.filters
 IsLawful i (SetFilters changes) = length changes.items ≡ length i.filters
 IsLawful i (Triggers index append change) = (index < length i.triggers) × (index < length i.hists)
-    × IsPossible change (length (if append then slice_index_or i.hists index [] else []))
+    × IsPossible change (slice_index_or i.triggers index None) (if append then slice_index_or i.hists index [] else [])
 IsLawful i (ClearCpu cpu) = cpu < buffers.cpus i.sides.live
 IsLawful i (TakeCpu cpu limit) = cpu < buffers.cpus i.sides.live
 IsLawful i change = ⊤

@@ -1,5 +1,5 @@
 -- When an emission can be delivered to an instance, and what it does there.
-use Rattle.std.specs.Prelude.{◌≡◌, ℕ, ◌+◌, ◌-◌, ◌<◌, ◌≤◌, Bool, true, if◌then◌else◌, List, [], ◌∷◌, length, slice_index_or, slice_set, All, is_some, Option, Some, None}
+use Rattle.std.specs.Prelude.{◌≡◌, ℕ, ◌+◌, ◌-◌, ◌<◌, ◌≤◌, Bool, true, if◌then◌else◌, List, [], ◌∷◌, length, slice_index_or, slice_set, All, is_some, Option, None}
 use Rattle.std.specs.List.{AllByRecursion, Any}
 use Rattle.std.specs.Option.{option_map}
 use Rattle.trace_record.specs.Record.{IsRecord}
@@ -21,9 +21,11 @@ use Rattle.trace_instance.specs.declared.trigger.Trigger.{Trigger}
 -- ---- what it does there
 
 -- a trigger that acted acts once less
+abbrev pub acted_once : Trigger → Trigger
+acted_once t = record { number = t.number; left = option_map (λ times. times - 1) t.left; filter = t.filter }
+
 abbrev pub counted_down : Option Trigger → Option Trigger
-counted_down None = None
-counted_down (Some t) = Some (record { number = t.number; left = option_map (λ times. times - 1) t.left; filter = t.filter })
+counted_down trigger = option_map acted_once trigger
 
 -- the live side's rings after an emission: with its record, if it is written here
 abbrev pub recorded_in : Bool → Bool → ℕ → List ℕ → List (List ring.Event) → List (List ring.Event)

@@ -1,6 +1,6 @@
 -- Hist triggers and their tables as an instance keeps them: what of them agrees with the requests, and what is done to them.
-use Rattle.std.specs.Prelude.{◌≡◌, ℕ, ◌+◌, ◌==◌, ◌<◌, ◌≤◌, zero, suc, Bool, true, false, ◌&&◌, if◌then◌else◌, List, [], ◌∷◌, ◌++◌, length, map, slice_index_or, Option, Some, None, option_map, IfSome, ⊤}
-use Rattle.std.specs.List.{flat_map, list_any}
+use Rattle.std.specs.Prelude.{◌≡◌, ℕ, ◌+◌, ◌==◌, ◌<◌, ◌≤◌, zero, suc, Bool, true, false, not, ◌&&◌, if◌then◌else◌, List, [], ◌∷◌, ◌++◌, length, map, slice_index_or, Option, Some, None, option_map, IfSome, ⊤}
+use Rattle.std.specs.List.{filter, flat_map, list_any}
 use Rattle.trace_format.specs.Operands.{Emission}
 use Rattle.trace_format.specs.Definitions.{Definition}
 use Rattle.trace_hist.specs.Groups.{Table as Entries, grouped}
@@ -21,6 +21,10 @@ use Rattle.trace_instance.specs.declared.tables.Table.{Table}
 
 abbrev pub says_same : SpecSeen → AttachedHist → Bool
 says_same spec attached = is_same spec attached.spec
+
+-- those of them that say something else
+abbrev pub without_same : SpecSeen → List AttachedHist → List AttachedHist
+without_same spec hists = filter (λ (a : AttachedHist). not (says_same spec a)) hists
 
 -- a hist trigger as the requests have it
 abbrev pub attached_as : HistTrigger → AttachedHist

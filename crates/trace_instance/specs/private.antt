@@ -3,4 +3,5 @@ pub mod Attaching
 pub mod Commands
 pub mod Tables
 pub mod SharedTables
+pub mod TriggerLists
 pub mod EventLists

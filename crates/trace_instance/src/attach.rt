@@ -1,12 +1,11 @@
 //! Trigger strings: the change that a string written to an event's `trigger` file makes (events.rst, "Event triggers"; histogram.rst, "hist
 //! triggers").
 
-ghost use Rattle.std.specs.Prelude.{◌≡◌, ◌≢◌, ◌<◌, ◌≤◌, false, if◌then◌else◌, [], length, position, slice_index_or, None, Ok, option_copied, OnOk, IfErr};
+ghost use Rattle.std.specs.Prelude.{◌≡◌, ◌≢◌, ◌<◌, ◌≤◌, false, [], length, slice_index_or, None, Ok, option_copied, OnOk, IfErr};
 ghost use Rattle.trace_trigger.specs.TriggerTexts.{HasFilter, is_hist_text, said_of};
 ghost use Rattle.trace_instance.specs.private.Attaching as attaching;
 ghost use Rattle.trace_instance.specs.private.EventLists.{all_hists};
 ghost use Rattle.trace_instance.specs.private.SharedTables as sharing;
-ghost use Rattle.trace_instance.specs.KeptHists.{says_same};
 ghost use Rattle.trace_trigger.specs.declared.trigger.TriggerText.TheVariants as said;
 
 use crate::change::{NewHist, TriggerChange};
@@ -34,8 +33,8 @@ impl<'a> EventTriggers<'a> {
     /// The triggers of the event at this index.
     pub(crate) fn of(instance: &'a Instance, event: usize) -> EventTriggers<'a>
         requires { event < length instance.now.hists }
-        ensures snapshot { result.own.now.trigger ≡ slice_index_or instance.now.triggers event None }
-        ensures hists { result.own.now.hists ≡ slice_index_or instance.now.hists event [] }
+        ensures snapshot { result.own.now.triggers.snapshot ≡ slice_index_or instance.now.triggers event None }
+        ensures hists { result.own.now.triggers.hists ≡ slice_index_or instance.now.hists event [] }
         ensures all { all_hists result.all.now ≡ instance.now.hists }
         ensures event { result.event ≡ event }
     {
@@ -60,10 +59,12 @@ impl<'a> EventTriggers<'a> {
         match TriggerText::parse(alloc, written.text, event)? {
             TriggerText::Nothing => Ok(TriggerChange::Keep),
             TriggerText::Attach(trigger) => self.attached(written, trigger),
-            TriggerText::Remove if self.own.trigger.is_some() => Ok(TriggerChange::Detach),
+            TriggerText::Remove if self.own.triggers.snapshot().is_some() => Ok(
+                TriggerChange::Detach,
+            ),
             TriggerText::Remove => Err(Refusal::NoSuchTrigger),
             TriggerText::Hist(spec) => self.asked(alloc, event, written, spec),
-            TriggerText::RemoveHist(spec) => self.removed(written, &spec),
+            TriggerText::RemoveHist(spec) => self.removed(written, spec),
         }
     }
 
@@ -76,7 +77,7 @@ impl<'a> EventTriggers<'a> {
         ensures change { attaching.IsAttached trigger self.entry written.entry result }
         ensures memory { IfErr result (λ r. r ≢ Refusal.Memory) }
     {
-        if self.own.trigger.is_some() {
+        if self.own.triggers.snapshot().is_some() {
             return Err(Refusal::TriggerExists);
         }
         self.check_room(written.append)?;
@@ -94,8 +95,8 @@ impl<'a> EventTriggers<'a> {
         requires said { said_of event.now written.text.now ≡ Ok (said.Hist spec) }
         ensures { attaching.IsAsked spec event.now self.entry written.entry result }
     {
-        if let Some(index) = self.position(written.append, &spec) {
-            return asked_again(self.own.hists.as_slice()[index].table, spec.action());
+        if let Some(hist) = self.matching(written.append, &spec) {
+            return asked_again(hist.table, spec.action());
         }
         if !attaches(spec.action()) {
             return Err(Refusal::NoSuchTrigger);
@@ -113,7 +114,7 @@ impl<'a> EventTriggers<'a> {
     {
         for i in 0..self.all.len() {
             if append || i != self.event {
-                let named = self.all[i].hists.named_by(spec);
+                let named = self.all[i].triggers.named_by(spec);
                 if named.is_some() {
                     return named;
                 }
@@ -122,26 +123,23 @@ impl<'a> EventTriggers<'a> {
         None
     }
 
-    // Removes the matching hist trigger. With `>` there is nothing more to do, since it removes all of the event's hist triggers.
-    fn removed(self, written: WrittenText<'_>, spec: &HistSpec) -> Result<TriggerChange, Refusal>
-        ensures change { attaching.IsRemovedHist spec.now self.entry written.entry result }
+    // Removes the matching hist trigger. With `>` there may be none, since that removes all of the event's hist triggers.
+    fn removed(self, written: WrittenText<'_>, spec: HistSpec) -> Result<TriggerChange, Refusal>
+        ensures change { attaching.IsRemovedHist spec self.entry written.entry result }
         ensures memory { IfErr result (λ r. r ≢ Refusal.Memory) }
     {
-        if !written.append {
-            return Ok(TriggerChange::Keep);
+        if written.append && self.own.triggers.matching(&spec).is_none() {
+            return Err(Refusal::NoSuchTrigger);
         }
-        match self.own.hists.position(spec) {
-            Some(index) => Ok(TriggerChange::DetachHist(index)),
-            None => Err(Refusal::NoSuchTrigger),
-        }
+        Ok(TriggerChange::DetachHist(spec))
     }
 
-    // The index of the matching hist trigger, among those that remain.
-    fn position(self, append: bool, spec: &HistSpec) -> Option<usize>
-        ensures { result ≡ (if append then position (says_same spec.now) self.entry.own.now.hists else None) }
+    // The matching hist trigger, among those that remain.
+    fn matching(self, append: bool, spec: &HistSpec) -> Option<&'a AttachedHist>
+        ensures { option_copied result ≡ attaching.same_left spec.now self.entry append }
     {
         if append {
-            self.own.hists.position(spec)
+            self.own.triggers.matching(spec)
         } else {
             None
         }
@@ -152,13 +150,7 @@ impl<'a> EventTriggers<'a> {
         ensures room { OnOk result (attaching.kept_count self.entry append < 4) }
         ensures full { IfErr result (λ refusal. (refusal ≡ Refusal.TooMany) × (4 ≤ attaching.kept_count self.entry append)) }
     {
-        let hists = if append {
-            self.own.hists.as_slice().len()
-        } else {
-            0
-        };
-        let snapshots = if self.own.trigger.is_some() { 1 } else { 0 };
-        if hists + snapshots < MOST_TRIGGERS {
+        if self.own.triggers.count(append) < MOST_TRIGGERS {
             Ok(())
         } else {
             Err(Refusal::TooMany)

@@ -9,7 +9,7 @@ use std::alloc::Global;
 use trace_buffer::CPUS;
 use trace_filter::Filter;
 use trace_format::Row;
-use trace_hist::{Action, Hist};
+use trace_hist::{Action, Hist, HistSpec};
 
 /// The most instances that there may be, counting the top one.
 pub const INSTANCES: usize = 8;
@@ -62,8 +62,8 @@ pub enum TriggerChange {
     AttachHist(Box<AttachedHist>),
     /// Attaches a hist trigger with a table of its own.
     MakeHist(Box<NewHist>),
-    /// Removes the matching hist trigger, which has this index. Only for `>>`, since `>` leaves none.
-    DetachHist(usize),
+    /// Removes the hist trigger that matches.
+    DetachHist(HistSpec),
     /// Applies an action to the table with this number, that of the matching hist trigger.
     AskTable(u64, Action),
 }

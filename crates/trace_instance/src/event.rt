@@ -1,40 +1,36 @@
 //! What an instance keeps of an event: a kernel's `struct trace_event_file`.
 
-ghost use Rattle.std.specs.Prelude.{◌≡◌, ◌&&◌, if◌then◌else◌, false, not, None, is_some, [], length};
+ghost use Rattle.std.specs.Prelude.{◌≡◌, ◌&&◌, false, not, None, is_some, [], length};
 ghost use Rattle.std.specs.List.{list_all, list_any};
-ghost use Rattle.trace_instance.specs.Deliveries.{counted_down};
 ghost use Rattle.trace_instance.specs.KeptHists.{uses_table};
 ghost use Rattle.trace_instance.specs.Rows.{kept_acts, kept_holds};
 ghost use Rattle.trace_instance.specs.private.EventLists.{with_filters};
 ghost use Rattle.trace_instance.specs.declared.event.InstanceEvent.{InstanceEvent as Kept};
 
 use crate::change::FilterChange;
-use crate::hists::EventHists;
-use crate::trigger::{Trigger, passes};
+use crate::trigger::passes;
+use crate::trigger_list::TriggerList;
 use std::alloc::Global;
 use trace_filter::Filter;
 use trace_format::Row;
 
-/// An event in an instance: whether it is enabled, its filter, its snapshot trigger and its hist triggers. An emission reads one of these in each
-/// instance.
+/// An event in an instance: whether it is enabled, its filter and its triggers. An emission reads one of these in each instance.
 #[derive(Drop)]
 pub(crate) struct InstanceEvent {
     pub(crate) enabled: bool,
     pub(crate) filter: Option<Filter>,
-    pub(crate) trigger: Option<Trigger>,
-    pub(crate) hists: EventHists,
+    pub(crate) triggers: TriggerList,
 }
 
 impl InstanceEvent {
     /// An event as it is declared: disabled, without filter or triggers.
     pub(crate) fn new(alloc: Global) -> InstanceEvent
-        ensures { result ≡ record { enabled = false; filter = None; trigger = None; hists = [] } }
+        ensures { result ≡ record { enabled = false; filter = None; triggers = record { snapshot = None; hists = []; room = 0 } } }
     {
         InstanceEvent {
             enabled: false,
             filter: None,
-            trigger: None,
-            hists: EventHists::new(alloc),
+            triggers: TriggerList::new(alloc),
         }
     }
 
@@ -49,29 +45,12 @@ impl InstanceEvent {
     /// Whether an emission makes the snapshot trigger act.
     #[inline(always)]
     pub(crate) fn fires(&self, row: &Row, cpu: u32, pid: i32) -> bool
-        ensures { result ≡ kept_acts self.now.trigger row.now cpu pid }
+        ensures { result ≡ kept_acts self.now.triggers.snapshot row.now cpu pid }
     {
-        match &self.trigger {
+        match self.triggers.snapshot() {
             Some(trigger) => trigger.acts(row, cpu, pid),
             None => false,
         }
-    }
-
-    /// Counts the snapshot trigger down after it acted.
-    pub(crate) fn count_down(&mut self)
-        ensures { self.new ≡ record self.old { trigger = counted_down self.old.trigger } }
-    {
-        if let Some(trigger) = &mut self.trigger {
-            trigger.count_down();
-        }
-    }
-
-    /// Sets or removes the snapshot trigger, and removes the hist triggers unless the string is appended.
-    pub(crate) fn set_trigger(&mut self, append: bool, trigger: Option<Trigger>)
-        ensures { self.new ≡ record self.old { trigger = trigger; hists = (if append then self.old.hists else []) } }
-    {
-        self.hists.keep(append);
-        self.trigger = trigger;
     }
 }
 
@@ -91,16 +70,18 @@ pub(crate) fn some_off(events: &[InstanceEvent]) -> bool
 
 /// Whether any event has a snapshot trigger.
 pub(crate) fn has_trigger(events: &[InstanceEvent]) -> bool
-    ensures { result ≡ list_any (λ (e : Kept). is_some e.trigger) events.now }
+    ensures { result ≡ list_any (λ (e : Kept). is_some e.triggers.snapshot) events.now }
 {
-    events.iter().any(|event| event.trigger.is_some())
+    events
+        .iter()
+        .any(|event| event.triggers.snapshot().is_some())
 }
 
 /// Whether any hist trigger counts in the table with this number.
 pub(crate) fn is_used(events: &[InstanceEvent], table: u64) -> bool
-    ensures { result ≡ list_any (λ (e : Kept). uses_table table e.hists) events.now }
+    ensures { result ≡ list_any (λ (e : Kept). uses_table table e.triggers.hists) events.now }
 {
-    events.iter().any(|event| event.hists.uses(table))
+    events.iter().any(|event| event.triggers.uses(table))
 }
 
 /// Changes each event's filter.

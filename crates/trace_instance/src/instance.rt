@@ -18,6 +18,7 @@ use crate::change::{InstanceChange, NewHist, TriggerChange};
 use crate::event::InstanceEvent;
 use crate::hists::AttachedHist;
 use crate::tables::Table;
+use crate::trigger::{EventTrigger, Trigger};
 use crate::{event, tables};
 use page_ring::RingStats;
 use std::alloc::{AllocError, Global};
@@ -112,8 +113,8 @@ impl Instance {
         requires { event < length self.now.hists }
         ensures enabled { result.now.enabled ≡ slice_index_or self.now.enabled event false }
         ensures filter { result.now.filter ≡ slice_index_or self.now.filters event None }
-        ensures trigger { result.now.trigger ≡ slice_index_or self.now.triggers event None }
-        ensures hists { result.now.hists ≡ slice_index_or self.now.hists event [] }
+        ensures snapshot { result.now.triggers.snapshot ≡ slice_index_or self.now.triggers event None }
+        ensures hists { result.now.triggers.hists ≡ slice_index_or self.now.hists event [] }
     {
         &self.events[event]
     }
@@ -211,7 +212,7 @@ impl Instance {
         self.events.push_reserved(InstanceEvent::new(self.alloc));
     }
 
-    /// Applies a change. Fails only if memory for a spare side or a hist trigger is refused, and then changes nothing.
+    /// Applies a change. Fails only if memory for a spare side or a trigger is refused, and then changes nothing.
     pub fn apply(&mut self, change: InstanceChange) -> Result<(), AllocError>
         requires { changes.IsLawful self.old change }
         ensures applied { OnOk result (changes.IsApplied change self.old self.new) }
@@ -290,25 +291,39 @@ impl Instance {
     ) -> Result<(), AllocError>
         requires triggers { event < length self.old.triggers }
         requires hists { event < length self.old.hists }
-        requires possible { changes.IsPossible change (length (if append then slice_index_or self.old.hists event [] else [])) }
+        requires possible { changes.IsPossible change (slice_index_or self.old.triggers event None) (if append then slice_index_or self.old.hists event [] else []) }
         ensures applied { OnOk result (AreSet event append change self.old self.new) }
         ensures refused { OnErr result (self.new ≡ self.old) }
     {
         match change {
-            TriggerChange::Keep => self.events[event].hists.keep(append),
-            TriggerChange::Attach(trigger) => {
-                self.sides.arm()?;
-                self.events[event].set_trigger(append, Some(trigger));
-            }
-            TriggerChange::Detach => self.events[event].set_trigger(append, None),
+            TriggerChange::Keep => self.events[event].triggers.keep(append),
+            TriggerChange::Attach(trigger) => self.arm(event, append, trigger)?,
+            TriggerChange::Detach => self.events[event].triggers.detach(append),
             TriggerChange::AttachHist(attached) => self.join(event, append, attached)?,
             TriggerChange::MakeHist(made) => self.make(event, append, made)?,
-            TriggerChange::DetachHist(index) => self.events[event].hists.remove(index),
+            TriggerChange::DetachHist(spec) => {
+                self.events[event].triggers.detach_hist(append, &spec);
+            }
             TriggerChange::AskTable(table, action) => {
-                self.events[event].hists.keep(append);
+                self.events[event].triggers.keep(append);
                 tables::ask(&mut self.tables, table, action);
             }
         }
+        Ok(())
+    }
+
+    // Attaches a snapshot trigger, making a spare side if there is none.
+    fn arm(&mut self, event: usize, append: bool, trigger: Trigger) -> Result<(), AllocError>
+        requires triggers { event < length self.old.triggers }
+        requires hists { event < length self.old.hists }
+        requires possible { changes.IsPossible (attaching.Attach trigger) (slice_index_or self.old.triggers event None) (if append then slice_index_or self.old.hists event [] else []) }
+        ensures armed { OnOk result (AreSet event append (attaching.Attach trigger) self.old self.new) }
+        ensures refused { OnErr result (self.new ≡ self.old) }
+    {
+        let triggers = &mut self.events[event].triggers;
+        triggers.reserve_one()?;
+        self.sides.arm()?;
+        triggers.attach(append, EventTrigger::Snapshot(trigger));
         Ok(())
     }
 
@@ -319,31 +334,35 @@ impl Instance {
         append: bool,
         attached: Box<AttachedHist>,
     ) -> Result<(), AllocError>
+        requires triggers { event < length self.old.triggers }
         requires hists { event < length self.old.hists }
-        requires few { length (if append then slice_index_or self.old.hists event [] else []) < 4 }
+        requires possible { changes.IsPossible (attaching.AttachHist attached) (slice_index_or self.old.triggers event None) (if append then slice_index_or self.old.hists event [] else []) }
         ensures joined { OnOk result (AreSet event append (attaching.AttachHist attached) self.old self.new) }
         ensures refused { OnErr result (self.new ≡ self.old) }
     {
         let table = attached.table;
         let action = attached.spec.action();
-        self.events[event]
-            .hists
-            .attach(append, Box::into_inner(attached))?;
+        let triggers = &mut self.events[event].triggers;
+        triggers.reserve_one()?;
+        triggers.attach(append, EventTrigger::Hist(Box::into_inner(attached)));
         tables::ask(&mut self.tables, table, action);
         Ok(())
     }
 
     // Attaches a hist trigger with a table of its own.
     fn make(&mut self, event: usize, append: bool, made: Box<NewHist>) -> Result<(), AllocError>
+        requires triggers { event < length self.old.triggers }
         requires hists { event < length self.old.hists }
-        requires few { length (if append then slice_index_or self.old.hists event [] else []) < 4 }
+        requires possible { changes.IsPossible (attaching.MakeHist made) (slice_index_or self.old.triggers event None) (if append then slice_index_or self.old.hists event [] else []) }
         ensures made { OnOk result (AreSet event append (attaching.MakeHist made) self.old self.new) }
         ensures refused { OnErr result (self.new ≡ self.old) }
     {
         self.tables.reserve(1)?;
+        let triggers = &mut self.events[event].triggers;
+        triggers.reserve_one()?;
         let NewHist { attached, hist } = Box::into_inner(made);
         let number = attached.table;
-        self.events[event].hists.attach(append, attached)?;
+        triggers.attach(append, EventTrigger::Hist(attached));
         self.tables.insert(0, Table { number, hist }).unwrap();
         Ok(())
     }

@@ -9,10 +9,10 @@ mod hists;
 mod instance;
 mod plan;
 mod read;
-mod shown;
 mod tables;
 mod text;
 mod trigger;
+mod trigger_list;
 mod waiting;
 mod write;
 

@@ -21,9 +21,9 @@ pub enum Plan {
 impl InstanceEvent {
     /// What an emission does, in an instance that is recording or not.
     pub(crate) fn plan(&self, tracing: bool) -> Plan
-        ensures { result ≡ plans.planned (tracing && self.now.enabled) self.now.filter (is_some self.now.trigger) self.now.hists }
+        ensures { result ≡ plans.planned (tracing && self.now.enabled) self.now.filter (is_some self.now.triggers.snapshot) self.now.triggers.hists }
     {
-        if self.trigger.is_some() || !self.hists.as_slice().is_empty() {
+        if !self.triggers.is_empty() {
             return Plan::Ask;
         }
         match (tracing && self.enabled, &self.filter) {

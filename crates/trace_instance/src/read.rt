@@ -15,13 +15,13 @@ ghost use Rattle.record_text.specs.FormatText as texts;
 ghost use Rattle.trace_text.specs.TriggerText.{trigger_text as trigger_text_of};
 ghost use Rattle.trace_text.specs.HistText.{hist_text as hist_text_of};
 ghost use Rattle.trace_instance.specs.FileAnswers.{AreThere, HasAll, IsRead, IsReadable, IsSource};
-ghost use Rattle.trace_instance.specs.private.Commands.{kept_in_order, shown_attached};
+ghost use Rattle.trace_instance.specs.private.Commands.{shown_attached, shown_of};
+ghost use Rattle.trace_instance.specs.private.TriggerLists.{in_order};
 ghost use Rattle.trace_instance.specs.Files.{IsThere, file_at, name_at};
 
 use crate::change::InstanceChange;
 use crate::file::{File, event_at};
 use crate::instance::Instance;
-use crate::shown::{shown_hists, shown_in_order};
 use crate::text::{filter_text, flag_text, mixture_text, option_text, push_declarations};
 use record_text::{format_text, pipe_text, snapshot_text, stats_text, trace_text};
 use std::alloc::{AllocError, Global};
@@ -202,16 +202,11 @@ fn triggers(alloc: Global, instance: &Instance, event: usize) -> Result<Text, Al
     requires triggers { event < length instance.now.triggers }
     requires hists { event < length instance.now.hists }
     requires tables { AreThere instance.now.tables (slice_index_or instance.now.hists event []) }
-    ensures { IfOk result (λ text. text ≡ trigger_text_of (kept_in_order instance.now.tables
-        (slice_index_or instance.now.triggers event None) (slice_index_or instance.now.hists event []))) }
+    ensures { IfOk result (λ text. text ≡ trigger_text_of (map (shown_of instance.now.tables)
+        (in_order (slice_index_or instance.now.triggers event None) (slice_index_or instance.now.hists event [])))) }
 {
     let kept = instance.event(event);
-    let shown = shown_in_order(
-        alloc,
-        kept.trigger.as_ref(),
-        instance.tables(),
-        kept.hists.as_slice(),
-    )?;
+    let shown = kept.triggers.shown(alloc, instance.tables())?;
     let mut out = Vec::new(alloc);
     trigger_text(alloc, &shown, &mut out)?;
     Ok(Text::from(out))
@@ -224,11 +219,8 @@ fn histograms(alloc: Global, instance: &Instance, event: usize) -> Result<Text, 
     ensures { IfOk result (λ text. text
         ≡ hist_text_of (map (shown_attached instance.now.tables) (slice_index_or instance.now.hists event []))) }
 {
-    let shown = shown_hists(
-        alloc,
-        instance.tables(),
-        instance.event(event).hists.as_slice(),
-    )?;
+    let kept = instance.event(event);
+    let shown = kept.triggers.shown(alloc, instance.tables())?;
     let mut out = Vec::new(alloc);
     hist_text(alloc, &shown, &mut out)?;
     Ok(Text::from(out))

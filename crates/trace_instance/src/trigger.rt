@@ -1,12 +1,16 @@
-//! Triggers as an instance keeps them (events.rst, "Event triggers").
+//! A trigger as an instance keeps it (events.rst, "Event triggers").
 
-ghost use Rattle.std.specs.Prelude.{◌≡◌, ◌-◌, Some, option_copied};
+ghost use Rattle.std.specs.Prelude.{◌≡◌, Some, option_copied};
+ghost use Rattle.std.specs.Option.{option_and_then};
 ghost use Rattle.trace_history.specs.Triggers as triggers;
 ghost use Rattle.trace_instance.specs.Rows.{kept_acts, kept_holds};
-ghost use Rattle.trace_instance.specs.Deliveries.{counted_down};
-ghost use Rattle.trace_instance.specs.private.Commands.{shown_kept};
+ghost use Rattle.trace_instance.specs.Deliveries.{acted_once};
+ghost use Rattle.trace_instance.specs.private.Commands.{shown_kept, shown_of};
+ghost use Rattle.trace_instance.specs.private.TriggerLists as lists;
 ghost use Rattle.trace_text.specs.ShownTriggers.{shown_trigger};
 
+use crate::hists::AttachedHist;
+use crate::tables::Table;
 use trace_filter::Filter;
 use trace_format::Row;
 use trace_text::Shown;
@@ -52,10 +56,65 @@ impl Trigger {
 
     /// Counts down after the trigger acted.
     pub(crate) fn count_down(&mut self)
-        ensures { Some self.new ≡ counted_down (Some self.old) }
+        ensures { self.new ≡ acted_once self.old }
     {
         if let Some(left) = self.left {
             self.left = Some(left.saturating_sub(1));
+        }
+    }
+}
+
+/// A trigger of either kind.
+#[derive(Drop)]
+pub(crate) enum EventTrigger {
+    Snapshot(Trigger),
+    Hist(AttachedHist),
+}
+
+impl EventTrigger {
+    /// The snapshot trigger, if one was found.
+    pub(crate) fn snapshot(found: Option<&EventTrigger>) -> Option<&Trigger>
+        ensures { option_copied result ≡ option_and_then lists.snapshot_of (option_copied found.entry) }
+    {
+        match found {
+            Some(EventTrigger::Snapshot(snapshot)) => Some(snapshot),
+            _ => None,
+        }
+    }
+
+    /// The hist trigger, if one was found.
+    pub(crate) fn hist(found: Option<&EventTrigger>) -> Option<&AttachedHist>
+        ensures { option_copied result ≡ option_and_then lists.hist_of (option_copied found.entry) }
+    {
+        match found {
+            Some(EventTrigger::Hist(hist)) => Some(hist),
+            _ => None,
+        }
+    }
+
+    pub(crate) fn is_snapshot(&self) -> bool
+        ensures { result ≡ lists.is_snapshot self.now }
+    {
+        matches!(self, EventTrigger::Snapshot(_))
+    }
+
+    /// The trigger, with its table if it has one, as the event's files show it.
+    pub(crate) fn shown<'a>(&'a self, tables: &'a [Table]) -> Shown<'a>
+        requires { lists.HasTable tables.now self.now }
+        ensures { shown_trigger result ≡ shown_of tables.now self.now }
+    {
+        match self {
+            EventTrigger::Snapshot(snapshot) => snapshot.shown(),
+            EventTrigger::Hist(hist) => hist.shown(tables),
+        }
+    }
+
+    /// Counts a snapshot trigger down after it acted.
+    pub(crate) fn count_down(&mut self)
+        ensures { self.new ≡ lists.counted self.old }
+    {
+        if let EventTrigger::Snapshot(snapshot) = self {
+            snapshot.count_down();
         }
     }
 }

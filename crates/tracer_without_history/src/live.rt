@@ -11,7 +11,7 @@
 //!             counts     the command is done            the command is done
 //! ```
 //!
-//! `carry_out` can be refused memory only for a spare side, a hist trigger and its table, an event or an instance, and it allocates all of that
+//! `carry_out` can be refused memory only for a spare side, a trigger and its table, an event or an instance, and it allocates all of that
 //! before it changes anything. Nothing is ever undone. The two phases pass on data (a `Change`; the `Delivery` that the tracer keeps), so the second
 //! never looks at the command again: it makes a step of the state, and the first has shown that this is the step that the definitions give the command.
 //!

@@ -1,5 +1,6 @@
 -- What a trigger text changes of an event's triggers, by what an instance keeps of them.
 use Rattle.std.specs.Prelude.{◌≡◌, ℕ, ◌+◌, Bool, true, false, is_some, if◌then◌else◌, List, [], ◌∷◌, length, map, Option, Some, None, Result, Ok, Err}
+use Rattle.std.specs.List.{find}
 use Rattle.trace_format.specs.Catalogs.{AreEvents}
 use Rattle.trace_format.specs.Definitions.{Definition}
 use Rattle.trace_trigger.specs.HistSpecs.{SpecSeen}
@@ -22,7 +23,7 @@ use Rattle.trace_history.specs.Declarations.{IsIndexOf}
 use Rattle.trace_history.specs.Snapshots.{spare_armed}
 use Rattle.trace_instance.specs.Changes.{IsAsked as IsAskedOf, IsJoinedBy, IsPossible, asks_triggers, hists_changed, trigger_changed}
 use Rattle.trace_instance.specs.Instances.{TablesFit, kept_trigger}
-use Rattle.trace_instance.specs.KeptHists.{kept_hists}
+use Rattle.trace_instance.specs.KeptHists.{kept_hists, says_same}
 use Rattle.trace_trigger.specs.FittingSpecs.{is_fitting}
 use Rattle.trace_hist.specs.Hists.{StandsFor}
 use Rattle.trace_history.specs.HistTriggers.{is_pause}
@@ -37,8 +38,8 @@ use Rattle.trace_instance.specs.declared.write.WrittenText.{WrittenText}
 pub record AreKept (name : Option (List ℕ)) (past : List Request) (event : Definition) (triggers : EventTriggers) : Type 0 where
   pub id : ℕ
   pub named : event_named event.name past ≡ Some (record { id = id; event = event })
-  pub snapshot : triggers.own.now.trigger ≡ kept_trigger name past event
-  pub hists : triggers.own.now.hists ≡ kept_hists name past event
+  pub snapshot : triggers.own.now.triggers.snapshot ≡ kept_trigger name past event
+  pub hists : triggers.own.now.triggers.hists ≡ kept_hists name past event
   pub all : all_hists triggers.all.now ≡ map (kept_hists name past) (declared_events past)
   pub index : IsIndexOf (declared_events past) event.name triggers.event event
   pub distinct : AreEvents [] (declared_events past)
@@ -58,7 +59,7 @@ pub record IsTriggerEffect (name : Option (List ℕ)) (past : List Request) (eve
   pub snapshot : kept_trigger name (write_of name event written ∷ past) event ≡ trigger_changed change (kept_trigger name past event)
   pub hists : kept_hists name (write_of name event written ∷ past) event
       ≡ hists_changed change (if written.append then kept_hists name past event else [])
-  pub possible : IsPossible change (length (if written.append then kept_hists name past event else []))
+  pub possible : IsPossible change (kept_trigger name past event) (if written.append then kept_hists name past event else [])
   pub tables : (number : ℕ) → IsAskedOf name past (write_of name event written) (asks_triggers change number) number
   pub joined : IsJoinedBy name past change
   pub fitting : TablesFit name past → TablesFit name (write_of name event written ∷ past)
@@ -79,7 +80,11 @@ IsChangeOf event triggers written result =
 
 -- how many triggers there are, of those that `>` or `>>` leaves
 abbrev pub kept_count : EventTriggers → Bool → ℕ
-kept_count triggers append = (if append then length triggers.own.now.hists else 0) + (if is_some triggers.own.now.trigger then 1 else 0)
+kept_count triggers append = (if append then length triggers.own.now.triggers.hists else 0) + (if is_some triggers.own.now.triggers.snapshot then 1 else 0)
+
+-- the hist trigger that says the same, of those that `>` or `>>` leaves
+abbrev pub same_left : SpecSeen → EventTriggers → Bool → Option AttachedHist
+same_left spec triggers append = if append then find (says_same spec) triggers.own.now.triggers.hists else None
 
 -- what is changed by a text that says this
 abbrev pub IsSaidChange : TriggerText → EventTriggers → WrittenText → Result TriggerChange Refusal → Type 0

@@ -1,7 +1,6 @@
 -- Values and filters that are written, and triggers as their files show them.
-use Rattle.std.specs.Prelude.{◌≡◌, ℕ, ◌++◌, ◌∷◌, nat_lt, not, Bool, true, false, List, [], map, Option, Some, None, Result, Ok, Err, codes}
+use Rattle.std.specs.Prelude.{◌≡◌, ℕ, ◌++◌, Bool, false, List, [], Option, Some, None, Result, Ok, Err, codes}
 use Rattle.std.specs.Option.{option_map}
-use Rattle.std.specs.List.{filter}
 use Rattle.trace_filter.specs.Filters.{Parsed, parsed_of}
 use Rattle.trace_format.specs.Definitions.{Definition}
 use Rattle.trace_command.specs.Refusals.{IsRefusal}
@@ -15,6 +14,8 @@ use Rattle.trace_instance.specs.declared.hists.AttachedHist.{AttachedHist}
 use Rattle.trace_instance.specs.declared.tables.Table.{Table}
 use Rattle.trace_hist.specs.Groups.{grouped}
 use Rattle.trace_trigger.specs.HistSpecs.{SpecSeen}
+use Rattle.trace_instance.specs.declared.trigger.EventTrigger.{EventTrigger}
+use Rattle.trace_instance.specs.declared.trigger.EventTrigger.TheVariants.{Snapshot, Hist}
 use Rattle.trace_instance.specs.declared.trigger.Trigger.{Trigger}
 use Rattle.trace_text.specs.TriggerText as texts
 
@@ -46,14 +47,7 @@ shown_with spec (Some k) = record { spec = spec; rules = k.spec.sort_sources; pa
 abbrev pub shown_attached : List Table → AttachedHist → texts.Trigger
 shown_attached tables a = texts.Hist (shown_with a.spec (kept_at a.table tables))
 
--- whether one is of those that were attached before the request with a number, or of the others
-abbrev pub is_part : Bool → ℕ → AttachedHist → Bool
-is_part true number a = nat_lt a.number number
-is_part false number a = not (nat_lt a.number number)
-
--- triggers in the order in which they were attached
-abbrev pub kept_in_order : List Table → Option Trigger → List AttachedHist → List texts.Trigger
-kept_in_order tables None hists = map (shown_attached tables) hists
-kept_in_order tables (Some t) hists =
-    map (shown_attached tables) (filter (λ (a : AttachedHist). nat_lt a.number t.number) hists)
-    ++ shown_kept t ∷ map (shown_attached tables) (filter (λ (a : AttachedHist). not (nat_lt a.number t.number)) hists)
+-- a trigger of either kind, with these tables
+abbrev pub shown_of : List Table → EventTrigger → texts.Trigger
+shown_of tables (Snapshot t) = shown_kept t
+shown_of tables (Hist a) = shown_attached tables a

@@ -14,10 +14,10 @@ abbrev pub all_filters : List InstanceEvent → List (Option Parsed)
 all_filters events = map (λ (e : InstanceEvent). e.filter) events
 
 abbrev pub all_triggers : List InstanceEvent → List (Option Trigger)
-all_triggers events = map (λ (e : InstanceEvent). e.trigger) events
+all_triggers events = map (λ (e : InstanceEvent). e.triggers.snapshot) events
 
 abbrev pub all_hists : List InstanceEvent → List (List AttachedHist)
-all_hists events = map (λ (e : InstanceEvent). e.hists) events
+all_hists events = map (λ (e : InstanceEvent). e.triggers.hists) events
 
 -- the events after a change of each one's filter
 abbrev pub with_filters : List FilterChange → List InstanceEvent → List InstanceEvent

@@ -22,7 +22,7 @@ impl Instance {
         requires { event < length self.now.hists }
         ensures { result ≡ not (length (slice_index_or self.now.hists event []) == 0) }
     {
-        !self.events[event].hists.as_slice().is_empty()
+        self.events[event].triggers.has_hists()
     }
 
     /// What an emission of the event at this index does here, as far as the settings say it for every row. If there is no such event: nothing.
@@ -52,7 +52,7 @@ impl Instance {
         ensures memory { OnErr result (NeedsRowMemory (record { values = row.now.values; cpu = cpu; pid = pid }) event self.old) }
     {
         self.events[event]
-            .hists
+            .triggers
             .reserve(&mut self.tables, row, cpu, pid)
     }
 
@@ -133,7 +133,7 @@ impl Instance {
         requires few_rows { HasFewRows self.old }
         ensures { IsOffered delivery.now self.old self.new }
     {
-        self.events[delivery.event].hists.hit(
+        self.events[delivery.event].triggers.hit(
             &mut self.tables,
             passed,
             &delivery.row,
@@ -148,7 +148,7 @@ impl Instance {
         requires spare { is_some self.old.sides.spare ≡ true }
         ensures { IsExchanged event self.old self.new }
     {
-        self.events[event].count_down();
+        self.events[event].triggers.count_down();
         self.sides.swap_armed();
     }
 }

@@ -10,5 +10,5 @@ use Rattle.trace_instance.proofs.tables.keep_used.Goals as goal
 
 pub returns : goal.returns
 returns c = filter_same _ (λ (t : Table). is_used t.number (all_hists c.args.events.now)) _ (λ t b f called.
-    let told : b ≡ list_any (λ (e : InstanceEvent). uses_table t.number e.hists) c.args.events.now = search rules in
-    (told ∙ sym (any-map (uses_table t.number) (λ (e : InstanceEvent). e.hists) c.args.events.now), search rules)) _ _ c.retain.ensures.filtered
+    let told : b ≡ list_any (λ (e : InstanceEvent). uses_table t.number e.triggers.hists) c.args.events.now = search rules in
+    (told ∙ sym (any-map (uses_table t.number) (λ (e : InstanceEvent). e.triggers.hists) c.args.events.now), search rules)) _ _ c.retain.ensures.filtered

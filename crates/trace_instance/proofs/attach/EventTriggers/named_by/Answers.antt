@@ -13,10 +13,10 @@ returns-then-is_some c =
       | then-append-via-then-append w ↦ inl w.if-append.true
       | then-append-via-else-append+then-i-self w ↦ inr w.if-i-self.true
     ] in
-    let found : option_copied c.named_by-named.result ≡ find (names_table_of c.args.spec.now) one.hists =
-    c.named_by-named.ensures ∙ sym (ap (λ (e : InstanceEvent). find (names_table_of c.args.spec.now) e.hists) c.index-self-i.is) in
+    let found : option_copied c.named_by-named.result ≡ find (names_table_of c.args.spec.now) one.triggers.hists =
+    c.named_by-named.ensures ∙ sym (ap (λ (e : InstanceEvent). find (names_table_of c.args.spec.now) e.triggers.hists) c.index-self-i.is) in
     let is : is_some c.named_by-named.result ≡ true = search rules in
-    let some : is_some (find (names_table_of c.args.spec.now) one.hists) ≡ true =
+    let some : is_some (find (names_table_of c.args.spec.now) one.triggers.hists) ≡ true =
     ap is_some (sym found) ∙ copied-some c.named_by-named.result ∙ is in
     found
     ∙ sym (named-here c.args.spec.now c.args.self c.args.append c.loop-i.i one c.loop-i-test.true c.index-self-i.is which some)
@@ -30,10 +30,10 @@ loop-i-preserved c = elim c.if-append.branch [
         | then-append-via-then-append v ↦ inl v.if-append.true
         | then-append-via-else-append+then-i-self v ↦ inr v.if-i-self.true
       ] in
-      let found : option_copied w.named_by-named.result ≡ find (names_table_of c.args.spec.now) one.hists =
-      w.named_by-named.ensures ∙ sym (ap (λ (e : InstanceEvent). find (names_table_of c.args.spec.now) e.hists) w.index-self-i.is) in
+      let found : option_copied w.named_by-named.result ≡ find (names_table_of c.args.spec.now) one.triggers.hists =
+      w.named_by-named.ensures ∙ sym (ap (λ (e : InstanceEvent). find (names_table_of c.args.spec.now) e.triggers.hists) w.index-self-i.is) in
       let is : is_some w.named_by-named.result ≡ false = search rules in
-      let none : is_some (find (names_table_of c.args.spec.now) one.hists) ≡ false =
+      let none : is_some (find (names_table_of c.args.spec.now) one.triggers.hists) ≡ false =
       ap is_some (sym found) ∙ copied-some w.named_by-named.result ∙ is in
       sym (named-further c.args.spec.now c.args.self c.args.append c.loop-i.i one c.loop-i-test.true w.index-self-i.is which none)
       ∙ c.loop-i.invariant

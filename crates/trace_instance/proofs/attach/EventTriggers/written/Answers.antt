@@ -27,13 +27,13 @@ returns-in-Attach-clause-change c = λ name past number are.
 pub returns-in-Remove-clause-change : goal.returns-in-Remove-clause-change
 returns-in-Remove-clause-change c =
     let read : said_of c.args.event.now c.args.written.text.now ≡ Ok said.Remove = c.in_ok-parse.ensures.exact ∙ ap Ok c.in-Remove.is in
-    let some : is_some c.args.self.own.now.trigger ≡ true = search rules in
+    let some : is_some c.args.self.own.now.triggers.snapshot ≡ true = search rules in
     text-detaches c.args.event.now c.args.self c.args.written read some
 
 pub returns-in-Remove-2-clause-change : goal.returns-in-Remove-2-clause-change
 returns-in-Remove-2-clause-change c =
     let read : said_of c.args.event.now c.args.written.text.now ≡ Ok said.Remove = c.in_ok-parse.ensures.exact ∙ ap Ok c.in-Remove-2.is in
-    let none : is_some c.args.self.own.now.trigger ≡ false = search rules in
+    let none : is_some c.args.self.own.now.triggers.snapshot ≡ false = search rules in
     text-lacks c.args.event.now c.args.self c.args.written read none
 
 pub returns-in-Hist-clause-change : goal.returns-in-Hist-clause-change

@@ -23,8 +23,8 @@ returns-in-SetFilters-clause-applied c =
       new,
       filtered changes events,
       filtered-still (λ (e : InstanceEvent). e.enabled) changes events (λ e new. refl),
-      filtered-still (λ (e : InstanceEvent). e.trigger) changes events (λ e new. refl),
-      filtered-still (λ (e : InstanceEvent). e.hists) changes events (λ e new. refl),
+      filtered-still (λ (e : InstanceEvent). e.triggers.snapshot) changes events (λ e new. refl),
+      filtered-still (λ (e : InstanceEvent). e.triggers.hists) changes events (λ e new. refl),
     ) (search rules)
 
 pub returns-in_ok-set_triggers-in-Triggers-clause-applied : goal.returns-in_ok-set_triggers-in-Triggers-clause-applied

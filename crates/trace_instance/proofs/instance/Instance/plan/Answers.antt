@@ -22,22 +22,22 @@ none-there value old at view beyond =
     let events = old.events.items in
     let e = past (λ (e : InstanceEvent). e.enabled) events at false beyond in
     let f = past (λ (e : InstanceEvent). e.filter) events at None beyond in
-    let t = past (λ (e : InstanceEvent). e.trigger) events at None beyond in
-    let h = past (λ (e : InstanceEvent). e.hists) events at [] beyond in
+    let t = past (λ (e : InstanceEvent). e.triggers.snapshot) events at None beyond in
+    let h = past (λ (e : InstanceEvent). e.triggers.hists) events at [] beyond in
     let same : plan_of (view_of old) at ≡ planned (old.tracing && false) None false [] =
     λ k. planned (old.tracing && e k) (f k) (is_some (t k)) (h k) in
     sym (unplanned old.tracing) ∙ sym same ∙ ap (λ (v : InstanceSeen). plan_of v at) view
 
 one-there : (value : InstanceSeen) (old : Inside) (at : ℕ) (one : InstanceEvent) (plan : Plan) → view_of old ≡ value → at < length old.events.items
-    → one ≡ get_or old.events.items at one → plan ≡ planned (old.tracing && one.enabled) one.filter (is_some one.trigger) one.hists
+    → one ≡ get_or old.events.items at one → plan ≡ planned (old.tracing && one.enabled) one.filter (is_some one.triggers.snapshot) one.triggers.hists
     → plan ≡ plan_of value at
 one-there value old at one plan view inside is found =
     let events = old.events.items in
     let e = read (λ (e : InstanceEvent). e.enabled) events at one false is inside in
     let f = read (λ (e : InstanceEvent). e.filter) events at one None is inside in
-    let t = read (λ (e : InstanceEvent). e.trigger) events at one None is inside in
-    let h = read (λ (e : InstanceEvent). e.hists) events at one [] is inside in
-    let same : planned (old.tracing && one.enabled) one.filter (is_some one.trigger) one.hists ≡ plan_of (view_of old) at =
+    let t = read (λ (e : InstanceEvent). e.triggers.snapshot) events at one None is inside in
+    let h = read (λ (e : InstanceEvent). e.triggers.hists) events at one [] is inside in
+    let same : planned (old.tracing && one.enabled) one.filter (is_some one.triggers.snapshot) one.triggers.hists ≡ plan_of (view_of old) at =
     λ k. planned (old.tracing && e k) (f k) (is_some (t k)) (h k) in
     found ∙ same ∙ ap (λ (v : InstanceSeen). plan_of v at) view
 

@@ -35,4 +35,4 @@ returns-clause-memory c =
     let seen = hists_at c.args.self.now c.self.inside c.args.event c.index.result.now c.self.view_is c.requires.event c.index.ensures in
     let tables = c.deref_mut.ensures.value ∙ ap (λ (i : InstanceSeen). i.tables) c.self.view_is in
     subst (λ (l : List AttachedHist). OnErr c.reserve.result (Any (NeedsMemory e c.args.self.now.tables) l)) seen
-    (subst (λ (t : List Table). OnErr c.reserve.result (Any (NeedsMemory e t) c.index.result.now.hists)) tables (rw pid at c.reserve.ensures.memory))
+    (subst (λ (t : List Table). OnErr c.reserve.result (Any (NeedsMemory e t) c.index.result.now.triggers.hists)) tables (rw pid at c.reserve.ensures.memory))
