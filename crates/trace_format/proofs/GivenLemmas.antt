@@ -32,13 +32,6 @@ module _ (fields : List Field) (given : List FieldValue) (i : ℕ) (found : List
       ∙ ap (λ v. option_map (λ values. map datum_of found ++ values) (option_and_then (λ v. option_map (λ vs. v ∷ vs) others) v)) (some ∙ sym (own_value field (text_given (get_or given i none))))
       ∙ (λ k. option_map (λ values. map datum_of found ++ values) (values_in_order (fields_left k) (pairs_given (fields_left k) (given_left k)))) ∙ so_far
 
-  pub all_taken : length fields ≤ i → length given ≤ i → all ≡ Some (map datum_of found)
-  all_taken no_more no_value =
-      sym so_far
-      ∙ ((let fields_left = drop_all i fields no_more in let given_left = drop_all i given no_value in
-      (λ k. option_map (λ values. map datum_of found ++ values) (values_in_order (fields_left k) (pairs_given (fields_left k) (given_left k)))))
-      ∙ ap Some (append-nil (map datum_of found)))
-
 -- ---- their pairs
 
 first_pair : (fields : List Field) (value : FieldValue) (given : List FieldValue)

@@ -12,7 +12,6 @@ use Rattle.trace_format.specs.Kinds.{size_of}
 use Rattle.trace_format.specs.Cells.{Datum, datum_of}
 use Rattle.trace_format.specs.Decoding.{field_from, values_from}
 use Rattle.trace_format.specs.Rows.{first_missing, given}
-use Rattle.trace_format.specs.private.InOrder.{named_value, values_in_order}
 
 -- what is left begins with the element of an index
 pub left : {X : Type 0} (xs : List X) (i : ℕ) (x : X) → i < length xs → x ≡ get_or xs i x → drop i xs ≡ x ∷ drop (i + 1) xs
@@ -125,24 +124,3 @@ module _ (fields : List Field) (pairs : List Pair) (i : ℕ) where
   pub all_given : length fields ≤ i → (found : List Value) (all : List Datum) → map datum_of found ++ filter_map (given pairs) (drop i fields) ≡ all → map datum_of found ≡ all
   all_given no_more found all so_far =
       sym (append-nil (map datum_of found)) ∙ ap (λ fs. map datum_of found ++ filter_map (given pairs) fs) (sym (drop_all i fields no_more)) ∙ so_far
-
--- ---- values that pairs give in order
-
-module _ (fields : List Field) (pairs : List Pair) (i : ℕ) (found : List Value) (all : Option (List Datum))
-    (so_far : option_map (λ values. map datum_of found ++ values) (values_in_order (drop i fields) (drop i pairs)) ≡ all) where
-  pub ordered_more : (field : Field) (pair : Pair) (value : Value) → i < length fields → i < length pairs → field ≡ get_or fields i field → pair ≡ get_or pairs i pair
-      → Some (datum_of value) ≡ named_value field pair
-      → option_map (λ values. map datum_of (found ++ value ∷ []) ++ values) (values_in_order (drop (i + 1) fields) (drop (i + 1) pairs)) ≡ all
-  ordered_more field pair value within paired field_is pair_is some =
-      let others = values_in_order (drop (i + 1) fields) (drop (i + 1) pairs) in
-      let fields_left = sym (left fields i field within field_is) in
-      let pairs_left = sym (left pairs i pair paired pair_is) in
-      moved_where datum_of found value others
-      ∙ ap (λ v. option_map (λ values. map datum_of found ++ values) (option_and_then (λ v. option_map (λ vs. v ∷ vs) others) v)) some
-      ∙ (λ k. option_map (λ values. map datum_of found ++ values) (values_in_order (fields_left k) (pairs_left k))) ∙ so_far
-
-  pub all_ordered : length fields ≤ i → length pairs ≤ i → all ≡ Some (map datum_of found)
-  all_ordered no_more no_pair =
-      sym so_far
-      ∙ ((let fields_left = drop_all i fields no_more in let pairs_left = drop_all i pairs no_pair in (λ k. option_map (λ values. map datum_of found ++ values) (values_in_order (fields_left k) (pairs_left k))))
-      ∙ ap Some (append-nil (map datum_of found)))

@@ -1,19 +1,20 @@
 //! Rows from values that are given to the fields of an event in order. One pass takes values that their fields hold; it writes a text only for a
 //! number in a text field. Why other values are refused is found by their texts, as it is for an emission's pairs.
 
-ghost use Rattle.std.specs.Prelude.{◌≡◌, ◌<◌, true, map, drop, IfOk, Some, vec_len, vec_capacity};
+ghost use Rattle.std.specs.Prelude.{◌≡◌, true, map, drop, IfOk, Some};
 ghost use Rattle.std.specs.Fmt.{decimal, signed_decimal};
 ghost use Rattle.trace_format.specs.declared.kind.Kind.TheVariants as kinds;
 ghost use Rattle.trace_format.specs.Cells.{datum_of};
 ghost use Rattle.trace_format.specs.Rows.{value_of};
 ghost use Rattle.trace_format.specs.Values.{text_given, pairs_given};
-ghost use Rattle.trace_format.specs.private.InOrder.{first_name, values_in_order, IsPushed};
+ghost use Rattle.trace_format.specs.private.InOrder.{first_name, values_in_order};
 
 use crate::event::Field;
 use crate::field_value::FieldValue;
+use crate::in_order::fit;
 use crate::kind::{Kind, NumberType};
 use crate::pair::Pair;
-use crate::value::{Value, push_text, push_value};
+use crate::value::{Value, put_text, put_value};
 use itoa::Buffer;
 use std::alloc::{AllocError, Global};
 use trace_lex::Text;
@@ -33,68 +34,64 @@ fn written(alloc: Global, given: &FieldValue<'_>) -> Result<Text, AllocError>
     }
 }
 
-/// Adds a number to a list with room for it, if a field of the type holds it. Whether it does.
+/// Puts a number in the place of another value, if a field of the type holds it. Whether it does.
 #[inline(always)]
-fn push_unsigned(number_type: NumberType, number: u64, values: &mut Vec<Value>) -> bool
-    requires { vec_len values.old < vec_capacity values.old }
-    ensures { result ≡ true → IsPushed (value_of (kinds.Number number_type) (decimal number)) values.old values.new }
+fn put_unsigned(number_type: NumberType, number: u64, out: &mut Value) -> bool
+    ensures { result ≡ true → value_of (kinds.Number number_type) (decimal number) ≡ Some (datum_of out.new) }
 {
     if number > number_type.greatest_magnitude() {
         return false;
     }
-    values.push_reserved(Value::Num(i128::from(number)));
+    *out = Value::Num(i128::from(number));
     true
 }
 
 /// Likewise, for a number with its sign.
 #[inline(always)]
-fn push_signed(number_type: NumberType, number: i64, values: &mut Vec<Value>) -> bool
-    requires { vec_len values.old < vec_capacity values.old }
-    ensures { result ≡ true → IsPushed (value_of (kinds.Number number_type) (signed_decimal number)) values.old values.new }
+fn put_signed(number_type: NumberType, number: i64, out: &mut Value) -> bool
+    ensures { result ≡ true → value_of (kinds.Number number_type) (signed_decimal number) ≡ Some (datum_of out.new) }
 {
     if !number_type.holds_signed(number) {
         return false;
     }
-    values.push_reserved(Value::Num(i128::from(number)));
+    *out = Value::Num(i128::from(number));
     true
 }
 
 /// Likewise, for a value of any kind in a text field of so many bytes, by the value's text.
 #[cold]
 #[inline(never)]
-fn push_written(
+fn put_written(
     alloc: Global,
     length: u8,
     given: &FieldValue<'_>,
-    values: &mut Vec<Value>,
+    out: &mut Value,
 ) -> Result<bool, AllocError>
-    requires { vec_len values.old < vec_capacity values.old }
-    ensures { IfOk result (λ is. is ≡ true → IsPushed (value_of (kinds.Char length) (text_given given.now)) values.old values.new) }
+    ensures { IfOk result (λ is. is ≡ true → value_of (kinds.Char length) (text_given given.now) ≡ Some (datum_of out.new)) }
 {
     let text = written(alloc, given)?;
-    push_text(alloc, length, text.as_bytes(), values)
+    put_text(alloc, length, text.as_bytes(), out)
 }
 
 /// Likewise, with a text made only of a number for a text field.
 #[inline(always)]
-fn push_given(
+fn put_given(
     alloc: Global,
     kind: Kind,
     given: &FieldValue<'_>,
-    values: &mut Vec<Value>,
+    out: &mut Value,
 ) -> Result<bool, AllocError>
-    requires { vec_len values.old < vec_capacity values.old }
-    ensures { IfOk result (λ is. is ≡ true → IsPushed (value_of kind (text_given given.now)) values.old values.new) }
+    ensures { IfOk result (λ is. is ≡ true → value_of kind (text_given given.now) ≡ Some (datum_of out.new)) }
 {
     match (kind, *given) {
         (Kind::Number(number_type), FieldValue::Unsigned(number)) => {
-            Ok(push_unsigned(number_type, number, values))
+            Ok(put_unsigned(number_type, number, out))
         }
         (Kind::Number(number_type), FieldValue::Signed(number)) => {
-            Ok(push_signed(number_type, number, values))
+            Ok(put_signed(number_type, number, out))
         }
-        (_, FieldValue::Bytes(bytes)) => push_value(alloc, kind, bytes, values),
-        (Kind::Char(length), _) => push_written(alloc, length, given, values),
+        (_, FieldValue::Bytes(bytes)) => put_value(alloc, kind, bytes, out),
+        (Kind::Char(length), _) => put_written(alloc, length, given, out),
     }
 }
 
@@ -111,18 +108,15 @@ pub(crate) fn take_values(
     ensures kinds { IfOk result (λ taken. taken ≡ true → kinds.new.items ≡ map (λ f. f.kind) fields.now) }
     ensures values { IfOk result (λ taken. taken ≡ true → values_in_order fields.now (pairs_given fields.now given.now) ≡ Some (map datum_of values.new.items)) }
 {
-    kinds.clear();
-    values.clear();
     if fields.len() != given.len() {
         return Ok(false);
     }
-    kinds.reserve_exact(fields.len())?;
-    values.reserve_exact(fields.len())?;
+    fit(fields.len(), kinds, values)?;
     for (i, field) in fields.iter().enumerate() {
-        if !push_given(alloc, field.kind, &given[i], values)? {
+        if !put_given(alloc, field.kind, &given[i], &mut values[i])? {
             return Ok(false);
         }
-        kinds.push_reserved(field.kind);
+        kinds[i] = field.kind;
     }
     Ok(true)
 }

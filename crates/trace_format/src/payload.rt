@@ -22,18 +22,20 @@ pub(crate) fn encode_values(kinds: &[Kind], values: &[Value], out: &mut [u8])
 {
     let mut at = 0;
     for (kind, value) in kinds.iter().zip(values) {
-        encode_field(*kind, value, out, at);
-        at += kind.size();
+        let size = kind.size();
+        encode_field(*kind, value, size, out, at);
+        at += size;
     }
 }
 
-/// Writes one value at an offset.
-fn encode_field(kind: Kind, value: &Value, out: &mut [u8], at: usize)
+/// Writes one value, which has so many bytes, at an offset.
+fn encode_field(kind: Kind, value: &Value, size: usize, out: &mut [u8], at: usize)
+    requires size { size ≡ size_of kind }
     requires held { Holds kind (datum_of value.now) }
     requires room { at + size_of kind ≤ length out.old }
     ensures { out.new ≡ take at out.old ++ field_bytes kind (datum_of value.now) ++ drop (at + size_of kind) out.old }
 {
-    let field = &mut out[at..at + kind.size()];
+    let field = &mut out[at..at + size];
     match (kind, value) {
         (Kind::Number(number_type), Value::Num(number)) => {
             encode_number(number_type, *number, field);

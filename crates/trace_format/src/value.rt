@@ -1,12 +1,11 @@
 //! The values of fields, and the texts that write them.
 
-ghost use Rattle.std.specs.Prelude.{◌≡◌, ◌<◌, true, if◌then◌else◌, IfOk, Some, None, is_some, option_map, vec_len, vec_capacity};
+ghost use Rattle.std.specs.Prelude.{◌≡◌, true, if◌then◌else◌, IfOk, Some, None, is_some, option_map};
 ghost use Rattle.std.specs.List.{list_all};
 ghost use Rattle.trace_format.specs.declared.kind.Kind.TheVariants as kinds;
 ghost use Rattle.trace_format.specs.Cells.{Datum, Whole, Bytes, datum_of, is_printable as spec_printable};
 ghost use Rattle.trace_format.specs.Rows.{value_of};
 ghost use Rattle.trace_format.specs.private.NumberPatterns.{magnitude_in};
-ghost use Rattle.trace_format.specs.private.InOrder.{IsPushed};
 
 use crate::kind::{Kind, NumberType};
 use std::alloc::{AllocError, Global};
@@ -90,34 +89,32 @@ fn text_value(alloc: Global, length: u8, text: &[u8]) -> Result<Option<Value>, A
     }
 }
 
-/// Adds the value that a text gives to a field of a type to a list with room for it. Whether it gives one.
+/// Puts the value that a text gives to a field of a type in the place of another one. Whether it gives one.
 #[inline(always)]
-pub(crate) fn push_value(
+pub(crate) fn put_value(
     alloc: Global,
     kind: Kind,
     text: &[u8],
-    values: &mut Vec<Value>,
+    out: &mut Value,
 ) -> Result<bool, AllocError>
-    requires { vec_len values.old < vec_capacity values.old }
-    ensures { IfOk result (λ is. is ≡ true → IsPushed (value_of kind text.now) values.old values.new) }
+    ensures { IfOk result (λ is. is ≡ true → value_of kind text.now ≡ Some (datum_of out.new)) }
 {
     match kind {
-        Kind::Number(number_type) => Ok(push_number(number_type, text, values)),
-        Kind::Char(length) => push_text(alloc, length, text, values),
+        Kind::Number(number_type) => Ok(put_number(number_type, text, out)),
+        Kind::Char(length) => put_text(alloc, length, text, out),
     }
 }
 
 /// Likewise, for a number. Without a `-` it is read as one of 64 bits.
 #[inline(always)]
-fn push_number(number_type: NumberType, text: &[u8], values: &mut Vec<Value>) -> bool
-    requires { vec_len values.old < vec_capacity values.old }
-    ensures { result ≡ true → IsPushed (value_of (kinds.Number number_type) text.now) values.old values.new }
+fn put_number(number_type: NumberType, text: &[u8], out: &mut Value) -> bool
+    ensures { result ≡ true → value_of (kinds.Number number_type) text.now ≡ Some (datum_of out.new) }
 {
     match text {
-        [b'-', ..] => push_signed(number_type, text, values),
+        [b'-', ..] => put_signed(number_type, text, out),
         _ => match held_magnitude(number_type, text) {
             Some(value) => {
-                values.push_reserved(Value::Num(i128::from(value)));
+                *out = Value::Num(i128::from(value));
                 true
             }
             None => false,
@@ -127,13 +124,12 @@ fn push_number(number_type: NumberType, text: &[u8], values: &mut Vec<Value>) ->
 
 /// Likewise, by way of a signed number of 128 bits.
 #[inline(never)]
-fn push_signed(number_type: NumberType, text: &[u8], values: &mut Vec<Value>) -> bool
-    requires { vec_len values.old < vec_capacity values.old }
-    ensures { result ≡ true → IsPushed (value_of (kinds.Number number_type) text.now) values.old values.new }
+fn put_signed(number_type: NumberType, text: &[u8], out: &mut Value) -> bool
+    ensures { result ≡ true → value_of (kinds.Number number_type) text.now ≡ Some (datum_of out.new) }
 {
     match number_value(number_type, text) {
         Some(number) => {
-            values.push_reserved(Value::Num(number));
+            *out = Value::Num(number);
             true
         }
         None => false,
@@ -142,18 +138,17 @@ fn push_signed(number_type: NumberType, text: &[u8], values: &mut Vec<Value>) ->
 
 /// Likewise, for a text field of so many bytes.
 #[inline(never)]
-pub(crate) fn push_text(
+pub(crate) fn put_text(
     alloc: Global,
     length: u8,
     text: &[u8],
-    values: &mut Vec<Value>,
+    out: &mut Value,
 ) -> Result<bool, AllocError>
-    requires { vec_len values.old < vec_capacity values.old }
-    ensures { IfOk result (λ is. is ≡ true → IsPushed (value_of (kinds.Char length) text.now) values.old values.new) }
+    ensures { IfOk result (λ is. is ≡ true → value_of (kinds.Char length) text.now ≡ Some (datum_of out.new)) }
 {
     match text_value(alloc, length, text)? {
         Some(value) => {
-            values.push_reserved(value);
+            *out = value;
             Ok(true)
         }
         None => Ok(false),

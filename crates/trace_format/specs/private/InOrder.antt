@@ -1,11 +1,9 @@
 -- Pairs that name the fields of an event in order, each once: their values take no search. That these pairs give the row of the values is what
 -- `row_of` of `Rows` says of them.
-use Rattle.std.specs.Prelude.{◌≡◌, ◌+◌, bytes_eq, if◌then◌else◌, List, [], ◌∷◌, ◌++◌, ℕ, Option, None, Some, option_map, option_and_then, Vec, vec_len, vec_capacity}
-use Rattle.std.specs.declared.alloc.Global.{Global}
+use Rattle.std.specs.Prelude.{bytes_eq, if◌then◌else◌, List, [], ◌∷◌, ℕ, Option, None, Some, option_map, option_and_then}
 use Rattle.trace_format.specs.declared.event.Field.{Field}
 use Rattle.trace_format.specs.declared.pair.Pair.{Pair}
-use Rattle.trace_format.specs.declared.value.Value.{Value}
-use Rattle.trace_format.specs.Cells.{Datum, datum_of}
+use Rattle.trace_format.specs.Cells.{Datum}
 use Rattle.trace_format.specs.Rows.{value_of}
 
 -- the value that a pair gives to a field, if it names it
@@ -19,14 +17,6 @@ values_in_order [] (pair ∷ pairs) = None
 values_in_order (field ∷ fields) [] = None
 values_in_order (field ∷ fields) (pair ∷ pairs) =
     option_and_then (λ value. option_map (λ values. value ∷ values) (values_in_order fields pairs)) (named_value field pair)
-
--- a value was added to a list with room for it: the one that was found
-pub record IsPushed (found : Option Datum) (old new : Vec Value Global) : Type 0 where
-  pub value : Value
-  pub is : found ≡ Some (datum_of value)
-  pub items : new.items ≡ old.items ++ value ∷ []
-  pub len : vec_len new ≡ vec_len old + 1
-  pub capacity : vec_capacity new ≡ vec_capacity old
 
 -- the name of the first field; where there is none, the empty name
 abbrev pub first_name : List Field → List ℕ

@@ -14,7 +14,7 @@ returns-in-Number-Num c =
     let value = sym c.in-Number-Num.is-1 in
     let fits : SFits w128 c.in-Number-Num.number = search rules in
     let written : c.encode_number.new.out ≡ field_bytes c.args.kind (datum_of c.args.value.now) = c.encode_number.ensures ∙ ap (λ n. field_bytes (Number c.in-Number-Num.number_type) (Whole n)) (to_z-of_z w128 c.in-Number-Num.number fits) ∙ (λ i. field_bytes (kind i) (datum_of (value i))) in
-    let size : at + c.size.result - at ≡ size_of c.args.kind = omega (arith, c.size.ensures.size) in
+    let size : at + c.args.size - at ≡ size_of c.args.kind = omega (arith, c.requires.size) in
     (λ i. take at out ++ (written i ++ drop (size i) (drop at out)))
     ∙ sym (append_assoc (take at out) (field_bytes c.args.kind (datum_of c.args.value.now)) (drop (size_of c.args.kind) (drop at out)))
     ∙ ap (λ rest. take at out ++ field_bytes c.args.kind (datum_of c.args.value.now) ++ rest) (drop-drop (size_of c.args.kind) at out)

@@ -49,7 +49,7 @@ loop-kind-preserved c =
     let held = held_here kinds values n c.loop-kind.invariant.0 turn.0 kind value (turn.2 kind) (turn.3 value) in
     rw (length_push c.loop-kind.yielded (c.in-Some.kind, c.in-Some.value)) (
       still_held kinds values n kind value kinds_left values_left c.loop-kind.invariant.0,
-      omega (arith, c.loop-kind.invariant.1, sizes, c.size-at.ensures.size, c.encode_field.auto.out),
-      value_written kinds values n kind value kinds_left values_left c.loop-kind.out c.encode_field.new.out c.loop-kind.at c.size-at.result _ c.encode_field.ensures c.size-at.ensures.size
+      omega (arith, c.loop-kind.invariant.1, sizes, c.size-size.ensures.size, c.encode_field.auto.out),
+      value_written kinds values n kind value kinds_left values_left c.loop-kind.out c.encode_field.new.out c.loop-kind.at c.size-size.result _ c.encode_field.ensures c.size-size.ensures.size
           (omega (arith, c.loop-kind.invariant.1, sizes)) held c.loop-kind.invariant.2,
     )
