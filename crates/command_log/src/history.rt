@@ -83,7 +83,9 @@ impl History {
         Ok(())
     }
 
-    /// Writes an emission ahead, in place of what was. `Err` says that memory is refused; nothing is written ahead then.
+    /// Writes an emission ahead, in place of what was. `Err` says that memory is refused; nothing is written ahead then. It is inlined, as most entries
+    /// are of emissions.
+    #[inline(always)]
     pub fn write_emission_ahead(
         &mut self,
         ticket: u64,

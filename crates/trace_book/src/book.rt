@@ -147,9 +147,10 @@ impl Book {
         self.run_emission(ticket, by, emission)
     }
 
-    // As `ask_emission`, whose clauses are here in one word.
+    // As `ask_emission`, whose clauses are here in one word. It is inlined, so that an emission's parts and its
+    // answer are not moved.
     #[inline(always)]
-    fn run_emission(
+    pub(crate) fn run_emission(
         &mut self,
         ticket: u64,
         by: u32,

@@ -26,7 +26,7 @@ impl SharedBook for Book {
         by: u32,
         emission: &BorrowedEmission<'_>,
     ) -> Result<Reply, Refusal> {
-        self.ask_emission(ticket, by, emission)
+        self.run_emission(ticket, by, emission)
     }
 
     #[inline(always)]

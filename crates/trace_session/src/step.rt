@@ -25,11 +25,11 @@ ghost use Rattle.trace_workers.specs.Gates.{LetsAllPass, StopsOne};
 
 use crate::device::Sink;
 use crate::environment::Environment;
-use crate::line::{ask_emission_line, ask_line, ask_read_line, outcome_of};
+use crate::line::{ask_emission_line, ask_line, ask_read_line};
 use crate::part_run::run_part;
 use crate::replies::Replies;
 use crate::status::Status;
-use crate::told::{give, give_part};
+use crate::told::{give, give_answer, give_part};
 use script_reader::Stop;
 use script_reader::item::ItemRead;
 use script_reader::part::FaultAt;
@@ -57,7 +57,7 @@ fn is_silent<W: Sink>(answer: &Result<Reply, Refusal>, writer: &W) -> bool
 /// Runs an emission whose words lie in its line, and writes its output. One that is done prints nothing, so that only a writer that hears is told
 /// of it. It is inlined, so that neither its words nor its answer are moved.
 #[inline(always)]
-#[tactic(auto, using(crate::proofs::Stepping::done_unheard, crate::proofs::Stepping::no_fault, crate::proofs::Stepping::untold_flushed, crate::proofs::EmissionTurns::told_faultless))]
+#[tactic(auto, using(crate::proofs::Stepping::done_unheard, crate::proofs::Stepping::untold_flushed))]
 pub(crate) fn do_emission<B: SharedBook, R: Wait, W: Sink, G>(
     env: &Environment<'_, B, R, G>,
     pass: Pass<B>,
@@ -82,13 +82,8 @@ pub(crate) fn do_emission<B: SharedBook, R: Wait, W: Sink, G>(
     if is_silent(&answer, writer) {
         return (pass, Ok(Status::Done));
     }
-    match outcome_of(answer) {
-        Ok(outcome) => (
-            pass,
-            give(env.alloc, number, plain.line, &outcome, replies, writer),
-        ),
-        Err(stop) => (pass, Err(stop)),
-    }
+    let given = give_answer(env.alloc, number, plain.line, answer, replies, writer);
+    (pass, given)
 }
 
 /// Runs a read whose words lie in its line, and writes its output. It is kept out of line, so that emissions don't take its room.

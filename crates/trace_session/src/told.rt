@@ -1,15 +1,20 @@
 //! Outcomes of lines and parts, written and told to a writer that hears.
 
-ghost use Rattle.std.specs.Prelude.{◌≡◌, ◌≤◌, ◌↔◌, ℕ, List, [], ◌∷◌, ◌++◌, map, IfOk, IsSome, OnOk, OnErr, IsErrOf};
+ghost use Rattle.std.specs.Prelude.{◌≡◌, ◌≢◌, ◌≤◌, ◌↔◌, ℕ, List, [], ◌∷◌, ◌++◌, map, IfOk, IsSome, OnOk, OnErr, IsErrOf};
+ghost use Rattle.ticket_lock.specs.declared.views.View.{View};
+ghost use Rattle.trace_command.specs.declared.command.Entry.{Entry};
 ghost use Rattle.script_reader.specs.ScriptLines.{lines_of};
 ghost use Rattle.script_reader.specs.Sources.{HasRisen};
 ghost use Rattle.trace_session.specs.Devices.{AppendsFront, Passes};
 ghost use Rattle.trace_session.specs.Heard.{Hears, IsWrittenFirst, heard_of};
 ghost use Rattle.trace_session.specs.private.HeardItems.{AreInOrder, IsLeft, heard_each, left_at};
-ghost use Rattle.trace_session.specs.private.LineRuns.{IsLineGiven, outlet};
-ghost use Rattle.trace_session.specs.Sessions.{text_of, status_of};
+ghost use Rattle.trace_session.specs.Passes.{IsSessionPass, progress_of};
+ghost use Rattle.trace_session.specs.private.AnswersTold.{IsTurnOf};
+ghost use Rattle.trace_session.specs.private.LineRuns.{IsLineGiven, IsLineRun, outlet};
+ghost use Rattle.trace_session.specs.Sessions.{Progress, text_of, status_of};
 
 use crate::device::Sink;
+use crate::line::outcome_of;
 use crate::output::write_outcome;
 use crate::part_text::PartOutput;
 use crate::replies::Replies;
@@ -17,6 +22,7 @@ use crate::status::Status;
 use script_reader::{LinesFrom, Stop};
 use std::alloc::Global;
 use thread_output::OutcomeAt;
+use trace_command::{Refusal, Reply};
 use trace_script::Outcome;
 
 /// The status of a single line.
@@ -94,6 +100,30 @@ pub(crate) fn give<W: Sink>(
     write_outcome(alloc, number, outcome, replies, writer)?;
     tell(number, line, outcome, replies, writer)?;
     Ok(line_status(outcome))
+}
+
+/// Gives the outcome of a line whose command was answered so, as `give` does, or tells why the session stops. It is kept out of line, so that emissions
+/// that are done don't take the room of the outcome.
+#[inline(never)]
+#[tactic(auto, using(crate::proofs::Stepping::no_fault, crate::proofs::EmissionTurns::told_faultless))]
+pub(crate) fn give_answer<W: Sink>(
+    alloc: Global,
+    number: usize,
+    line: &[u8],
+    answer: Result<Reply, Refusal>,
+    replies: &mut Replies,
+    writer: &mut W,
+) -> Result<Status, Stop>
+    ensures run { (view : View Entry) (after : Progress) → IsTurnOf view line.now answer after
+        → IsLineRun W.wants_first number line.now (λ g. IsSessionPass g view) (progress_of view) after
+        (outlet (W.contents writer.old) (W.failures writer.old) (W.heard writer.old) replies.old)
+        (outlet (W.contents writer.new) (W.failures writer.new) (W.heard writer.new) replies.new) result }
+    ensures faultless { IfOk result (λ status. status ≢ Status.Fault) }
+{
+    match outcome_of(answer) {
+        Ok(outcome) => give(alloc, number, line, &outcome, replies, writer),
+        Err(stop) => Err(stop),
+    }
 }
 
 /// Tells a writer the outcome of the command in the line with this number, which is one of these lines.

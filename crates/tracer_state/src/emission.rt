@@ -29,7 +29,9 @@ use trace_instance::{Delivery, INSTANCES, MOST_TRIGGERS, Passed};
 
 impl State {
     /// Prepares an emission, in this order: its CPU, its event, its row, what it does in each instance, its record, if an instance
-    /// records it, and the memory of its hist triggers. A refused one leaves a delivery that means nothing.
+    /// records it, and the memory of its hist triggers. A refused one leaves a delivery that means nothing. It is inlined, so that an emission's parts
+    /// are not moved.
+    #[inline(always)]
     #[tactic(auto, unfolding(trace_history::specs::History::emission_answer))]
     pub fn prepare_emission(
         &mut self,

@@ -1,4 +1,4 @@
-//! The bytes of records.
+//! The bytes of records. All but a change of their length is inlined into the emissions that are recorded.
 
 ghost use Rattle.std.specs.Prelude.{◌≡◌, ◌<◌, ◌≤◌, ◌+◌, ◌-◌, ◌^◌, ◌++◌, length, take, drop, replicate, OnOk};
 ghost use Rattle.trace_record.specs.Record.{IsRecord, head_bytes, padding, record_size};
@@ -10,6 +10,7 @@ use trace_format::Row;
 use trace_record::{HEAD_SIZE, Head, record_size, write_head};
 
 /// Makes the record of an emission, whose row has a payload of this many bytes, over that of an earlier one.
+#[inline(always)]
 #[tactic(auto, unfolding(trace_history::specs::Emissions::record_bytes))]
 pub(crate) fn record(
     timestamp: u64,
@@ -37,6 +38,7 @@ pub(crate) fn record(
 }
 
 // Gives the bytes this length.
+#[inline(always)]
 fn fit(bytes: &mut Vec<u8>, len: usize) -> Result<(), AllocError>
     ensures { OnOk result (length bytes.new.items ≡ len) }
 {
@@ -56,6 +58,7 @@ fn resize(bytes: &mut Vec<u8>, len: usize) -> Result<(), AllocError>
 }
 
 // Writes a record over any bytes of its length.
+#[inline(always)]
 fn write_record(head: Head, row: &Row, size: usize, out: &mut [u8])
     requires size { size ≡ size_of_all row.now.kinds }
     requires small { size < 2 ^ 12 }
@@ -71,6 +74,7 @@ fn write_record(head: Head, row: &Row, size: usize, out: &mut [u8])
 }
 
 // Writes zeros over the last eight bytes: those after a payload are among them.
+#[inline(always)]
 fn clear_end(out: &mut [u8])
     requires { 8 ≤ length out.old }
     ensures bytes { out.new ≡ take (length out.old - 8) out.old ++ replicate 8 0 }
@@ -81,6 +85,7 @@ fn clear_end(out: &mut [u8])
 }
 
 // Writes a row's payload after the head.
+#[inline(always)]
 fn write_payload(row: &Row, size: usize, out: &mut [u8])
     requires size { size ≡ size_of_all row.now.kinds }
     requires small { size < 2 ^ 12 }
