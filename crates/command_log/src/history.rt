@@ -14,6 +14,7 @@ use trace_format::BorrowedPair;
 
 /// The entries of a history, seen as their list, and what is written ahead. An entry is written ahead first, which may be refused memory, and then
 /// appended, which can't fail. One that is never appended makes way for the next.
+#[derive(Drop)]
 pub struct History {
     alloc: Global,
     // The chunks that are full, oldest first, and the one that is written.
@@ -23,19 +24,6 @@ pub struct History {
     count: usize,
     // How many are written ahead: one or none.
     ahead: usize,
-}
-
-impl Drop for History {
-    // Not derived, so that no crate above proves the drops of its parts.
-    fn drop(self) {
-        let History {
-            alloc: _,
-            full: _,
-            last: _,
-            count: _,
-            ahead: _,
-        } = self;
-    }
 }
 
 impl Model for History {
