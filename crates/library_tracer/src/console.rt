@@ -26,23 +26,12 @@ use trace_script::{Line, LineError, Outcome, ScriptFault, prepare};
 use tracer_without_history::Live;
 
 /// A tracer for one caller, which keeps no history, and what the last call came to.
+#[derive(Drop)]
 pub struct Console {
     alloc: Global,
     limit: u64,
     live: Live,
     last: Outcome,
-}
-
-impl Drop for Console {
-    // Not derived, so that no crate above proves the drops of its parts.
-    fn drop(self) {
-        let Console {
-            alloc: _,
-            limit: _,
-            live: _,
-            last: _,
-        } = self;
-    }
 }
 
 impl Model for Console {
