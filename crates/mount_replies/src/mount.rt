@@ -24,6 +24,7 @@ use tracer_without_history::Live;
 
 /// A mounted tracer: the tracer, which folders and files it has, the open files, the reads that wait, the writes that were refused, whether something has
 /// to be told before the next request is answered, and whose the files are.
+#[derive(Drop)]
 pub struct Mount {
     pub(crate) alloc: Global,
     pub(crate) live: Live,
@@ -34,23 +35,6 @@ pub struct Mount {
     pub(crate) owes: bool,
     pub(crate) uid: u32,
     pub(crate) gid: u32,
-}
-
-impl Drop for Mount {
-    // Not derived, so that no crate above proves the drops of its parts.
-    fn drop(self) {
-        let Mount {
-            alloc: _,
-            live: _,
-            scene: _,
-            files: _,
-            parked: _,
-            errors: _,
-            owes: _,
-            uid: _,
-            gid: _,
-        } = self;
-    }
 }
 
 impl Model for Mount {
