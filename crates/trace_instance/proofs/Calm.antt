@@ -1,8 +1,10 @@
 -- Requests that leave an instance's triggers and its spare side as they are: reads, removals, the making of another instance, and writes to
 -- all files but those of snapshots and triggers.
-use Rattle.std.proofs.Common.{◌≡◌, ℕ, suc, ◌<◌, Bool, true, false, if◌then◌else◌, unwrap_or, List, [], ◌∷◌, length, map, get_or, is_some, Option, Some, None, refl, sym, ap, ◌∙◌, subst, arith}
+use Rattle.std.proofs.Common.{◌≡◌, ◌⊎◌, inl, inr, ℕ, ◌<◌, Bool, true, false, if◌then◌else◌, unwrap_or, List, [], ◌∷◌, length, map, get_or, is_some, Option, Some, None, refl, sym, ap, ◌∙◌, subst}
 use Rattle.std.specs.List.{list_any}
 use Rattle.std.specs.Option.{option_map}
+use Rattle.std.proofs.lemmas.List.{get_or_default}
+use Rattle.std.proofs.lemmas.List.Folds.{Any-from_list_any, list_any_at}
 use Rattle.page_ring.specs.Events.{Event}
 use Rattle.trace_filter.specs.Filters.{parsed_of}
 use Rattle.trace_format.specs.Definitions.{Definition}
@@ -66,15 +68,13 @@ kept-stays name past request event is =
 -- some element passes where each that passes one test passes another
 pub any-passes : {A : Type 0} (p q : A → Bool) (xs : List A) (d : A)
     → ((j : ℕ) → j < length xs → p (get_or xs j d) ≡ true → q (get_or xs j d) ≡ true) → list_any p xs ≡ true → list_any q xs ≡ true
-any-passes p q [] d each some = absurd (cc)
-any-passes p q (x ∷ xs) d each some =
-    by (p x) (q x) refl refl (each 0 (omega arith)) (any-passes p q xs d (λ j inside. each (suc j) (omega (arith, inside))))
-  where
-    by : (first other : Bool) → p x ≡ first → q x ≡ other → (p x ≡ true → q x ≡ true) → (list_any p xs ≡ true → list_any q xs ≡ true)
-        → list_any q (x ∷ xs) ≡ true
-    by first true is other one rest = rw other refl
-    by true false is other one rest = absurd (let h : q x ≡ true = one is in cc)
-    by false false is other one rest = rw other (rest (rw is at some))
+any-passes p q xs d each some =
+    let found = Any-from_list_any p xs some in
+    let at = found.3 in
+    let passes = found.4 in
+    let same = get_or_default xs found.0 d found.1 found.2 in
+    let one : p (get_or xs found.0 d) ≡ true = cc in
+    list_any_at q xs found.0 d found.2 (each found.0 found.2 one)
 
 -- the same sides
 pub same_families : (live lives : List (List Event)) (spare spared : Bool) (rest rests : List (List Event)) → lives ≡ live → spared ≡ spare → rests ≡ rest
@@ -107,38 +107,6 @@ pub record IsCalm (name : Option (List ℕ)) (past : List Request) (request : Re
   pub unwritten : written_to name past request ≡ None
   pub quiet : emitted past request ≡ None
 
-pub calm-triggers : (name : Option (List ℕ)) (past : List Request) (request : Request) → IsCalm name past request
-    → map (kept_trigger name (request ∷ past)) (declared_events past) ≡ map (kept_trigger name past) (declared_events past)
-calm-triggers name past request calm =
-    map-agrees (kept_trigger name (request ∷ past)) (kept_trigger name past) (declared_events past) no_event
-    (λ j inside. kept-stays name past request (get_or (declared_events past) j no_event) (calm.triggers j inside))
-
--- hist triggers that stay
-pub calm-keeps : (name : Option (List ℕ)) (past : List Request) (request : Request) → IsCalm name past request → KeepsHists name past request
-calm-keeps name past request calm = record { alive = calm.alive; unwritten = calm.unwritten }
-
-pub calm-spare : (name : Option (List ℕ)) (past : List Request) (request : Request) → IsCalm name past request
-    → has_spare name (request ∷ past) ≡ has_spare name past
-calm-spare name past request calm = rw (calm.alive, calm.sets) refl
-
-pub calm-other_rings : (g : Config) (name : Option (List ℕ)) (past : List Request) (request : Request) → IsCalm name past request
-    → other_rings g name (request ∷ past) ≡ other_rings g name past
-calm-other_rings g name past request calm =
-    (rings-stay g name past request calm.alive calm.stays).spare ∙ calm.untouched g (other_rings g name past)
-
-pub calm-sides : (g : Config) (name : Option (List ℕ)) (past : List Request) (request : Request) → IsCalm name past request
-    → side_families g name (request ∷ past) ≡ record { live = rings_after g name past request (rings g name past); spare = spare_rings g name past }
-calm-sides g name past request calm =
-    same_families (rings_after g name past request (rings g name past)) (rings g name (request ∷ past)) (has_spare name past) (has_spare name (request ∷ past))
-    (other_rings g name past) (other_rings g name (request ∷ past)) (rings-stay g name past request calm.alive calm.stays).live
-    (calm-spare name past request calm) (calm-other_rings g name past request calm)
-
-pub calm-spared : (g : Config) (name : Option (List ℕ)) (past : List Request) (request : Request) → IsCalm name past request
-    → IsSpared g name (declared_events past) past → IsSpared g name (declared_events past) (request ∷ past)
-calm-spared g name past request calm =
-    spared-stays g name past request (calm-spare name past request calm) (calm-other_rings g name past request calm)
-    (λ j inside some. ap is_some (sym (trigger-stays name past request (get_or (declared_events past) j no_event) (calm.triggers j inside))) ∙ some)
-
 -- ---- changes that leave triggers and the spare as they are
 
 -- such a change
@@ -168,20 +136,33 @@ pub calm-effect : (g : Config) (name : Option (List ℕ)) (past : List Request) 
 calm-effect g name past request change calm quiet is = record {
   enabled = is.enabled;
   filters = is.filters;
-  triggers = calm-triggers name past request calm ∙ sym (quiet.triggers (map (kept_trigger name past) (declared_events past)));
-  hists = all-hists-calm name past request (declared_events past) (calm-keeps name past request calm)
-      ∙ sym (quiet.hists (map (kept_hists name past) (declared_events past)));
+  triggers = map-agrees (kept_trigger name (request ∷ past)) (kept_trigger name past) (declared_events past) no_event
+      (λ j inside. kept-stays name past request (get_or (declared_events past) j no_event) (calm.triggers j inside))
+      ∙ sym (quiet.triggers (map (kept_trigger name past) (declared_events past)));
+  hists = all-hists-calm name past request (declared_events past) keeps ∙ sym (quiet.hists (map (kept_hists name past) (declared_events past)));
   tables = λ table. subst (λ (asked : Option Action). IsAsked name past request asked table) (sym (quiet.asks table))
-      (unasked name past request table (calm-keeps name past request calm) calm.quiet);
+      (unasked name past request table keeps calm.quiet);
   joined = quiet.joined name past;
-  fitting = fitting-calm name past request (calm-keeps name past request calm);
+  fitting = fitting-calm name past request keeps;
   overwrite = is.overwrite;
   tracing = is.tracing;
-  sides = λ spared. calm-sides g name past request calm
+  sides = λ spared. same_families (rings_after g name past request (rings g name past)) (rings g name (request ∷ past)) (has_spare name past)
+      (has_spare name (request ∷ past)) (other_rings g name past) (other_rings g name (request ∷ past))
+      (rings-stay g name past request calm.alive calm.stays).live spare other
       ∙ ap (λ (live : List (List Event)). (let f : SideFamilies = record { live = live; spare = spare_rings g name past } in f)) is.rings
       ∙ sym (quiet.sides g.cpus g.pages g.page_bytes (side_families g name past));
-  spared = calm-spared g name past request calm;
+  spared = spared-stays g name past request spare other (λ j inside some.
+      ap is_some (sym (trigger-stays name past request (get_or (declared_events past) j no_event) (calm.triggers j inside))) ∙ some);
 }
+  where
+    keeps : KeepsHists name past request
+    keeps = record { alive = calm.alive; unwritten = calm.unwritten }
+
+    spare : has_spare name (request ∷ past) ≡ has_spare name past
+    spare = rw (calm.alive, calm.sets) refl
+
+    other : other_rings g name (request ∷ past) ≡ other_rings g name past
+    other = (rings-stay g name past request calm.alive calm.stays).spare ∙ calm.untouched g (other_rings g name past)
 
 -- ---- writes
 
@@ -202,70 +183,60 @@ IsQuietFile (paths.OfInstance top.Snapshot) = ⊥
 IsQuietFile (paths.OfEvent event per_event.Trigger) = ⊥
 IsQuietFile file = Unit {0}
 
-either-none : {A : Type 0} (one : Bool) → (let o : Option A = if one then None else None in o) ≡ None
-either-none true = refl
-either-none false = refl
+-- the same by either branch
+pub either-same : {A : Type 0} (one : Bool) (x : A) → (if one then x else x) ≡ x
+either-same true x = refl
+either-same false x = refl
 
--- is calm
-pub calm-write : (name other : Option (List ℕ)) (past : List Request) (file : paths.File) (append : Bool) (text : List ℕ) → IsQuietFile file
-    → IsCalm other past (WriteFile name (Some file) append text)
-calm-write name other past file append text quiet = record {
-  triggers = λ j inside. record { alive = refl; sets = trigger file quiet (get_or (declared_events past) j no_event); quiet = refl };
+-- a write is calm that is to such a file or to one of another instance
+calm-file : (name other : Option (List ℕ)) (past : List Request) (file : paths.File) (append : Bool) (text : List ℕ)
+    → (is_same other name ≡ false) ⊎ IsQuietFile file → IsCalm other past (WriteFile name (Some file) append text)
+calm-file name other past file append text calm = record {
+  triggers = λ j inside. record { alive = refl; sets = trigger file calm (get_or (declared_events past) j no_event); quiet = refl };
   alive = refl;
-  stays = stays file quiet;
-  sets = spare file quiet;
-  untouched = untouched file quiet;
-  unwritten = unwritten file quiet;
+  stays = stays file calm;
+  sets = spare file calm;
+  untouched = untouched file calm;
+  unwritten = unwritten file calm;
   quiet = refl;
 }
   where
-    trigger : (f : paths.File) → IsQuietFile f → (event : Definition)
+    trigger : (f : paths.File) → (is_same other name ≡ false) ⊎ IsQuietFile f → (event : Definition)
         → set_by other (sets_trigger event past) (WriteFile name (Some f) append text) ≡ None
-    trigger (paths.OfEvent e per_event.Trigger) is event = absurd is
-    trigger _ is event = either-none (is_same other name)
+    trigger f (inl off) event = rw off refl
+    trigger (paths.OfEvent e per_event.Trigger) (inr is) event = absurd is
+    trigger _ (inr is) event = either-same (is_same other name) None
 
-    stays : (f : paths.File) → IsQuietFile f → exchanges other past (WriteFile name (Some f) append text) ≡ false
-    stays (paths.OfInstance top.Snapshot) is = absurd is
+    stays : (f : paths.File) → (is_same other name ≡ false) ⊎ IsQuietFile f → exchanges other past (WriteFile name (Some f) append text) ≡ false
+    stays (paths.OfInstance top.Snapshot) (inl off) = rw off refl
+    stays (paths.OfInstance top.Snapshot) (inr is) = absurd is
     stays _ is = refl
 
-    spare : (f : paths.File) → IsQuietFile f → set_by other (sets_spare past) (WriteFile name (Some f) append text) ≡ None
-    spare (paths.OfEvent e per_event.Trigger) is = absurd is
-    spare (paths.OfInstance top.Snapshot) is = absurd is
-    spare _ is = either-none (is_same other name)
+    spare : (f : paths.File) → (is_same other name ≡ false) ⊎ IsQuietFile f
+        → set_by other (sets_spare past) (WriteFile name (Some f) append text) ≡ None
+    spare f (inl off) = rw off refl
+    spare (paths.OfEvent e per_event.Trigger) (inr is) = absurd is
+    spare (paths.OfInstance top.Snapshot) (inr is) = absurd is
+    spare _ (inr is) = either-same (is_same other name) None
 
-    untouched : (f : paths.File) → IsQuietFile f → (g : Config) (family : List (List Event))
+    untouched : (f : paths.File) → (is_same other name ≡ false) ⊎ IsQuietFile f → (g : Config) (family : List (List Event))
         → spare_after g other (WriteFile name (Some f) append text) family ≡ family
-    untouched (paths.OfInstance top.Snapshot) is g family = absurd is
+    untouched (paths.OfInstance top.Snapshot) (inl off) g family = rw off refl
+    untouched (paths.OfInstance top.Snapshot) (inr is) g family = absurd is
     untouched _ is g family = refl
 
-    unwritten : (f : paths.File) → IsQuietFile f → written_to other past (WriteFile name (Some f) append text) ≡ None
-    unwritten (paths.OfEvent e per_event.Trigger) is = absurd is
+    unwritten : (f : paths.File) → (is_same other name ≡ false) ⊎ IsQuietFile f → written_to other past (WriteFile name (Some f) append text) ≡ None
+    unwritten (paths.OfEvent e per_event.Trigger) (inl off) = rw off refl
+    unwritten (paths.OfEvent e per_event.Trigger) (inr is) = absurd is
     unwritten _ is = refl
 
--- and so is one to a file of another instance
+pub calm-write : (name other : Option (List ℕ)) (past : List Request) (file : paths.File) (append : Bool) (text : List ℕ) → IsQuietFile file
+    → IsCalm other past (WriteFile name (Some file) append text)
+calm-write name other past file append text quiet = calm-file name other past file append text (inr quiet)
+
 pub calm-other_write : (name other : Option (List ℕ)) (past : List Request) (file : paths.File) (append : Bool) (text : List ℕ)
     → is_same other name ≡ false → IsCalm other past (WriteFile name (Some file) append text)
-calm-other_write name other past file append text is = record {
-  triggers = λ j inside. record { alive = refl; sets = rw is refl; quiet = refl };
-  alive = refl;
-  stays = stays file;
-  sets = rw is refl;
-  untouched = untouched file;
-  unwritten = unwritten file;
-  quiet = refl;
-}
-  where
-    stays : (f : paths.File) → exchanges other past (WriteFile name (Some f) append text) ≡ false
-    stays (paths.OfInstance top.Snapshot) = rw is refl
-    stays _ = refl
-
-    untouched : (f : paths.File) (g : Config) (family : List (List Event)) → spare_after g other (WriteFile name (Some f) append text) family ≡ family
-    untouched (paths.OfInstance top.Snapshot) g family = rw is refl
-    untouched _ g family = refl
-
-    unwritten : (f : paths.File) → written_to other past (WriteFile name (Some f) append text) ≡ None
-    unwritten (paths.OfEvent e per_event.Trigger) = rw is refl
-    unwritten _ = refl
+calm-other_write name other past file append text is = calm-file name other past file append text (inl is)
 
 -- ---- all else
 

@@ -1,7 +1,8 @@
 -- What an emission that reached an instance leaves of it: its triggers, and its two sides.
-use Rattle.std.proofs.Common.{◌≡◌, ℕ, zero, suc, ℤ, ◌+◌, ◌-◌, ◌<◌, Bool, true, false, ◌&&◌, if◌then◌else◌, List, [], ◌∷◌, length, map, get_or, set, is_some, replicate, Option, Some, None, ⊎_elim, refl, sym, ap, ◌∙◌, subst, arith, append-nil}
-use Rattle.std.proofs.lemmas.Bool.{and_parts, cases_eq, false_from_ne_true, false≢true, lt-ltb}
-use Rattle.std.proofs.lemmas.List.{get_or-map}
+use Rattle.std.proofs.Common.{◌≡◌, ℕ, zero, suc, ℤ, ◌+◌, ◌-◌, ◌<◌, Bool, true, false, ◌&&◌, if◌then◌else◌, List, [], ◌∷◌, length, map, get_or, set, is_some, replicate, Option, Some, None, refl, sym, ap, ◌∙◌, subst, arith, append-nil}
+use Rattle.std.proofs.Math.Bool.{and-true}
+use Rattle.std.proofs.lemmas.Bool.{and_parts, false_from_ne_true, false≢true, lt-ltb}
+use Rattle.std.proofs.lemmas.List.{get_or-map, set-get_or}
 use Rattle.std.proofs.lemmas.List.Folds.{list_any_at}
 use Rattle.std.proofs.lemmas.Slice.Eq.{bytes_eq-Decides}
 use Rattle.std.specs.Option.{option_map}
@@ -9,7 +10,7 @@ use Rattle.std.specs.Str.{bytes_eq}
 use Rattle.page_ring.specs.Events as ring
 use Rattle.trace_buffer.specs.Buffers as buffers
 use Rattle.trace_snapshot.specs.Sides as snapshot
-use Rattle.trace_snapshot.specs.Sides.{SideFamilies, SpareStandsFor, exchanged, exchanged_with}
+use Rattle.trace_snapshot.specs.Sides.{SideFamilies, SpareStandsFor, exchanged}
 use Rattle.trace_format.specs.Catalogs.{AreEvents}
 use Rattle.trace_format.specs.Definitions.{Definition}
 use Rattle.trace_format.specs.declared.pair.Pair.{Pair}
@@ -22,7 +23,7 @@ use Rattle.trace_history.specs.Settings.{declared_events, overwrites}
 use Rattle.trace_history.specs.Snapshots.{has_spare, is_exchanged_by}
 use Rattle.trace_history.specs.Triggers as triggers
 use Rattle.trace_history.specs.Triggers.{is_left, met_by, passes, times_left, trigger_of}
-use Rattle.trace_history.proofs.EventLists.{map-agrees, map-set, one_index}
+use Rattle.trace_history.proofs.EventLists.{map-set, one_index}
 use Rattle.trace_history.proofs.Sides.{rings-exchanged, rings-stay}
 use Rattle.trace_history.proofs.Triggered.{number-before, times_left-less, times_left-same}
 use Rattle.trace_format.specs.Operands.{Emission as Row}
@@ -31,11 +32,10 @@ use Rattle.trace_instance.specs.Instances.{InstanceSeen, InstanceStandsFor, IsSp
 use Rattle.hist_entries.specs.Hits.{Hit}
 use Rattle.trace_instance.specs.KeptHists.{AreHit, IsHitIf, KeptTable, TableStandsFor, is_used, kept_at, kept_hists}
 use Rattle.trace_instance.specs.Deliveries.{CanFire, IsDelivered, counted_down, recorded_in, row_of}
-use Rattle.trace_instance.proofs.Calm.{kept-as_left}
+use Rattle.trace_instance.proofs.Calm.{kept-as_left, same_families}
 use Rattle.trace_instance.proofs.HistSteps.{KeepsHists, fitting-calm}
 use Rattle.trace_instance.proofs.KeptLists.{AllOfEach}
 use Rattle.trace_instance.proofs.TableStands.{table-hit}
-use Rattle.trace_instance.specs.declared.hists.AttachedHist.{AttachedHist}
 use Rattle.trace_instance.specs.declared.change.Delivery.{Delivery}
 use Rattle.trace_instance.specs.declared.change.Reach.{Reach}
 use Rattle.trace_instance.specs.declared.trigger.Trigger.{Trigger}
@@ -62,10 +62,6 @@ idle-left past request e t left true is before remains filter idle =
     let one : met_by e.k.event t.spec.filter (emitted past request) ≡ e ∷ [] = rw (is, self e.k.event.name, filter) refl in
     times_left-less e.k.event t past request e before one ∙ ap (λ (o : Option ℕ). option_map (λ times. times - 1) o) remains
     ∙ none_left left (sym (and-true (is_left left)) ∙ idle) ∙ sym remains
-  where
-    and-true : (b : Bool) → (b && true) ≡ b
-    and-true true = refl
-    and-true false = refl
 
 -- no other event has the name
 differs-at : (events : List Definition) (i j : ℕ) (d event : Definition) → AreEvents [] events → i < length events → event ≡ get_or events i event
@@ -74,13 +70,17 @@ differs-at events i j d event are first there second other = false_from_ne_true 
     let e : (get_or events j d).name ≡ event.name = (bytes_eq-Decides (get_or events j d).name event.name).0 is in
     other (one_index events j i d event are second first (e ∙ ap (λ (v : Definition). v.name) there)))
 
--- the trigger of an event at an index
+-- what is kept of an event at an index
+kept-at : {A : Type 0} (kept_of : Definition → A) (past : List Request) (kept : List A) (none : A) (ename : List ℕ) (index : ℕ) (event : Definition)
+    → kept ≡ map kept_of (declared_events past) → IsIndexOf (declared_events past) ename index event → get_or kept index none ≡ kept_of event
+kept-at kept_of past kept none ename index event are indexed =
+    rw are (get_or-map kept_of (declared_events past) index event none indexed.inside ∙ ap kept_of (sym indexed.there))
+
+-- its trigger
 pub trigger-at : (name : Option (List ℕ)) (past : List Request) (kept : List (Option Trigger)) (ename : List ℕ) (index : ℕ) (event : Definition)
     → kept ≡ map (kept_trigger name past) (declared_events past) → IsIndexOf (declared_events past) ename index event
     → get_or kept index None ≡ kept_trigger name past event
-trigger-at name past kept ename index event are indexed =
-    rw are (get_or-map (kept_trigger name past) (declared_events past) index event None indexed.inside
-    ∙ ap (kept_trigger name past) (sym indexed.there))
+trigger-at name past kept ename index event are indexed = kept-at (kept_trigger name past) past kept None ename index event are indexed
 
 -- ---- sides
 
@@ -158,30 +158,29 @@ module _ (name : Option (List ℕ)) (past : List Request) (ename : List ℕ) (cp
       → IsIndexOf (declared_events past) e.k.event.name index e.k.event → kept ≡ map (kept_trigger name past) (declared_events past)
       → is_exchanged_by name past (Some e) ≡ fires
       → (if fires then set kept index (counted_down (get_or kept index None)) else kept) ≡ map (kept_trigger name (request ∷ past)) (declared_events past)
-  triggers-after index kept true are indexed stood acting =
+  triggers-after index kept fires are indexed stood acts =
       let events = declared_events past in
       let here = trigger-at name past kept e.k.event.name index e.k.event stood indexed in
-      let changed : map (kept_trigger name (request ∷ past)) events
-      ≡ set (map (kept_trigger name past) events) index (counted_down (kept_trigger name past e.k.event)) =
-      map-set (kept_trigger name past) (kept_trigger name (request ∷ past)) (counted_down (kept_trigger name past e.k.event)) events index e.k.event
-      indexed.inside (ap (kept_trigger name (request ∷ past)) (sym indexed.there) ∙ acting-kept acting)
+      at_place fires
+      ∙ ap (λ (t : Option Trigger). set kept index (if fires then counted_down t else t)) here
+      ∙ ap (λ (l : List (Option Trigger)). set l index own) stood
+      ∙ sym (map-set (kept_trigger name past) (kept_trigger name (request ∷ past)) own events index e.k.event indexed.inside
+      (ap (kept_trigger name (request ∷ past)) (sym indexed.there) ∙ own-kept fires acts)
       (λ j inside other. other-kept (get_or events j e.k.event)
-      (differs-at events index j e.k.event e.k.event are indexed.inside indexed.there inside other)) in
-      ap (λ (t : Option Trigger). set kept index (counted_down t)) here
-      ∙ ap (λ (l : List (Option Trigger)). set l index (counted_down (kept_trigger name past e.k.event))) stood
-      ∙ sym changed
-  triggers-after index kept false are indexed stood idle =
-      let events = declared_events past in
-      let same : map (kept_trigger name (request ∷ past)) events ≡ map (kept_trigger name past) events =
-      map-agrees (kept_trigger name (request ∷ past)) (kept_trigger name past) events e.k.event
-      (λ j inside. ⊎_elim
-      (λ (at : j ≡ index).
-      let it : get_or events j e.k.event ≡ e.k.event = ap (λ (k : ℕ). get_or events k e.k.event) at ∙ sym indexed.there in
-      subst (λ (event : Definition). kept_trigger name (request ∷ past) event ≡ kept_trigger name past event) (sym it) (idle-kept idle))
-      (λ (other : j ≡ index → ⊥). other-kept (get_or events j e.k.event)
-      (differs-at events index j e.k.event e.k.event are indexed.inside indexed.there inside other))
-      (cases_eq j index)) in
-      stood ∙ sym same
+      (differs-at events index j e.k.event e.k.event are indexed.inside indexed.there inside other)))
+    where
+      own : Option Trigger
+      own = if fires then counted_down (kept_trigger name past e.k.event) else kept_trigger name past e.k.event
+
+      own-kept : (f : Bool) → is_exchanged_by name past (Some e) ≡ f → kept_trigger name (request ∷ past) e.k.event
+          ≡ (if f then counted_down (kept_trigger name past e.k.event) else kept_trigger name past e.k.event)
+      own-kept true acting = acting-kept acting
+      own-kept false idle = idle-kept idle
+
+      at_place : (f : Bool) → (if f then set kept index (counted_down (get_or kept index None)) else kept)
+          ≡ set kept index (if f then counted_down (get_or kept index None) else get_or kept index None)
+      at_place true = refl
+      at_place false = sym (set-get_or kept index None)
 
   -- the families of both sides
   sides-after : (g : Config) (written : List (List ring.Event)) (fires : Bool) → written ≡ with_emitted name past (Some e) (rings g name past)
@@ -192,20 +191,15 @@ module _ (name : Option (List ℕ)) (past : List Request) (ename : List ℕ) (cp
       let after = rings-stay g name past request refl (ap (is_exchanged_by name past) is ∙ stays) in
       let live : written ≡ rings g name (request ∷ past) =
       wrote ∙ ap (λ (o : Option Emitted). with_emitted name past o (rings g name past)) (sym is) ∙ sym after.live in
-      ap (λ (l : List (List ring.Event)). let f : SideFamilies = record { live = l; spare = spare_rings g name past } in f) live
-      ∙ ap (λ (l : List (List ring.Event)). let f : SideFamilies =
-      record { live = rings g name (request ∷ past); spare = if has_spare name past then Some l else None } in f) (sym after.spare)
+      same_families (rings g name (request ∷ past)) written (has_spare name past) (has_spare name past) (other_rings g name (request ∷ past))
+      (other_rings g name past) live refl (sym after.spare)
   sides-after g written true wrote flips spare =
       let after = rings-exchanged g name past request refl (ap (is_exchanged_by name past) is ∙ flips) in
       let there : has_spare name past ≡ true = spare refl in
       let other : written ≡ other_rings g name (request ∷ past) =
       wrote ∙ ap (λ (o : Option Emitted). with_emitted name past o (rings g name past)) (sym is) ∙ sym after.spare in
-      let was : spare_rings g name past ≡ Some (other_rings g name past) = rw there refl in
-      let now : spare_rings g name (request ∷ past) ≡ Some (other_rings g name (request ∷ past)) = rw there refl in
-      ap (λ (o : Option (List (List ring.Event))). exchanged_with written o) was
-      ∙ ap (λ (l : List (List ring.Event)). let f : SideFamilies = record { live = other_rings g name past; spare = Some l } in f) other
-      ∙ ap (λ (l : List (List ring.Event)). let f : SideFamilies = record { live = l; spare = Some (other_rings g name (request ∷ past)) } in f) (sym after.live)
-      ∙ ap (λ (o : Option (List (List ring.Event))). let f : SideFamilies = record { live = rings g name (request ∷ past); spare = o } in f) (sym now)
+      rw there (same_families (rings g name (request ∷ past)) (other_rings g name past) true true (other_rings g name (request ∷ past)) written
+      (sym after.live) refl other)
 
   -- a side that is no spare stays empty
   spared-after : (g : Config) (fires : Bool) → is_exchanged_by name past (Some e) ≡ fires → (fires ≡ true → has_spare name past ≡ true)
@@ -221,25 +215,6 @@ module _ (name : Option (List ℕ)) (past : List Request) (ename : List ℕ) (cp
       by true flips there none = absurd (false≢true (sym none ∙ there refl))
 
 -- ---- hist triggers
-
--- those of an event at an index
-pub hists-at : (name : Option (List ℕ)) (past : List Request) (hists : List (List AttachedHist)) (ename : List ℕ) (index : ℕ) (event : Definition)
-    → hists ≡ map (kept_hists name past) (declared_events past) → IsIndexOf (declared_events past) ename index event
-    → get_or hists index [] ≡ kept_hists name past event
-hists-at name past hists ename index event are indexed =
-    rw are (get_or-map (kept_hists name past) (declared_events past) index event [] indexed.inside
-    ∙ ap (kept_hists name past) (sym indexed.there))
-
--- their tables after an emission
-tables-after : (name : Option (List ℕ)) (past : List Request) (request : Request) (e : Emitted) (index : ℕ) (old new : InstanceSeen)
-    → KeepsHists name past request → emitted past request ≡ Some e → IsIndexOf (declared_events past) e.k.event.name index e.k.event
-    → old.hists ≡ map (kept_hists name past) (declared_events past) → AllOfEach (TableStandsFor name past old.tables) old.hists
-    → new.hists ≡ old.hists → AreHit (counted_row e) (get_or old.hists index []) old.tables new.tables
-    → AllOfEach (TableStandsFor name (request ∷ past) new.tables) new.hists
-tables-after name past request e index old new keeps is indexed are stood same hit =
-    subst (AllOfEach (TableStandsFor name (request ∷ past) new.tables)) (sym same) (λ k d inside j a within.
-    table-hit name past request e (get_or old.hists index []) old.tables new.tables (get_or (get_or old.hists k d) j a) keeps is
-    (hists-at name past old.hists e.k.event.name index e.k.event are indexed) hit (stood k d inside j a within))
 
 -- an emission makes no table
 none-hit : (rows : Bool → List Hit) (old new : Option KeptTable) → old ≡ None → IsHitIf rows old new → new ≡ None
@@ -268,8 +243,11 @@ delivered-stands g name past (Emission ename cpu pid pairs) e d reach old new is
       triggers = rw append-nil (came.triggers ∙ triggers-after name past ename cpu pid pairs e is d.event old.triggers reach.fires are indexed stands.triggers
           (sym fires));
       hists = rw append-nil (came.hists ∙ stands.hists);
-      tables = tables-after name past request e d.event old new keeps is indexed stands.hists stands.tables came.hists
-          (subst (λ (r : Row). AreHit r (get_or old.hists d.event []) old.tables new.tables) row came.tables);
+      tables = subst (AllOfEach (TableStandsFor name (request ∷ past) new.tables)) (sym came.hists) (λ k none inside j a within.
+          table-hit name past request e (get_or old.hists d.event []) old.tables new.tables (get_or (get_or old.hists k none) j a) keeps is
+          (kept-at (kept_hists name past) past old.hists [] e.k.event.name d.event e.k.event stands.hists indexed)
+          (subst (λ (r : Row). AreHit r (get_or old.hists d.event []) old.tables new.tables) row came.tables)
+          (stands.tables k none inside j a within));
       used = λ number unused. none-hit _ (kept_at number old.tables) (kept_at number new.tables)
           (stands.used number (ap (is_used number) (sym came.hists) ∙ unused)) (came.tables number);
       fitting = fitting-calm name past request keeps stands.fitting;

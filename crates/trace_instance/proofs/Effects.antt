@@ -1,5 +1,5 @@
 -- What writes to files, reads and declarations change of each instance.
-use Rattle.std.proofs.Common.{◌≡◌, ℕ, ◌<◌, Bool, true, false, List, [], ◌∷◌, length, map, is_some, if◌then◌else◌, Option, Some, None, refl, sym, ap, ◌∙◌, arith}
+use Rattle.std.proofs.Common.{◌≡◌, ℕ, ◌<◌, Bool, true, false, List, [], ◌∷◌, length, map, is_some, Option, Some, None, refl, sym, ap, ◌∙◌, arith}
 use Rattle.std.proofs.lemmas.Bool.{lt-ltb}
 use Rattle.std.proofs.lemmas.Slice.Eq.{bytes_eq-Decides}
 use Rattle.std.specs.Option.{option_map}
@@ -12,7 +12,7 @@ use Rattle.trace_command.specs.Requests.{Request, WriteFile, ReadFile}
 use Rattle.trace_command.specs.declared.command.Config.{Config}
 use Rattle.trace_history.proofs.EventLists.{named_at}
 use Rattle.trace_history.specs.History.{missing}
-use Rattle.trace_history.specs.Rings.{rings, rings_after, rings_after_read, rings_after_write}
+use Rattle.trace_history.specs.Rings.{rings, rings_after_read, rings_after_write}
 use Rattle.trace_history.specs.Settings.{declared_events, event_named, event_named_in, filter_of, is_enabled, is_same, is_tracing, overwrites}
 use Rattle.trace_instance.specs.Changes.{IsEffect, filters_after, IsLawful, rings_changed}
 use Rattle.trace_instance.specs.FileAnswers.{IsReading}
@@ -22,7 +22,7 @@ use Rattle.trace_instance.specs.declared.change.InstanceChange.{InstanceChange}
 use Rattle.trace_instance.specs.declared.change.InstanceChange.TheVariants.{Keep, Take, TakeCpu}
 use Rattle.trace_instance.specs.declared.file.File.{File}
 use Rattle.trace_instance.specs.declared.file.File.TheVariants as file
-use Rattle.trace_instance.proofs.Calm.{IsQuiet, IsQuietFile, IsWriteEffect, calm-effect, calm-other_write, calm-read, calm-write, no_event, quiet-keep}
+use Rattle.trace_instance.proofs.Calm.{IsQuiet, IsQuietFile, IsWriteEffect, calm-effect, calm-other_write, calm-read, calm-write, either-same, no_event, quiet-keep}
 use Rattle.trace_instance.proofs.EventReads.{name-at_place}
 
 -- an instance is the same as itself
@@ -117,19 +117,11 @@ own_read g name past named limit (TakeCpu cpu most) reading is =
 own_read g name past named limit change reading is = absurd reading
 
 -- a read of the declarations changes no instance
-declarations_rings : (g : Config) (other name : Option (List ℕ)) (past : List Request) (limit : Option ℕ) (family : List (List Event))
-    → rings_after g other past (ReadFile name (Some paths.SyntheticEvents) limit) family ≡ family
-declarations_rings g other name past limit family = by (is_same other name)
-  where
-    by : (same : Bool) → (if same then family else family) ≡ family
-    by true = refl
-    by false = refl
-
 pub declarations_read : (g : Config) (other name : Option (List ℕ)) (past : List Request) (limit : Option ℕ)
     → IsEffect g other past (ReadFile name (Some paths.SyntheticEvents) limit) Keep
 declarations_read g other name past limit =
     calm-effect g other past (ReadFile name (Some paths.SyntheticEvents) limit) Keep (calm-read name other past (Some paths.SyntheticEvents) limit) quiet-keep
-    (record { enabled = refl; filters = refl; overwrite = refl; tracing = refl; rings = declarations_rings g other name past limit (rings g other past) })
+    (record { enabled = refl; filters = refl; overwrite = refl; tracing = refl; rings = either-same (is_same other name) (rings g other past) })
 
 -- such a change can be made of every instance
 pub lawful_read : (g : Config) (events : ℕ) (i : InstanceSeen) (change : InstanceChange) → IsUsableInstance g events i → IsReading g.cpus change
@@ -141,15 +133,12 @@ lawful_read g events i change usable reading = absurd reading
 
 -- ---- nothing that was found is missing
 
-named_at_place : (events : List Definition) (index : ℕ) → AreEvents [] events → index < length events
-    → is_some (event_named_in events (name_at events index)) ≡ true
-named_at_place events index are inside =
-    rw (name-at_place events index no_event inside, named_at events index no_event are inside) refl
-
 event_there : (past : List Request) (events : List Definition) (index : ℕ) → events ≡ declared_events past → AreEvents [] events → index < length events
     → is_some (event_named (name_at events index) past) ≡ true
 event_there past events index is are inside =
-    ap (λ (es : List Definition). is_some (event_named_in es (name_at events index))) (sym is) ∙ named_at_place events index are inside
+    let named : is_some (event_named_in events (name_at events index)) ≡ true =
+    rw (name-at_place events index no_event inside, named_at events index no_event are inside) refl in
+    ap (λ (es : List Definition). is_some (event_named_in es (name_at events index))) (sym is) ∙ named
 
 pub nothing_missing : (g : Config) (past : List Request) (events : List Definition) (found : File) → events ≡ declared_events past → AreEvents [] events
     → IsThere g.cpus events found → missing g past (file_at events found) ≡ None

@@ -1,6 +1,7 @@
 -- What the files of an event and the file of the spare side show is what the requests say.
-use Rattle.std.proofs.Common.{◌≡◌, ℕ, zero, suc, ◌+◌, ◌<◌, nat_lt, Bool, true, false, not, if◌then◌else◌, List, [], ◌∷◌, ◌++◌, length, map, filter, get_or, All, IfSome, Option, Some, None, option_map, refl, sym, ap, ◌∙◌, subst, arith}
+use Rattle.std.proofs.Common.{◌≡◌, ℕ, zero, suc, ◌+◌, ◌<◌, nat_lt, Bool, false, not, List, [], ◌∷◌, ◌++◌, length, map, filter, get_or, All, IfSome, Option, Some, None, option_map, refl, sym, ap, ◌∙◌, subst, arith}
 use Rattle.std.proofs.lemmas.List.{get_or-map, map-append}
+use Rattle.std.proofs.lemmas.List.Elements.{All-filter}
 use Rattle.std.proofs.lemmas.Simd.{map-map}
 use Rattle.trace_command.specs.Requests.{Request}
 use Rattle.trace_command.specs.declared.command.Config.{Config}
@@ -14,6 +15,7 @@ use Rattle.trace_text.specs.TriggerText as texts
 use Rattle.trace_text.specs.TriggerText.{trigger_text}
 use Rattle.trace_hist.specs.Groups.{group, grouped}
 use Rattle.hist_entries.specs.Hits.{Hit}
+use Rattle.hist_entries.proofs.Printing.{filter-over}
 use Rattle.trace_trigger.specs.FittingLaws.{CountsAlike}
 use Rattle.trace_trigger.specs.HistSpecs.{SpecSeen}
 use Rattle.trace_history.specs.FileTexts.{filter_text, format_of_event, hists_of_event, in_order as in_order_said, shown_hist, shown_trigger, triggers_of_event}
@@ -64,44 +66,25 @@ shown-one name past tables h stands =
     ap (λ (found : Option KeptTable). texts.Hist (shown_with h.spec found)) stands.there
     ∙ (λ i. texts.Hist (record { spec = h.spec; rules = rules i; paused = stands.paused i; table = table i }))
 
-first-of : (P : AttachedHist → Type 0) (h : HistTrigger) (hists : List HistTrigger) → All P (map attached_as (h ∷ hists)) → P (attached_as h)
-first-of P h hists all = all 0 (attached_as h) (omega arith)
-
-rest-of : (P : AttachedHist → Type 0) (h : HistTrigger) (hists : List HistTrigger) → All P (map attached_as (h ∷ hists)) → All P (map attached_as hists)
-rest-of P h hists all = λ k d inside. all (suc k) d (omega (arith, inside))
+all-hists : (name : Option (List ℕ)) (past : List Request) (tables : List Table) (hists : List HistTrigger)
+    → All (TableStandsFor name past tables) (map attached_as hists)
+    → map (shown_attached tables) (map attached_as hists) ≡ map (shown_hist name past) hists
+all-hists name past tables [] all = refl
+all-hists name past tables (h ∷ hists) all =
+    let first = shown-one name past tables h (all 0 (attached_as h) (omega arith)) in
+    let rest = all-hists name past tables hists (λ k d inside. all (suc k) d (omega (arith, inside))) in
+    λ i. first i ∷ rest i
 
 -- those of a test are shown as those that were attached
 shown-hists : (name : Option (List ℕ)) (past : List Request) (tables : List Table) (test : AttachedHist → Bool) (hists : List HistTrigger)
     → All (TableStandsFor name past tables) (map attached_as hists)
     → map (shown_attached tables) (filter test (map attached_as hists))
     ≡ map (shown_hist name past) (filter (λ (h : HistTrigger). test (attached_as h)) hists)
-shown-hists name past tables test [] all = refl
-shown-hists name past tables test (h ∷ hists) all =
-    by (test (attached_as h)) (shown-hists name past tables test hists (rest-of (TableStandsFor name past tables) h hists all))
-  where
-    kept : List AttachedHist
-    kept = filter test (map attached_as hists)
-
-    those : List HistTrigger
-    those = filter (λ (t : HistTrigger). test (attached_as t)) hists
-
-    first : shown_attached tables (attached_as h) ≡ shown_hist name past h
-    first = shown-one name past tables h (first-of (TableStandsFor name past tables) h hists all)
-
-    by : (passes : Bool) → map (shown_attached tables) kept ≡ map (shown_hist name past) those
-        → map (shown_attached tables) (if passes then attached_as h ∷ kept else kept)
-        ≡ map (shown_hist name past) (if passes then h ∷ those else those)
-    by true rest = λ i. first i ∷ rest i
-    by false rest = rest
-
-all-hists : (name : Option (List ℕ)) (past : List Request) (tables : List Table) (hists : List HistTrigger)
-    → All (TableStandsFor name past tables) (map attached_as hists)
-    → map (shown_attached tables) (map attached_as hists) ≡ map (shown_hist name past) hists
-all-hists name past tables [] all = refl
-all-hists name past tables (h ∷ hists) all =
-    let first = shown-one name past tables h (first-of (TableStandsFor name past tables) h hists all) in
-    let rest = all-hists name past tables hists (rest-of (TableStandsFor name past tables) h hists all) in
-    λ i. first i ∷ rest i
+shown-hists name past tables test hists all =
+    let own = filter-over attached_as test hists in
+    ap (map (shown_attached tables)) own
+    ∙ all-hists name past tables (filter (λ (h : HistTrigger). test (attached_as h)) hists)
+    (subst (All (TableStandsFor name past tables)) own (All-filter test (TableStandsFor name past tables) (map attached_as hists) all))
 
 -- triggers are shown in the order of those that were attached
 shown-in_order : (name : Option (List ℕ)) (past : List Request) (tables : List Table) (event : Definition) (t : Option history.Trigger) (hists : List HistTrigger)

@@ -51,22 +51,18 @@ filter-refuses text event fault on is = (λ other. rw (on, is) refl, λ early. r
 
 -- ---- a filter of all events
 
-takes : (text : List ℕ) (event : Definition) (kept : Parsed) → answer_of event text ≡ Ok kept → can_take text event ≡ true
-unfolding can_take
-takes text event kept answered = rw answered refl
-
-takes_not : (text : List ℕ) (event : Definition) (fault : FilterFault) → answer_of event text ≡ Err fault → can_take text event ≡ false
-unfolding can_take
-takes_not text event fault answered = rw answered refl
-
 pub change-takes : (text : List ℕ) (event : Definition) (kept : Parsed) → IsFilterOf event text kept → answer_of event text ≡ Ok kept
     → change.Set kept ≡ change_of text event
-change-takes text event kept is answered = rw (takes text event kept answered) (ap (λ (k : Parsed). change.Set k) (kept-is event text kept is))
+unfolding can_take
+change-takes text event kept is answered = rw answered (ap (λ (k : Parsed). change.Set k) (kept-is event text kept is))
 
 pub change-keeps : (text : List ℕ) (event : Definition) (fault : FilterFault) → IsAnswered (Err fault) (answer_of event text)
     → fault ≢ filter_fault.Memory → change.Keep ≡ change_of text event
+unfolding can_take
 change-keeps text event filter_fault.Memory is other = absurd (other refl)
-change-keeps text event fault is other = rw (takes_not text event fault is) refl
+change-keeps text event fault is other =
+    let answered : answer_of event text ≡ Err fault = is in
+    rw answered refl
 
 -- an event gets a filter exactly where it can take it
 set-can : (text : List ℕ) (event : Definition) → is_set (change_of text event) ≡ can_take text event
@@ -78,11 +74,7 @@ set-can text event = by (can_take text event) refl
 
 some-can : (text : List ℕ) (events : List Definition)
     → list_any (λ (event : Definition). is_set (change_of text event)) events ≡ list_any (can_take text) events
-some-can text [] = refl
-some-can text (event ∷ events) =
-    let first = set-can text event in
-    let rest = some-can text events in
-    cc
+some-can text events = λ i. list_any (λ (event : Definition). set-can text event i) events
 
 done-either : (some : Bool) → cond some (let r : Result Reply Refusal = Ok reply.Done in r) (Ok reply.Done) ≡ Ok reply.Done
 done-either true = refl
@@ -92,21 +84,6 @@ pub all-done : (text : List ℕ) (event : Definition) (events : List Definition)
     → filter_of_all_answer text (event ∷ events) ≡ Ok reply.Done
 unfolding filter_of_all_answer
 all-done text event events done = rw done (done-either (list_any (can_take text) (event ∷ events)))
-
-pub all-taken : (text : List ℕ) (event : Definition) (events : List Definition)
-    → list_any (λ (e : Definition). is_set (change_of text e)) (event ∷ events) ≡ true → filter_of_all_answer text (event ∷ events) ≡ Ok reply.Done
-unfolding filter_of_all_answer
-all-taken text event events some =
-    let can : list_any (can_take text) (event ∷ events) ≡ true = sym (some-can text (event ∷ events)) ∙ some in
-    rw can refl
-
-pub all-refused : (text : List ℕ) (event : Definition) (events : List Definition) (r : Refusal)
-    → list_any (λ (e : Definition). is_set (change_of text e)) (event ∷ events) ≡ false → filter_answer text event ≡ Err r
-    → filter_of_all_answer text (event ∷ events) ≡ Err r
-unfolding filter_of_all_answer
-all-refused text event events r none refused =
-    let can : list_any (can_take text) (event ∷ events) ≡ false = sym (some-can text (event ∷ events)) ∙ none in
-    rw (can, refused) refl
 
 -- none of its refusals is found early, where there is an event
 pub all-late : (text : List ℕ) (event : Definition) (events : List Definition) → IsFoundEarly (filter_of_all_answer text (event ∷ events)) → ⊥
@@ -135,8 +112,11 @@ cleared-all text (event ∷ events) inside off = all-done text event events (rw 
 
 pub taken-by-some : (text : List ℕ) (events : List Definition) → 0 < length events → list_any (λ (e : Definition). is_set (change_of text e)) events ≡ true
     → filter_of_all_answer text events ≡ Ok reply.Done
+unfolding filter_of_all_answer
 taken-by-some text [] inside some = absurd (omega arith)
-taken-by-some text (event ∷ events) inside some = all-taken text event events some
+taken-by-some text (event ∷ events) inside some =
+    let can : list_any (can_take text) (event ∷ events) ≡ true = sym (some-can text (event ∷ events)) ∙ some in
+    rw can refl
 
 pub first-takes : (text : List ℕ) (events : List Definition) (event : Definition) (kept : Option Parsed) → 0 < length events → event ≡ get_or events 0 event
     → IsWrittenFilter text event (Ok kept) → filter_of_all_answer text events ≡ Ok reply.Done
@@ -147,10 +127,11 @@ first-takes text events event kept inside is written =
 pub first-refuses : (text : List ℕ) (events : List Definition) (event : Definition) (r : Refusal) → 0 < length events → event ≡ get_or events 0 event
     → list_any (λ (e : Definition). is_set (change_of text e)) events ≡ false → IsWrittenFilter text event (Err r)
     → IsRefusal r (filter_of_all_answer text events)
+unfolding filter_of_all_answer
 first-refuses text events event r inside is none written =
     let cons = cons-at events event inside is in
-    let refused : r ≢ refusal.Memory → filter_of_all_answer text events ≡ Err r =
-    λ other. rw cons.1 (all-refused text event cons.0 r (rw cons.1 at none) (written.0 other)) in
+    let can : list_any (can_take text) (event ∷ cons.0) ≡ false = sym (some-can text (event ∷ cons.0)) ∙ (rw cons.1 at none) in
+    let refused : r ≢ refusal.Memory → filter_of_all_answer text events ≡ Err r = λ other. rw (cons.1, can, written.0 other) refl in
     (refused, λ early. absurd (all-late text event cons.0 (subst (λ (es : List Definition). IsFoundEarly (filter_of_all_answer text es)) cons.1 early)))
 
 pub changed-map : (f : Definition → FilterChange) (h : Definition → Option Parsed) (events : List Definition)

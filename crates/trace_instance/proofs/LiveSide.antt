@@ -49,144 +49,86 @@ offered_more most s all = (all-more most (buffers.offers s.live) all.0, spare-mo
 
 -- ---- the live side
 
--- a side of the same shape
-pub record IsLike (old new : buffers.Seen) : Type 0 where
-  pub cpus : buffers.cpus new ≡ buffers.cpus old
-  pub pages : new.pages ≡ old.pages
-  pub page_bytes : new.page_bytes ≡ old.page_bytes
-
-shape-like : (g : Config) (old new : buffers.Seen) → IsLike old new → HasShape g old → HasShape g new
-shape-like g old new like shape = record {
-  cpus = like.cpus ∙ shape.cpus;
-  pages = like.pages ∙ shape.pages;
-  page_bytes = like.page_bytes ∙ shape.page_bytes;
-}
-
 -- the sides with another live side of the same shape have theirs
-pub live-shaped : (g : Config) (s : SidesSeen) (new : buffers.Seen) → IsLike s.live new → IsShaped g s → IsShaped g (record s { live = new })
-live-shaped g s new like shaped = record {
+live-shaped : (g : Config) (s : SidesSeen) (new : buffers.Seen) → buffers.cpus new ≡ buffers.cpus s.live → new.pages ≡ s.live.pages
+    → new.page_bytes ≡ s.live.page_bytes → IsShaped g s → IsShaped g (record s { live = new })
+live-shaped g s new cpus pages page_bytes shaped = record {
   cpus = shaped.cpus;
   pages = shaped.pages;
   page_bytes = shaped.page_bytes;
-  live = shape-like g s.live new like shaped.live;
+  live = record { cpus = cpus ∙ shaped.live.cpus; pages = pages ∙ shaped.live.pages; page_bytes = page_bytes ∙ shaped.live.page_bytes };
   spare = shaped.spare;
 }
 
--- one more record came to the live side
-pub live_offered_more : (s : SidesSeen) (new : buffers.Seen) (cpu most : ℕ) → cpu < length (buffers.offers s.live)
-    → buffers.offers new ≡ set (buffers.offers s.live) cpu (get_or (buffers.offers s.live) cpu 0 + 1) → WereOffered most s
-    → WereOffered (most + 1) (record s { live = new })
-live_offered_more s new cpu most inside offers all = (
-  subst (AllByRecursion (λ n. n ≤ most + 1)) (sym offers) (all-one_more most (buffers.offers s.live) cpu inside all.0),
-  spare-more most s.spare all.1,
-)
+-- ---- both sides
 
--- the live side stands for other lists
-pub live-stands : (s : SidesSeen) (new : buffers.Seen) (f : SideFamilies) (family : List (List Event)) → StandsFor s f → buffers.StandsFor new family
-    → StandsFor (record s { live = new }) (record { live = family; spare = f.spare })
-live-stands s new f family stands live = record { live = live; spare = stands.spare }
+-- each side has it
+abbrev OfEach : (buffers.Seen → Type 0) → SidesSeen → Type 0
+OfEach P s = P s.live × IfSome s.spare P
 
--- the live side was cleared
-pub cleared_offered : (s : SidesSeen) (new : buffers.Seen) (most : ℕ) → buffers.offers new ≡ replicate (buffers.cpus s.live) 0 → WereOffered most s
-    → WereOffered most (record s { live = new })
-cleared_offered s new most offers all =
-    (subst (AllByRecursion (λ n. n ≤ most)) (sym offers) (all-none most (buffers.cpus s.live)), all.1)
+reshaped : (g : Config) (old new : SidesSeen) → HasShapeOf old new → IsShaped g old → OfEach (HasShape g) new → IsShaped g new
+reshaped g old new shape shaped each = record {
+  cpus = shape.0 ∙ shaped.cpus;
+  pages = shape.1 ∙ shaped.pages;
+  page_bytes = shape.2 ∙ shaped.page_bytes;
+  live = each.0;
+  spare = each.1;
+}
 
 -- ---- a spare that is made
 
-spare-shaped : (g : Config) (s : SidesSeen) (spare : Option buffers.Seen) (side : buffers.Seen) → IsShaped g s → IfSome spare (HasShape g)
-    → IsSpareOf s spare side → HasShape g side
-spare-shaped g s None side shaped kept is = record {
-  cpus = is.cpus ∙ shaped.cpus;
-  pages = is.pages ∙ shaped.pages;
-  page_bytes = is.page_bytes ∙ shaped.page_bytes;
-}
-spare-shaped g s (Some spare) side shaped kept is = subst (HasShape g) (sym is) kept
+-- a new side has it
+abbrev OfNew : (buffers.Seen → Type 0) → SidesSeen → Type 0
+OfNew P s = (side : buffers.Seen) → IsSpareOf s None side → P side
 
-spare-offered : (most : ℕ) (s : SidesSeen) (spare : Option buffers.Seen) (side : buffers.Seen) → IfSome spare (WasOffered most)
-    → IsSpareOf s spare side → WasOffered most side
-spare-offered most s None side kept is = subst (AllByRecursion (λ n. n ≤ most)) (sym is.offers) (all-none most s.cpus)
-spare-offered most s (Some spare) side kept is = subst (WasOffered most) (sym is) kept
+new-shaped : (g : Config) (s : SidesSeen) → IsShaped g s → OfNew (HasShape g) s
+new-shaped g s shaped = λ side is.
+    record { cpus = is.cpus ∙ shaped.cpus; pages = is.pages ∙ shaped.pages; page_bytes = is.page_bytes ∙ shaped.page_bytes }
+
+new-offered : (most : ℕ) (s : SidesSeen) → OfNew (WasOffered most) s
+new-offered most s = λ side is. subst (AllByRecursion (λ n. n ≤ most)) (sym is.offers) (all-none most s.cpus)
+
+-- so the spare has it that there was or that is made
+spare-has : (P : buffers.Seen → Type 0) (s : SidesSeen) (spare : Option buffers.Seen) (side : buffers.Seen) → OfNew P s → IfSome spare P
+    → IsSpareOf s spare side → P side
+spare-has P s None side fresh kept is = fresh side is
+spare-has P s (Some spare) side fresh kept is = subst P (sym is) kept
 
 -- what holds of each side that there may be holds of the one that is there
 if_some : (P : buffers.Seen → Type 0) (spare : Option buffers.Seen) → ((side : buffers.Seen) → spare ≡ Some side → P side) → IfSome spare P
 if_some P None each = tt
 if_some P (Some side) each = each side refl
 
+armed : (P : buffers.Seen → Type 0) (old new : SidesSeen) → OfNew P old → new.live ≡ old.live
+    → ((side : buffers.Seen) → new.spare ≡ Some side → IsSpareOf old old.spare side) → OfEach P old → OfEach P new
+armed P old new fresh live spare all =
+    (subst P (sym live) all.0, if_some P new.spare (λ side is. spare-has P old old.spare side fresh all.1 (spare side is)))
+
 pub armed_shaped : (g : Config) (old new : SidesSeen) → new.live ≡ old.live
     → ((side : buffers.Seen) → new.spare ≡ Some side → IsSpareOf old old.spare side) → HasShapeOf old new → IsShaped g old → IsShaped g new
-armed_shaped g old new live spare shape shaped = record {
-  cpus = shape.0 ∙ shaped.cpus;
-  pages = shape.1 ∙ shaped.pages;
-  page_bytes = shape.2 ∙ shaped.page_bytes;
-  live = subst (HasShape g) (sym live) shaped.live;
-  spare = if_some (HasShape g) new.spare (λ side is. spare-shaped g old old.spare side shaped shaped.spare (spare side is));
-}
+armed_shaped g old new live spare shape shaped =
+    reshaped g old new shape shaped (armed (HasShape g) old new (new-shaped g old shaped) live spare (shaped.live, shaped.spare))
 
 pub armed_offered : (most : ℕ) (old new : SidesSeen) → new.live ≡ old.live
     → ((side : buffers.Seen) → new.spare ≡ Some side → IsSpareOf old old.spare side) → WereOffered most old → WereOffered most new
-armed_offered most old new live spare all = (
-  subst (WasOffered most) (sym live) all.0,
-  if_some (WasOffered most) new.spare (λ side is. spare-offered most old old.spare side all.1 (spare side is)),
-)
+armed_offered most old new live spare all = armed (WasOffered most) old new (new-offered most old) live spare all
 
 -- ---- a snapshot
 
-pub taken_shaped : (g : Config) (old new : SidesSeen) → IsSpareOf old old.spare new.live → new.spare ≡ Some old.live → HasShapeOf old new
-    → IsShaped g old → IsShaped g new
-taken_shaped g old new live spare shape shaped = record {
-  cpus = shape.0 ∙ shaped.cpus;
-  pages = shape.1 ∙ shaped.pages;
-  page_bytes = shape.2 ∙ shaped.page_bytes;
-  live = spare-shaped g old old.spare new.live shaped shaped.spare live;
-  spare = subst (λ (o : Option buffers.Seen). IfSome o (HasShape g)) (sym spare) shaped.live;
-}
-
-pub taken_offered : (most : ℕ) (old new : SidesSeen) → IsSpareOf old old.spare new.live → new.spare ≡ Some old.live → WereOffered most old
-    → WereOffered most new
-taken_offered most old new live spare all = (
-  spare-offered most old old.spare new.live all.1 live,
-  subst (λ (o : Option buffers.Seen). IfSome o (WasOffered most)) (sym spare) all.0,
-)
+exchanged-has : (P : buffers.Seen → Type 0) (old new : SidesSeen) → OfNew P old → IsSpareOf old old.spare new.live → new.spare ≡ Some old.live
+    → OfEach P old → OfEach P new
+exchanged-has P old new fresh live spare all =
+    (spare-has P old old.spare new.live fresh all.1 live, subst (λ (o : Option buffers.Seen). IfSome o P) (sym spare) all.0)
 
 -- ---- a spare that is emptied
 
-emptied-shape : (g : Config) (old new : Option buffers.Seen) → IsSpareCleared old new → IfSome old (HasShape g) → IfSome new (HasShape g)
-emptied-shape g old None is kept = tt
-emptied-shape g None (Some new) is kept = absurd is
-emptied-shape g (Some old) (Some new) is kept =
-    record { cpus = is.0 ∙ kept.cpus; pages = is.1 ∙ kept.pages; page_bytes = is.2 ∙ kept.page_bytes }
-
-emptied-offers : (most : ℕ) (old new : Option buffers.Seen) → IsSpareCleared old new → IfSome new (WasOffered most)
-emptied-offers most old None is = tt
-emptied-offers most None (Some new) is = absurd is
-emptied-offers most (Some old) (Some new) is =
-    subst (AllByRecursion (λ n. n ≤ most)) (sym is.3) (all-none most (buffers.cpus old))
-
-pub emptied_shaped : (g : Config) (old new : SidesSeen) → new.live ≡ old.live → IsSpareCleared old.spare new.spare → HasShapeOf old new
-    → IsShaped g old → IsShaped g new
-emptied_shaped g old new live spare shape shaped = record {
-  cpus = shape.0 ∙ shaped.cpus;
-  pages = shape.1 ∙ shaped.pages;
-  page_bytes = shape.2 ∙ shaped.page_bytes;
-  live = subst (HasShape g) (sym live) shaped.live;
-  spare = emptied-shape g old.spare new.spare spare shaped.spare;
-}
-
-pub emptied_offered : (most : ℕ) (old new : SidesSeen) → new.live ≡ old.live → IsSpareCleared old.spare new.spare → WereOffered most old
-    → WereOffered most new
-emptied_offered most old new live spare all =
-    (subst (WasOffered most) (sym live) all.0, emptied-offers most old.spare new.spare spare)
+emptied-has : (P : buffers.Seen → Type 0) (old new : Option buffers.Seen)
+    → ((one other : buffers.Seen) → IsSpareCleared (Some one) (Some other) → P one → P other) → IsSpareCleared old new → IfSome old P → IfSome new P
+emptied-has P old None each is kept = tt
+emptied-has P None (Some new) each is kept = absurd is
+emptied-has P (Some old) (Some new) each is kept = each old new is kept
 
 -- ---- the live side is lent
-
-like : (kept lent new : buffers.Seen) → lent ≡ kept → buffers.cpus new ≡ buffers.cpus lent → new.pages ≡ lent.pages → new.page_bytes ≡ lent.page_bytes
-    → IsLike kept new
-like kept lent new lends cpus pages page_bytes = record {
-  cpus = cpus ∙ ap (λ (b : buffers.Seen). buffers.cpus b) lends;
-  pages = pages ∙ ap (λ (b : buffers.Seen). b.pages) lends;
-  page_bytes = page_bytes ∙ ap (λ (b : buffers.Seen). b.page_bytes) lends;
-}
 
 -- a record was put there
 pub written : (d : Delivery) (reach : Reach) (value old : InstanceSeen) (lent new : buffers.Seen) (bytes : List ℕ) → old ≡ value → lent ≡ old.sides.live
@@ -198,13 +140,17 @@ pub written : (d : Delivery) (reach : Reach) (value old : InstanceSeen) (lent ne
 written d reach value old lent new bytes view lends copied records room stands cpus pages page_bytes offers =
     subst (λ (v : InstanceSeen). IsWritten d reach v (record old { sides = record old.sides { live = new } })) view (record {
       rest = refl;
-      sides = λ f s. rw records (live-stands old.sides new f (with_events d.cpu (Put d.record.items old.overwrite ∷ []) f.live) s
-          (subst (λ (bs : List ℕ). buffers.StandsFor new (with_events d.cpu (Put bs old.overwrite ∷ []) f.live)) copied
-          (stands f.live (subst (λ (b : buffers.Seen). buffers.StandsFor b f.live) (sym lends) s.live))));
+      sides = λ f s. rw records (record {
+        live = subst (λ (bs : List ℕ). buffers.StandsFor new (with_events d.cpu (Put bs old.overwrite ∷ []) f.live)) copied
+            (stands f.live (rw lends s.live));
+        spare = s.spare;
+      });
       spare = refl;
-      shaped = λ g s. live-shaped g old.sides new (like old.sides.live lent new lends cpus pages page_bytes) s;
-      offered = λ most all. live_offered_more old.sides new d.cpu most inside
-          (offers ∙ ap (λ (b : buffers.Seen). set (buffers.offers b) d.cpu (get_or (buffers.offers b) d.cpu 0 + 1)) lends) all;
+      shaped = λ g s. live-shaped g old.sides new (rw lends at cpus) (rw lends at pages) (rw lends at page_bytes) s;
+      offered = λ most all. (
+        subst (AllByRecursion (λ n. n ≤ most + 1)) (sym (rw lends at offers)) (all-one_more most (buffers.offers old.sides.live) d.cpu inside all.0),
+        spare-more most old.sides.spare all.1,
+      );
     })
   where
     here : d.cpu < buffers.cpus old.sides.live
@@ -222,6 +168,8 @@ unwritten d reach i none = record {
   offered = λ most all. offered_more most i.sides all;
 }
 
+-- ---- changes of the sides alone
+
 -- it was cleared
 pub cleared : (value old : InstanceSeen) (lent new : buffers.Seen) → old ≡ value → lent ≡ old.sides.live
     → ((family : List (List Event)) → buffers.StandsFor lent family → buffers.StandsFor new (all_cleared family))
@@ -237,14 +185,11 @@ cleared value old lent new view lends stands cpus pages page_bytes offers =
       unused = λ n off. refl;
       overwrite = refl;
       tracing = refl;
-      sides = λ f s. live-stands old.sides new f (all_cleared f.live) s
-          (stands f.live (subst (λ (b : buffers.Seen). buffers.StandsFor b f.live) (sym lends) s.live));
-      shaped = λ g s. live-shaped g old.sides new (like old.sides.live lent new lends cpus pages page_bytes) s;
-      offered = λ most all. cleared_offered old.sides new most
-          (offers ∙ ap (λ (b : buffers.Seen). replicate (buffers.cpus b) 0) lends) all;
+      sides = λ f s. record { live = stands f.live (rw lends s.live); spare = s.spare };
+      shaped = λ g s. live-shaped g old.sides new (rw lends at cpus) (rw lends at pages) (rw lends at page_bytes) s;
+      offered = λ most all.
+          (subst (AllByRecursion (λ n. n ≤ most)) (sym (rw lends at offers)) (all-none most (buffers.cpus old.sides.live)), all.1);
     })
-
--- ---- changes of the spare side
 
 pub taken : (value old : InstanceSeen) (new : SidesSeen) → old ≡ value → IsSpareOf old.sides old.sides.spare new.live
     → new.spare ≡ Some old.sides.live
@@ -261,8 +206,9 @@ taken value old new view live spare stands shape =
       overwrite = refl;
       tracing = refl;
       sides = stands;
-      shaped = λ g s. taken_shaped g old.sides new live spare shape s;
-      offered = λ most all. taken_offered most old.sides new live spare all;
+      shaped = λ g s. reshaped g old.sides new shape s
+          (exchanged-has (HasShape g) old.sides new (new-shaped g old.sides s) live spare (s.live, s.spare));
+      offered = λ most all. exchanged-has (WasOffered most) old.sides new (new-offered most old.sides) live spare all;
     })
 
 pub emptied : (value old : InstanceSeen) (new : SidesSeen) → old ≡ value → new.live ≡ old.sides.live → IsSpareCleared old.sides.spare new.spare
@@ -279,8 +225,16 @@ emptied value old new view live spare stands shape =
       overwrite = refl;
       tracing = refl;
       sides = stands;
-      shaped = λ g s. emptied_shaped g old.sides new live spare shape s;
-      offered = λ most all. emptied_offered most old.sides new live spare all;
+      shaped = λ g s. reshaped g old.sides new shape s (
+        subst (HasShape g) (sym live) s.live,
+        emptied-has (HasShape g) old.sides.spare new.spare
+            (λ one other is kept. record { cpus = is.0 ∙ kept.cpus; pages = is.1 ∙ kept.pages; page_bytes = is.2 ∙ kept.page_bytes }) spare s.spare,
+      );
+      offered = λ most all. (
+        subst (WasOffered most) (sym live) all.0,
+        emptied-has (WasOffered most) old.sides.spare new.spare
+            (λ one other is kept. subst (AllByRecursion (λ n. n ≤ most)) (sym is.3) (all-none most (buffers.cpus one))) spare all.1,
+      );
     })
 
 -- ---- an emission

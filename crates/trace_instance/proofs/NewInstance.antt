@@ -1,7 +1,8 @@
 -- An instance as it is made stands for no request, and for the request that makes it.
-use Rattle.std.proofs.Common.{◌≡◌, ℕ, suc, ◌≤◌, Bool, true, false, if◌then◌else◌, List, [], ◌∷◌, length, replicate, All, is_some, Option, Some, None, IfSome, refl, sym, ap, ◌∙◌, subst, append-nil, arith}
+use Rattle.std.proofs.Common.{◌≡◌, ℕ, suc, ◌≤◌, true, false, List, [], ◌∷◌, length, replicate, All, is_some, Option, Some, None, IfSome, refl, sym, ap, ◌∙◌, subst, append-nil, arith}
 use Rattle.std.specs.List.{AllByRecursion, Contains, list_any}
 use Rattle.std.proofs.lemmas.List.Elements.{All-nil, All-replicate}
+use Rattle.std.proofs.lemmas.List.Folds.{list_any_none}
 use Rattle.std.specs.Str.{bytes_eq}
 use Rattle.std.proofs.lemmas.Bool.{false≢true}
 use Rattle.std.proofs.lemmas.Slice.Eq.{bytes_eq-Decides}
@@ -11,9 +12,8 @@ use Rattle.trace_format.specs.Definitions.{Definition}
 use Rattle.trace_command.specs.Requests.{Request, MakeInstance}
 use Rattle.trace_command.specs.declared.command.Config.{Config}
 use Rattle.trace_history.specs.HistTriggers.{HistTrigger, hist_triggers}
-use Rattle.trace_history.specs.Rings.{other_rings, spare_rings}
+use Rattle.trace_history.specs.Rings.{spare_rings}
 use Rattle.trace_history.specs.Settings.{declared_events, is_enabled, kept_filter}
-use Rattle.trace_history.specs.Snapshots.{has_spare}
 use Rattle.trace_history.specs.Triggers.{trigger_of}
 use Rattle.trace_history.proofs.EventLists.{map-constant}
 use Rattle.trace_history.proofs.Sides.{AreMade, rings-made}
@@ -93,15 +93,6 @@ top_instance_stands g i new = record {
 
 -- ---- an instance that was just made
 
--- no event of a list has what none has
-none_any : (test : Definition → Bool) (events : List Definition) → ((event : Definition) → test event ≡ false) → list_any test events ≡ false
-none_any test [] off = refl
-none_any test (event ∷ events) off = rw (off event) (none_any test events off)
-
-no_spare : (has : Bool) (family : List (List Event)) → has ≡ false → (if has then Some family else None) ≡ None
-no_spare false family is = refl
-no_spare true family is = absurd (false≢true (sym is))
-
 -- an instance stands for the request that makes it: it is as new
 pub made-stands : (g : Config) (past : List Request) (name : List ℕ) (i : InstanceSeen) → IsNew g (length (declared_events past)) i
     → InstanceStandsFor g (Some name) (MakeInstance (Some name) ∷ past) i
@@ -118,7 +109,7 @@ made-stands g past name i new = record {
   tracing = rw itself new.tracing;
   sides = record {
     live = subst (buffers.StandsFor i.sides.live) (sym made.live) new.live.stands;
-    spare = spareless i (spare_rings g (Some name) now) new.spare (no_spare (has_spare (Some name) now) (other_rings g (Some name) now) unspared);
+    spare = spareless i (spare_rings g (Some name) now) new.spare (rw itself refl);
   };
   shaped = shaped_new g (length events) i new;
   offered = offered_new g (length events) i (suc (length past)) new;
@@ -137,8 +128,5 @@ made-stands g past name i new = record {
     made : AreMade g (Some name) past (MakeInstance (Some name))
     made = rings-made g (Some name) past (MakeInstance (Some name)) itself
 
-    unspared : has_spare (Some name) now ≡ false
-    unspared = rw itself refl
-
     untriggered : (all : List Definition) → list_any (λ (event : Definition). is_some (trigger_of (Some name) event now)) all ≡ false
-    untriggered all = none_any (λ (event : Definition). is_some (trigger_of (Some name) event now)) all (λ event. rw itself refl)
+    untriggered all = list_any_none (λ (event : Definition). is_some (trigger_of (Some name) event now)) all (λ k event inside. rw itself refl)

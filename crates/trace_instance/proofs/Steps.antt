@@ -168,24 +168,9 @@ offered-after past request s were =
     let one : length past + 1 ≡ suc (length past) = omega arith in
     subst (λ (n : ℕ). WereOffered n s) one (offered_more (length past) s were)
 
--- a request that declares nothing leaves the events as they were
-spared-same : (g : Config) (name : Option (List ℕ)) (past : List Request) (request : Request) → declares request ≡ None
-    → IsSpared g name (declared_events past) (request ∷ past) → IsSpared g name (declared_events (request ∷ past)) (request ∷ past)
-spared-same g name past request nothing spared =
-    let same : declared_events past ≡ declared_events (request ∷ past) = rw (nothing, append-nil) refl in
-    subst (λ (events : List Definition). IsSpared g name events (request ∷ past)) same spared
-
 -- ---- the tables of an instance
 
--- each table was made by a request that was done
-early-all : (name : Option (List ℕ)) (past : List Request) (hists : List (List AttachedHist)) → hists ≡ map (kept_hists name past) (declared_events past)
-    → AllOfEach (λ a. a.table < length past) hists
-early-all name past hists are =
-    subst (AllOfEach (λ a. a.table < length past)) (sym are)
-    (kept-all (λ a. a.table < length past) name past (declared_events past) (λ t there.
-    (each-in (IsBefore (length past)) t (hist_triggers name past) (tables-made_before name past) there).table))
-
--- so a change only asks something of the table of a trigger that was there before
+-- a change only asks something of the table of a trigger that was there before
 old-changed : (name : Option (List ℕ)) (past : List Request) (change : InstanceChange) (number : ℕ) (found : Option KeptTable) → IsJoined name past change
     → number < length past → table_after change number found ≡ option_map (asked_if (asks change number)) found
 old-changed name past (Triggers index append (MakeHist one)) number found made early =
@@ -236,11 +221,16 @@ changed-stands name past request change hists old new came asked joined are all 
     P : AttachedHist → Type 0
     P a = is_used a.table (hists_after change hists) ≡ true → TableStandsFor name (request ∷ past) new a
 
+    -- each table was made by a request that was done
+    early : AllOfEach (λ a. a.table < length past) hists
+    early = subst (AllOfEach (λ a. a.table < length past)) (sym are) (kept-all (λ a. a.table < length past) name past (declared_events past)
+        (λ t there. (each-in (IsBefore (length past)) t (hist_triggers name past) (tables-made_before name past) there).table))
+
     before : AllOfEach P hists
     before k d inside j e within used =
         let a = get_or (get_or hists k d) j e in
         table-asked name past request old new a (asks change a.table) (asked a.table)
-        (came a.table used ∙ old-changed name past change a.table (kept_at a.table old) joined (early-all name past hists are k d inside j e within))
+        (came a.table used ∙ old-changed name past change a.table (kept_at a.table old) joined (early k d inside j e within))
         (all k d inside j e within)
 
 -- each table is that of some trigger still
@@ -270,7 +260,7 @@ effect-stands g name past request change old new nothing effect stands applied =
       (rw (stands.shaped.cpus, stands.shaped.live.pages, stands.shaped.live.page_bytes) at (applied.sides (side_families g name past) stands.sides));
   shaped = applied.shaped g stands.shaped;
   offered = offered-after past request new.sides (applied.offered (length past) stands.offered);
-  spared = spared-same g name past request nothing (effect.spared stands.spared);
+  spared = rw (nothing, append-nil) (effect.spared stands.spared);
 }
 
 keeps : (i : InstanceSeen) → IsApplied Keep i i

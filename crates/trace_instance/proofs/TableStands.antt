@@ -21,6 +21,7 @@ use Rattle.trace_instance.specs.Changes.{IsAsked, IsMadeFor}
 use Rattle.trace_instance.specs.KeptHists.{AreHit, IsHitIf, KeptTable, TableStandsFor, asked_if, attached_as, kept_at, kept_hists, kept_table, row_counted, rows_counted}
 use Rattle.trace_instance.specs.declared.hists.AttachedHist.{AttachedHist}
 use Rattle.trace_instance.specs.declared.tables.Table.{Table}
+use Rattle.trace_instance.proofs.Calm.{either-same}
 use Rattle.trace_instance.proofs.HistSteps.{KeepsHists, hits-calm, paused-calm}
 
 -- ---- counting alike
@@ -149,11 +150,7 @@ row-other : (table : ℕ) (e : Emitted) (t : HistTrigger) → is_of e.k.event t 
 row-other table e t other =
     ap (λ (b : Bool). if t.table == table then map (counted_hit t) (if b && passes t.spec.filter e then e ∷ [] else []) else [])
     (bytes-differ e.k.event.name t.event.name other)
-    ∙ either (t.table == table)
-  where
-    either : (b : Bool) → (let rows : List Hit = if b then [] else [] in rows) ≡ []
-    either true = refl
-    either false = refl
+    ∙ either-same (t.table == table) []
 
 rows-same : (table : ℕ) (e : Emitted) (hists : List HistTrigger)
     → flat_map (met_in table (Some e)) hists ≡ flat_map (row_counted table (counted_row e)) (map attached_as (those_of e.k.event hists))

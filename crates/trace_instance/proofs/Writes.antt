@@ -1,5 +1,5 @@
 -- What writes to the files of an instance answer and change.
-use Rattle.std.proofs.Common.{◌≡◌, ℕ, suc, ◌<◌, Bool, true, false, if◌then◌else◌, unwrap_or, List, [], ◌∷◌, length, map, replicate, get_or, Option, Some, None, Ok, Err, refl, sym, ap, ◌∙◌, arith, Vec, Global}
+use Rattle.std.proofs.Common.{◌≡◌, ℕ, suc, ◌<◌, Bool, true, false, if◌then◌else◌, unwrap_or, List, [], ◌∷◌, length, map, replicate, get_or, is_some, Option, Some, None, Ok, Err, refl, sym, ap, ◌∙◌, arith, Vec, Global}
 use Rattle.std.specs.Option.{option_map}
 use Rattle.std.specs.Str.{bytes_eq}
 use Rattle.std.proofs.lemmas.Bool.{false_from_ne_true}
@@ -77,27 +77,25 @@ needed-some : (flag : Option Bool) (value : Bool) → needed_flag flag ≡ Ok va
 needed-some (Some flag) value is = cc
 needed-some None value is = absurd (cc)
 
-needed-none : (flag : Option Bool) (refused : Refusal) → needed_flag flag ≡ Err refused → (flag ≡ None) × (refused ≡ refusal.BadValue)
-needed-none (Some flag) refused is = absurd (cc)
-needed-none None refused is = (refl, cc)
+-- a text that is no flag
+bad-flag : (flag : Option Bool) (refused : Refusal) → needed_flag flag ≡ Err refused
+    → IsRefusal refused (if is_some flag then Ok reply.Done else Err refusal.BadValue)
+bad-flag (Some flag) refused is = absurd (cc)
+bad-flag None refused is =
+    let bad : refused ≡ refusal.BadValue = cc in
+    rw bad (λ other. refl, λ early. refl)
 
 pub no-switch : (text : List ℕ) (refused : Refusal) → needed_flag (written_flag text) ≡ Err refused → IsRefusal refused (switch_answer text)
 unfolding switch_answer
-no-switch text refused is =
-    let none = needed-none (written_flag text) refused is in
-    rw (none.1, none.0) (λ other. refl, λ early. refl)
+no-switch text = bad-flag (written_flag text)
 
 pub no-option : (text : List ℕ) (refused : Refusal) → needed_flag (written_option text) ≡ Err refused → IsRefusal refused (option_answer text)
 unfolding option_answer
-no-option text refused is =
-    let none = needed-none (written_option text) refused is in
-    rw (none.1, none.0) (λ other. refl, λ early. refl)
+no-option text = bad-flag (written_option text)
 
 pub no-number : (text : List ℕ) (refused : Refusal) → needed_flag (written_tracing text) ≡ Err refused → IsRefusal refused (tracing_answer text)
 unfolding tracing_answer
-no-number text refused is =
-    let none = needed-none (written_tracing text) refused is in
-    rw (none.1, none.0) (λ other. refl, λ early. refl)
+no-number text = bad-flag (written_tracing text)
 
 pub sets-overwrite : (g : Config) (instance : Option (List ℕ)) (past : List Request) (append : Bool) (text : List ℕ) (flag : Bool) → needed_flag (written_flag text) ≡ Ok flag
     → IsWriteChange g instance past append text (paths.OfInstance top.Overwrite) (Ok (SetOverwrite flag))
