@@ -13,7 +13,7 @@ from cases.running import TOP, Case
 
 CRATES = TOP / "crates"
 PAGE = TOP / "docs" / "BELIEVE.md"
-HEADLINE = (("trace_session", "session.rt", "run_session"), ("thread_history", "history.rt", "history_of"))
+HEADLINE = (("trace_session", "session.rt", "run_session"), ("parallel_history", "history.rt", "history_of"))
 MOUNT = (("mount_service", "service.rt", "serve_tracer"),)
 MOST = 3000  # lines of definitions, without comments, that the headline may rest on
 

@@ -24,7 +24,7 @@ HANGING = "exec sleep 100"
 KEEPING = 'cp "$TOP/kept" "$2"'  # of tools/unproved.py
 SLOW = "sleep 1; " + KEEPING
 OTHER_KIT = "echo 'another kit' >&2; exit 3"
-PROVING = '[ "$*" = ci ] && mkdir -p crates/tracectl/out && cp "$TOP/kept" crates/tracectl/out/tracectl && echo "rt: command_line proved" && sleep 2'  # of rt
+PROVING = '[ "$*" = ci ] && mkdir -p crates/tracectl/out && cp "$TOP/kept" crates/tracectl/out/tracectl && echo "rt: program_arguments proved" && sleep 2'  # of rt
 
 COMPILING = b"tracectl: compiling crates/tracectl/out/tracectl-unproved, unproved, which takes about a minute\n"
 UNPROVED = b"tracectl: nothing of this program is proved; ./check proves and tests it all, ./tracectl --prove only proves it\n"
@@ -38,11 +38,11 @@ class Starter:
         self.top = Path(top)
         self.proved = self.top / "crates" / "tracectl" / "out" / "tracectl"
         self.unproved = self.proved.with_name("tracectl-unproved")
-        self.source = self.top / "crates" / "command_line" / "src" / "words.rt"
+        self.source = self.top / "crates" / "program_arguments" / "src" / "words.rt"
         for place in (self.proved.parent, self.source.parent, self.top / "commands", self.top / "tools"):
             place.mkdir(parents=True)
         self.source.write_text("// a source\n")
-        (self.top / "crates.txt").write_text("command_line: clap\ntracectl may_wait=4: command_line\n")
+        (self.top / "crates.txt").write_text("program_arguments: clap\ntracectl may_wait=4: program_arguments\n")
         for name in ("tracectl", "HANDLES", "tools/building.bash"):
             shutil.copy(str(TOP / name), str(self.top / name))
         old = time.time() - 100
@@ -110,7 +110,7 @@ def first_unproved_then_proved(program):
         found += telling(one.start(), wanted(SCRIPT), UNPROVED)
         one.place("rt", PROVING)
         got = one.start(["--prove"])
-        found += telling(got, Outcome(0, b"", b""), b"tracectl: proving 2 crates", b"nothing is kept of earlier runs\n", b"tracectl: command_line is proved, 1 of 2, ", b" seconds\n", b"tracectl: the program is proved\n")
+        found += telling(got, Outcome(0, b"", b""), b"tracectl: proving 2 crates", b"nothing is kept of earlier runs\n", b"tracectl: program_arguments is proved, 1 of 2, ", b" seconds\n", b"tracectl: the program is proved\n")
         one.place("rt", FAILING)
         found += telling(one.start(), wanted(SCRIPT))
         found += telling(one.start(["--prove"]), Outcome(0, b"", b""), b"tracectl: the program is proved\n")
@@ -144,7 +144,7 @@ def failed_compilation(program):
 def other_kit(program):
     """Where the kit works in other ways the program is proved, and where that fails too it is told."""
     with starter(program, rt=PROVING, compiler=OTHER_KIT) as one:
-        proving = (COMPILING, b"another kit\n", b"tracectl: so the program is proved", b"\n", b"tracectl: proving 2 crates", b"\n", b"tracectl: command_line is proved", b"\n")
+        proving = (COMPILING, b"another kit\n", b"tracectl: so the program is proved", b"\n", b"tracectl: proving 2 crates", b"\n", b"tracectl: program_arguments is proved", b"\n")
         found = telling(one.start(), wanted(SCRIPT), *proving)
         found += telling(one.start(), wanted(SCRIPT))
     with starter(program, compiler=OTHER_KIT) as one:
@@ -190,7 +190,7 @@ def stopped(words, name, number):
 
 def source_of_the_future(program):
     """It is compiled once for each of its times, and told."""
-    ahead = b"tracectl: crates/command_line/src/words.rt is dated in the future; crates/tracectl/out/tracectl-unproved was made from it as it is\n"
+    ahead = b"tracectl: crates/program_arguments/src/words.rt is dated in the future; crates/tracectl/out/tracectl-unproved was made from it as it is\n"
     found = []
     with starter(program, compiler=KEEPING) as one:
         for when in (FAR, FAR + 1):

@@ -14,7 +14,7 @@ use Rattle.trace_script.specs.declared.line.Line.TheVariants.{Ask}
 use Rattle.trace_script.specs.declared.outcome.Outcome.{Outcome}
 use Rattle.trace_script.specs.declared.outcome.Outcome.TheVariants.{Replied}
 
--- the event that a request declares, as trace_history defines it too
+-- the event that a request declares, as tracer_specification defines it too
 abbrev pub declares : Request → Option Definition
 declares (WriteFile instance (Some SyntheticEvents) append text) = result_ok (definition_of text)
 declares _ = None

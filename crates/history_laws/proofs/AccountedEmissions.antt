@@ -1,9 +1,9 @@
 -- Over both sides of an instance, the emissions that were recorded since a ring was emptied are all of them, if none was.
 use Rattle.std.proofs.Common.{◌≡◌, ℕ, zero, suc, ◌+◌, ◌-◌, ◌%◌, ◌≤◌, ◌==◌, Bool, true, false, ◌||◌, if◌then◌else◌, List, [], ◌∷◌, Option, refl, ◌∙◌, ap, arith, true≢false}
 use Rattle.trace_command.specs.Requests.{Request}
-use Rattle.trace_history.specs.Settings.{makes}
-use Rattle.trace_history.specs.Snapshots.{exchanges, exchange_count, live_side}
-use Rattle.trace_history.proofs.Sides.{live-small}
+use Rattle.tracer_specification.specs.Settings.{makes}
+use Rattle.tracer_specification.specs.Snapshots.{exchanges, exchange_count, live_side}
+use Rattle.tracer_specification.proofs.Sides.{live-small}
 use Rattle.history_laws.specs.AccountedFor.{emissions_of, empties_live, empties_spare, shown_of, since_made, was_emptied, EmissionsAreAccountedFor, EmissionsAreShownOrCounted, ShownCountsAccountForEmissions}
 use Rattle.history_laws.specs.RingTotals.{since_new, ReadIsWhatPipesShowed, RingsCountEmissions}
 

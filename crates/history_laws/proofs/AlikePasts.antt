@@ -28,14 +28,14 @@ use Rattle.trace_command.specs.declared.file_name.CpuFile.TheVariants as per_cpu
 use Rattle.trace_command.specs.declared.file_name.EventFile.TheVariants as per_event
 use Rattle.trace_command.specs.declared.file_name.TopFile.TheVariants as top
 use Rattle.trace_command.specs.declared.refusal.Refusal.{Refusal}
-use Rattle.trace_history.specs.FileTexts.{cpu_stats_text, declarations_text, filter_text, flag_text, format_of_event, hists_of_event, in_order, option_text, shown_cpu_pipe, shown_hist, shown_pipe, shown_snapshot, shown_trace, shown_trigger, switches_text, triggers_of_event}
-use Rattle.trace_history.specs.HistTriggers.{HistTrigger, fits_that, has_same, hist_triggers, hists_of, hits_of, is_of, is_paused, kept_by, left_by, named_by, names_table_of, says_same, those_of}
-use Rattle.trace_history.specs.History.{answer_with_room, declaration_answer, emission_answer, file_answer, filter_of_all_answer, fitting_answer, hist_answer, instance_answer, missing, named_answer, named_filter_answer, named_trigger_answer, new_hist_answer, read_answer, read_declaration_answer, room_answer, said_answer, snapshot_answer, spare_answer, text_of, trigger_answer, trigger_count, whole_text, write_answer}
-use Rattle.trace_history.specs.Rings.{pipe_read, cpu_pipe_read, rings, spare_rings}
-use Rattle.trace_history.specs.Settings.{NumberedEvent, declared_events, event_named, event_named_in, filter_of, instance_names, is_enabled, is_there, is_tracing, now_of, overwrites}
-use Rattle.trace_history.specs.Snapshots.{written_snapshot}
-use Rattle.trace_history.specs.Triggers.{Trigger, times_left, trigger_of}
-use Rattle.trace_history.specs.Waiting.{waiting, waits_in}
+use Rattle.tracer_specification.specs.FileTexts.{cpu_stats_text, declarations_text, filter_text, flag_text, format_of_event, hists_of_event, in_order, option_text, shown_cpu_pipe, shown_hist, shown_pipe, shown_snapshot, shown_trace, shown_trigger, switches_text, triggers_of_event}
+use Rattle.tracer_specification.specs.HistTriggers.{HistTrigger, fits_that, has_same, hist_triggers, hists_of, hits_of, is_of, is_paused, kept_by, left_by, named_by, names_table_of, says_same, those_of}
+use Rattle.tracer_specification.specs.History.{answer_with_room, declaration_answer, emission_answer, file_answer, filter_of_all_answer, fitting_answer, hist_answer, instance_answer, missing, named_answer, named_filter_answer, named_trigger_answer, new_hist_answer, read_answer, read_declaration_answer, room_answer, said_answer, snapshot_answer, spare_answer, text_of, trigger_answer, trigger_count, whole_text, write_answer}
+use Rattle.tracer_specification.specs.Rings.{pipe_read, cpu_pipe_read, rings, spare_rings}
+use Rattle.tracer_specification.specs.Settings.{NumberedEvent, declared_events, event_named, event_named_in, filter_of, instance_names, is_enabled, is_there, is_tracing, now_of, overwrites}
+use Rattle.tracer_specification.specs.Snapshots.{written_snapshot}
+use Rattle.tracer_specification.specs.Triggers.{Trigger, times_left, trigger_of}
+use Rattle.tracer_specification.specs.Waiting.{waiting, waits_in}
 use Rattle.history_laws.proofs.Renumbered.{any-later, filter-later, find-later, later_hist, later_trigger, map-later, up, up-less}
 
 pub record AreAlike (n : ℕ) (more less : List Request) : Type 0 where

@@ -14,11 +14,11 @@ use Rattle.record_text.specs.SnapshotText.{snapshot_text}
 use Rattle.record_text.specs.TraceText.{trace_head}
 use Rattle.trace_command.specs.Requests.{Request}
 use Rattle.trace_command.specs.declared.command.Config.{Config}
-use Rattle.trace_history.specs.FileTexts.{shown_snapshot, shown_trace}
-use Rattle.trace_history.specs.Rings.{rings, other_rings}
-use Rattle.trace_history.specs.Settings.{declared_events}
-use Rattle.trace_history.specs.Snapshots.{live_side}
-use Rattle.trace_history.proofs.Sides.{side-has_all_cpus}
+use Rattle.tracer_specification.specs.FileTexts.{shown_snapshot, shown_trace}
+use Rattle.tracer_specification.specs.Rings.{rings, other_rings}
+use Rattle.tracer_specification.specs.Settings.{declared_events}
+use Rattle.tracer_specification.specs.Snapshots.{live_side}
+use Rattle.tracer_specification.proofs.Sides.{side-has_all_cpus}
 use Rattle.history_laws.specs.CpuSums.{over_cpus, written, CpuHeadHasItsCounts, HeadHasTheSums, ShownAreAllEntries, SnapshotHeadHasTheSums, WaitingAreAllEntries}
 use Rattle.history_laws.proofs.RingReads.{readings-count}
 

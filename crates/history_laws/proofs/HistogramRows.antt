@@ -5,10 +5,10 @@ use Rattle.hist_entries.specs.Hits.{Hit}
 use Rattle.hist_entries.specs.RowPlaces.{entry_keys}
 use Rattle.trace_hist.specs.Groups.{group, grouped}
 use Rattle.trace_command.specs.Requests.{Request}
-use Rattle.trace_history.specs.Emissions.{emitted}
-use Rattle.trace_history.specs.HistTriggers.{asked_by, counted_by, empties, hist_triggers, hits_of, is_paused}
-use Rattle.trace_history.specs.Laws.{some_later}
-use Rattle.trace_history.proofs.Members.{both-false}
+use Rattle.tracer_specification.specs.Emissions.{emitted}
+use Rattle.tracer_specification.specs.HistTriggers.{asked_by, counted_by, empties, hist_triggers, hits_of, is_paused}
+use Rattle.tracer_specification.specs.Laws.{some_later}
+use Rattle.tracer_specification.proofs.Members.{both-false}
 use Rattle.history_laws.specs.GroupedRows.{RowsAreTold, HitcountsAreHits, SumsAreOfTheirRows, SumsAreOfCountedRows, EntriesStay, EntriesFit, DroppedIsFull, TiesAreByFirstRow}
 use Rattle.history_laws.specs.HistogramRows.{HistogramsAreAccountedFor, HistogramsKeepTheirEntries, entries_of}
 

@@ -17,14 +17,14 @@ use Rattle.trace_command.specs.declared.command.Entry.{Entry}
 use Rattle.trace_command.specs.declared.command.Reply.{Reply}
 use Rattle.trace_command.specs.declared.refusal.Refusal.{Refusal}
 use Rattle.trace_command.specs.declared.file_name.EventFile.TheVariants as per_event
-use Rattle.trace_history.specs.Emissions.{Emitted, emitted}
-use Rattle.trace_history.specs.HistTriggers.{HistTrigger, Written, asked_by, asked_in, asked_of, counted_by, counted_hit, empties, has_same, hist_triggers, hists_after, hists_said, hits_of, is_of, is_paused, left_by, met_in, named_by, new_hist, paused_after, says_same, speaks_of, table_or, those_of, written_to}
-use Rattle.trace_history.specs.History.{answer, answer_with_room, requests_of, unless_full}
-use Rattle.trace_history.specs.Settings.{NumberedEvent, is_same, makes}
-use Rattle.trace_history.specs.Triggers.{met_by}
-use Rattle.trace_history.proofs.EventHists.{tables-made_before}
-use Rattle.trace_history.proofs.LegalEvents.{done-had_room}
-use Rattle.trace_history.proofs.TableSteps.{nothing-counted, unmade}
+use Rattle.tracer_specification.specs.Emissions.{Emitted, emitted}
+use Rattle.tracer_specification.specs.HistTriggers.{HistTrigger, Written, asked_by, asked_in, asked_of, counted_by, counted_hit, empties, has_same, hist_triggers, hists_after, hists_said, hits_of, is_of, is_paused, left_by, met_in, named_by, new_hist, paused_after, says_same, speaks_of, table_or, those_of, written_to}
+use Rattle.tracer_specification.specs.History.{answer, answer_with_room, requests_of, unless_full}
+use Rattle.tracer_specification.specs.Settings.{NumberedEvent, is_same, makes}
+use Rattle.tracer_specification.specs.Triggers.{met_by}
+use Rattle.tracer_specification.proofs.EventHists.{tables-made_before}
+use Rattle.tracer_specification.proofs.LegalEvents.{done-had_room}
+use Rattle.tracer_specification.proofs.TableSteps.{nothing-counted, unmade}
 use Rattle.history_laws.specs.Looks.{LooksCanBeLeftOut, LookingChangesNothing, LookingLeavesWaiting, LookingTakesOnlyRoom}
 use Rattle.history_laws.specs.ReadsInParts.{is_pipe}
 use Rattle.history_laws.proofs.AlikePasts.{AreAlike, answer-same, found-later, left-later, same-later, those-later, waiting-same}

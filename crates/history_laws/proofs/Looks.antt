@@ -17,12 +17,12 @@ use Rattle.trace_command.specs.declared.command.Config.{Config}
 use Rattle.trace_command.specs.declared.file_name.CpuFile.TheVariants as per_cpu
 use Rattle.trace_command.specs.declared.file_name.EventFile.TheVariants as per_event
 use Rattle.trace_command.specs.declared.file_name.TopFile.TheVariants as top
-use Rattle.trace_history.specs.Emissions.{Emitted, emitted, emitted_event, is_recorded}
-use Rattle.trace_history.specs.Rings.{rings, other_rings, rings_after, rings_of_side, spare_after, spare_rings, with_emitted, rings_after_read}
-use Rattle.trace_history.specs.Settings.{NumberedEvent, declared_events, declares, event_named, event_named_in, filter_of, instance_names, is_enabled, is_same, is_there, is_tracing, made, makes, now_of, overwrites, removed, set_by, sets_filter, sets_overwrite, sets_tracing, setting, switches, ticks, without as names_without, written_flag, written_to_all}
-use Rattle.trace_history.specs.Snapshots.{exchange_count, exchanges, has_spare, is_exchanged_by, live_side, sets_spare, spare_armed_for}
-use Rattle.trace_history.specs.Triggers.{Trigger, acts, is_left, met, met_by, passes, sets_trigger, times_left, trigger_of, written_trigger}
-use Rattle.trace_history.proofs.Triggered.{number-before}
+use Rattle.tracer_specification.specs.Emissions.{Emitted, emitted, emitted_event, is_recorded}
+use Rattle.tracer_specification.specs.Rings.{rings, other_rings, rings_after, rings_of_side, spare_after, spare_rings, with_emitted, rings_after_read}
+use Rattle.tracer_specification.specs.Settings.{NumberedEvent, declared_events, declares, event_named, event_named_in, filter_of, instance_names, is_enabled, is_same, is_there, is_tracing, made, makes, now_of, overwrites, removed, set_by, sets_filter, sets_overwrite, sets_tracing, setting, switches, ticks, without as names_without, written_flag, written_to_all}
+use Rattle.tracer_specification.specs.Snapshots.{exchange_count, exchanges, has_spare, is_exchanged_by, live_side, sets_spare, spare_armed_for}
+use Rattle.tracer_specification.specs.Triggers.{Trigger, acts, is_left, met, met_by, passes, sets_trigger, times_left, trigger_of, written_trigger}
+use Rattle.tracer_specification.proofs.Triggered.{number-before}
 use Rattle.history_laws.specs.ReadsInParts.{is_pipe}
 use Rattle.history_laws.proofs.Renumbered.{early-trigger, later_trigger, up, up-cases, up-late, up-less}
 

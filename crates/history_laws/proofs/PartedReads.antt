@@ -21,12 +21,12 @@ use Rattle.trace_command.specs.declared.file_name.CpuFile.TheVariants as per_cpu
 use Rattle.trace_command.specs.declared.file_name.TopFile.TheVariants as top
 use Rattle.trace_command.specs.declared.refusal.Refusal.{Refusal}
 use Rattle.trace_command.specs.declared.refusal.Refusal.TheVariants.{NoSuchInstance}
-use Rattle.trace_history.specs.FileTexts.{shown_pipe, shown_cpu_pipe}
-use Rattle.trace_history.specs.History.{answer_with_room, missing, read_answer, unless_refused}
-use Rattle.trace_history.specs.Rings.{up_to_limit, pipe_read, cpu_pipe_read, rings_after_read, rings, other_rings}
-use Rattle.trace_history.specs.Settings.{declared_events, instance_names, is_same, is_there}
-use Rattle.trace_history.proofs.PipeReads.{is_same-self}
-use Rattle.trace_history.proofs.Sides.{rings-stay}
+use Rattle.tracer_specification.specs.FileTexts.{shown_pipe, shown_cpu_pipe}
+use Rattle.tracer_specification.specs.History.{answer_with_room, missing, read_answer, unless_refused}
+use Rattle.tracer_specification.specs.Rings.{up_to_limit, pipe_read, cpu_pipe_read, rings_after_read, rings, other_rings}
+use Rattle.tracer_specification.specs.Settings.{declared_events, instance_names, is_same, is_there}
+use Rattle.tracer_specification.proofs.PipeReads.{is_same-self}
+use Rattle.tracer_specification.proofs.Sides.{rings-stay}
 use Rattle.history_laws.specs.ReadsInParts.{is_pipe, in_all, ReadsShowInTurn, ReadsLeaveTheSame}
 use Rattle.history_laws.proofs.JoinedTakes.{joined, consumed-joined, cpu_reads-joined, cpu_taken-joined, readings-left}
 

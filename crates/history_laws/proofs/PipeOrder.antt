@@ -17,11 +17,11 @@ use Rattle.trace_command.specs.Configs.{IsInRange}
 use Rattle.trace_command.specs.Requests.{Request}
 use Rattle.trace_command.specs.declared.command.Config.{Config}
 use Rattle.trace_command.specs.declared.command.Entry.{Entry}
-use Rattle.trace_history.specs.FileTexts.{shown_pipe, shown_trace}
-use Rattle.trace_history.specs.History.{requests_of, IsLegalNewestFirst}
-use Rattle.trace_history.specs.Rings.{rings, rings_of_side}
-use Rattle.trace_history.specs.Settings.{declared_events, now_of}
-use Rattle.trace_history.specs.Snapshots.{live_side}
+use Rattle.tracer_specification.specs.FileTexts.{shown_pipe, shown_trace}
+use Rattle.tracer_specification.specs.History.{requests_of, IsLegalNewestFirst}
+use Rattle.tracer_specification.specs.Rings.{rings, rings_of_side}
+use Rattle.tracer_specification.specs.Settings.{declared_events, now_of}
+use Rattle.tracer_specification.specs.Snapshots.{live_side}
 use Rattle.history_laws.specs.OneOrder.{OrdersAreOne, TimesRise, KeptTimesRise, PipesReadTheTrace, ReadsTheTrace, ShowsOneOrder, TraceAndPipeShowOneOrder, EachCpuKeepsItsOrder, trace_records}
 use Rattle.history_laws.specs.ReadOnce.{read_from_side}
 use Rattle.history_laws.proofs.CpuSums.{length-merged}

@@ -14,12 +14,12 @@ use Rattle.trace_command.specs.Configs.{IsInRange}
 use Rattle.trace_command.specs.Requests.{Request, Emission, MakeInstance, RemoveInstance, WriteFile, ReadFile, request_of}
 use Rattle.trace_command.specs.declared.command.Config.{Config}
 use Rattle.trace_command.specs.declared.command.Entry.{Entry}
-use Rattle.trace_history.specs.Emissions.{Emitted, emitted, emitted_bytes, record_bytes}
-use Rattle.trace_history.specs.History.{requests_of, IsLegalNewestFirst}
-use Rattle.trace_history.specs.Rings.{new_rings}
-use Rattle.trace_history.specs.Settings.{makes, now_of, ticks}
-use Rattle.trace_history.proofs.Families.{at-replicate}
-use Rattle.trace_history.proofs.ShownRecords.{emission-is, legal-short}
+use Rattle.tracer_specification.specs.Emissions.{Emitted, emitted, emitted_bytes, record_bytes}
+use Rattle.tracer_specification.specs.History.{requests_of, IsLegalNewestFirst}
+use Rattle.tracer_specification.specs.Rings.{new_rings}
+use Rattle.tracer_specification.specs.Settings.{makes, now_of, ticks}
+use Rattle.tracer_specification.proofs.Families.{at-replicate}
+use Rattle.tracer_specification.proofs.ShownRecords.{emission-is, legal-short}
 use Rattle.history_laws.specs.ReadOnce.{taken_by}
 use Rattle.history_laws.proofs.RisingTimes.{kept_times}
 

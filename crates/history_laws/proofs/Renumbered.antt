@@ -2,9 +2,9 @@
 use Rattle.std.proofs.Common.{◌≡◌, ◌⊎◌, inl, inr, ℕ, suc, ◌<◌, ◌≤◌, ◌==◌, nat_lt, Bool, true, false, if◌then◌else◌, List, [], ◌∷◌, ◌++◌, filter, map, flat_map, Some, option_map, refl, sym, ap, ◌∙◌, arith, eq-eqb, eqb-true, lt-ltb, ltb-true}
 use Rattle.std.specs.List.{find, list_any}
 use Rattle.std.proofs.lemmas.Bool.{cases_Bool, cond-false, cond-true, false≢true, ltb-false}
-use Rattle.trace_history.specs.HistTriggers.{HistTrigger}
-use Rattle.trace_history.specs.Triggers.{Trigger}
-use Rattle.trace_history.proofs.Tables.{AreMadeBefore, IsBefore}
+use Rattle.tracer_specification.specs.HistTriggers.{HistTrigger}
+use Rattle.tracer_specification.specs.Triggers.{Trigger}
+use Rattle.tracer_specification.proofs.Tables.{AreMadeBefore, IsBefore}
 
 -- ---- tests
 

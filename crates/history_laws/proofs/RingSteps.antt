@@ -15,14 +15,14 @@ use Rattle.trace_command.specs.declared.command.Config.{Config}
 use Rattle.trace_command.specs.declared.file_name.CpuFile.TheVariants as per_cpu
 use Rattle.trace_command.specs.declared.file_name.TopFile.TheVariants as top
 use Rattle.trace_format.specs.declared.pair.Pair.{Pair}
-use Rattle.trace_history.specs.Emissions.{Emitted, emitted, emitted_bytes, is_recorded}
-use Rattle.trace_history.specs.Laws.{those_of, PipeReadsConsumeWhatTheyShow, WholePipeReadsConsumeWhatTheyShow}
-use Rattle.trace_history.specs.Rings.{up_to_limit, pipe_read, cpu_pipe_read, with_emitted, rings_after_write, rings_after_read, rings_after, spare_after, rings}
-use Rattle.trace_history.specs.Settings.{is_same, makes, overwrites}
-use Rattle.trace_history.specs.Snapshots.{clears_spare, live_side, written_snapshot}
-use Rattle.trace_history.proofs.Families.{set-at, at-replicate}
-use Rattle.trace_history.proofs.PipeReads.{is_same-self}
-use Rattle.trace_history.proofs.Sides.{rings-stay, side-has_all_cpus}
+use Rattle.tracer_specification.specs.Emissions.{Emitted, emitted, emitted_bytes, is_recorded}
+use Rattle.tracer_specification.specs.Laws.{those_of, PipeReadsConsumeWhatTheyShow, WholePipeReadsConsumeWhatTheyShow}
+use Rattle.tracer_specification.specs.Rings.{up_to_limit, pipe_read, cpu_pipe_read, with_emitted, rings_after_write, rings_after_read, rings_after, spare_after, rings}
+use Rattle.tracer_specification.specs.Settings.{is_same, makes, overwrites}
+use Rattle.tracer_specification.specs.Snapshots.{clears_spare, live_side, written_snapshot}
+use Rattle.tracer_specification.proofs.Families.{set-at, at-replicate}
+use Rattle.tracer_specification.proofs.PipeReads.{is_same-self}
+use Rattle.tracer_specification.proofs.Sides.{rings-stay, side-has_all_cpus}
 use Rattle.history_laws.specs.AccountedFor.{empties_live, empties_spare, is_recorded_on}
 use Rattle.history_laws.specs.ReadOnce.{taken_by}
 use Rattle.history_laws.proofs.RingReads.{IsReadOnly, reads-only, reads-then, same-events}

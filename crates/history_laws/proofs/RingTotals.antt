@@ -9,12 +9,12 @@ use Rattle.page_ring.specs.Laws.{is_put, CountsAreOfRecords, OfferedIsPuts}
 use Rattle.trace_buffer.specs.Families.{CpuReading, on_cpu, events_of, cpu_readings}
 use Rattle.trace_command.specs.Requests.{Request}
 use Rattle.trace_command.specs.declared.command.Config.{Config}
-use Rattle.trace_history.specs.Emissions.{emitted_bytes}
-use Rattle.trace_history.specs.Rings.{new_rings, rings_after, spare_after, rings_of_side, rings}
-use Rattle.trace_history.specs.Settings.{makes}
-use Rattle.trace_history.specs.Snapshots.{live_side}
-use Rattle.trace_history.proofs.Families.{at-replicate}
-use Rattle.trace_history.proofs.Sides.{side-made}
+use Rattle.tracer_specification.specs.Emissions.{emitted_bytes}
+use Rattle.tracer_specification.specs.Rings.{new_rings, rings_after, spare_after, rings_of_side, rings}
+use Rattle.tracer_specification.specs.Settings.{makes}
+use Rattle.tracer_specification.specs.Snapshots.{live_side}
+use Rattle.tracer_specification.proofs.Families.{at-replicate}
+use Rattle.tracer_specification.proofs.Sides.{side-made}
 use Rattle.history_laws.specs.AccountedFor.{emissions_of, empties_live, empties_spare, shown_of}
 use Rattle.history_laws.specs.ReadOnce.{taken_by}
 use Rattle.history_laws.specs.RingTotals.{since_new, lost_of, RingsCountEmissions, ReadIsWhatPipesShowed, LossesAreTold, LostAddsUp}

@@ -8,13 +8,13 @@ use Rattle.trace_command.specs.Configs.{IsInRange}
 use Rattle.trace_command.specs.Requests.{Request, request_of}
 use Rattle.trace_command.specs.declared.command.Config.{Config}
 use Rattle.trace_command.specs.declared.command.Entry.{Entry}
-use Rattle.trace_history.specs.Emissions.{emitted_bytes}
-use Rattle.trace_history.specs.History.{requests_of, IsLegalNewestFirst}
-use Rattle.trace_history.specs.Rings.{rings_after, spare_after, rings_of_side, rings}
-use Rattle.trace_history.specs.Settings.{makes, now_of}
-use Rattle.trace_history.specs.Snapshots.{live_side}
-use Rattle.trace_history.proofs.Families.{at-replicate}
-use Rattle.trace_history.proofs.Sides.{side-made}
+use Rattle.tracer_specification.specs.Emissions.{emitted_bytes}
+use Rattle.tracer_specification.specs.History.{requests_of, IsLegalNewestFirst}
+use Rattle.tracer_specification.specs.Rings.{rings_after, spare_after, rings_of_side, rings}
+use Rattle.tracer_specification.specs.Settings.{makes, now_of}
+use Rattle.tracer_specification.specs.Snapshots.{live_side}
+use Rattle.tracer_specification.proofs.Families.{at-replicate}
+use Rattle.tracer_specification.proofs.Sides.{side-made}
 use Rattle.history_laws.specs.ReadOnce.{taken_by, read_from_side, ReadTimesRise}
 use Rattle.history_laws.proofs.RingSteps.{AreConsumed, IsStep, IsSpareStep, live-step, spare-step}
 use Rattle.history_laws.proofs.RisingTimes.{Rises, kept_times, pairs-rise, rises-higher, rises-put, rises-tail}

@@ -10,12 +10,12 @@ use Rattle.trace_command.specs.Configs.{IsInRange}
 use Rattle.trace_command.specs.Requests.{Request, request_of}
 use Rattle.trace_command.specs.declared.command.Config.{Config}
 use Rattle.trace_command.specs.declared.command.Entry.{Entry}
-use Rattle.trace_history.specs.Emissions.{emitted_bytes}
-use Rattle.trace_history.specs.History.{requests_of, IsLegalNewestFirst}
-use Rattle.trace_history.specs.Rings.{new_rings, rings_after, spare_after, rings, other_rings}
-use Rattle.trace_history.specs.Settings.{makes, now_of}
-use Rattle.trace_history.specs.Snapshots.{exchanges}
-use Rattle.trace_history.proofs.Sides.{rings-stay, rings-exchanged, rings-made}
+use Rattle.tracer_specification.specs.Emissions.{emitted_bytes}
+use Rattle.tracer_specification.specs.History.{requests_of, IsLegalNewestFirst}
+use Rattle.tracer_specification.specs.Rings.{new_rings, rings_after, spare_after, rings, other_rings}
+use Rattle.tracer_specification.specs.Settings.{makes, now_of}
+use Rattle.tracer_specification.specs.Snapshots.{exchanges}
+use Rattle.tracer_specification.proofs.Sides.{rings-stay, rings-exchanged, rings-made}
 use Rattle.history_laws.specs.ReadOnce.{taken_by, read_records, NothingIsReadTwice}
 use Rattle.history_laws.proofs.RingSteps.{AreConsumed, IsStep, IsSpareStep, live-step, spare-step}
 use Rattle.history_laws.proofs.RisingTimes.{kept_times, once_if, times_of, times_of-append, times_of-put}

@@ -17,17 +17,17 @@ use Rattle.trace_trigger.specs.declared.trigger.TriggerText.TheVariants.{Nothing
 use Rattle.trace_command.specs.Paths.{OfEvent}
 use Rattle.trace_command.specs.Requests.{Request, WriteFile}
 use Rattle.trace_command.specs.declared.file_name.EventFile.TheVariants as per_event
-use Rattle.trace_history.specs.HistTriggers.{HistTrigger, Written, hist_triggers, written_to}
-use Rattle.trace_history.specs.History.{requests_of}
-use Rattle.trace_history.specs.Laws.{HistTriggersAreThoseAttached, IsAttached}
-use Rattle.trace_history.specs.Settings.{NumberedEvent, declared_events, declares, event_named, is_same, makes, set_by}
-use Rattle.trace_history.specs.Triggers.{Trigger, passes, sets_trigger, trigger_of, written_trigger}
-use Rattle.trace_history.proofs.Events.{index_of_id}
-use Rattle.trace_history.proofs.LegalEvents.{named-is_definition, named-is_numbered, named_in-more}
-use Rattle.trace_history.proofs.Members.{contains-in, each-in}
-use Rattle.trace_history.proofs.OwnFiles.{IsNamed, all-named}
-use Rattle.trace_history.proofs.ShownRecords.{emission-is, row_of-is_row}
-use Rattle.trace_history.proofs.Spares.{same-instance}
+use Rattle.tracer_specification.specs.HistTriggers.{HistTrigger, Written, hist_triggers, written_to}
+use Rattle.tracer_specification.specs.History.{requests_of}
+use Rattle.tracer_specification.specs.Laws.{HistTriggersAreThoseAttached, IsAttached}
+use Rattle.tracer_specification.specs.Settings.{NumberedEvent, declared_events, declares, event_named, is_same, makes, set_by}
+use Rattle.tracer_specification.specs.Triggers.{Trigger, passes, sets_trigger, trigger_of, written_trigger}
+use Rattle.tracer_specification.proofs.Events.{index_of_id}
+use Rattle.tracer_specification.proofs.LegalEvents.{named-is_definition, named-is_numbered, named_in-more}
+use Rattle.tracer_specification.proofs.Members.{contains-in, each-in}
+use Rattle.tracer_specification.proofs.OwnFiles.{IsNamed, all-named}
+use Rattle.tracer_specification.proofs.ShownRecords.{emission-is, row_of-is_row}
+use Rattle.tracer_specification.proofs.Spares.{same-instance}
 use Rattle.history_laws.specs.TriggerTrees.{EmissionsHaveTheirRows, HistMeets, HistTriggersMeetAsTheirTrees, HoldsOf, MeetsAsItsTree, SnapshotTriggersMeetAsTheirTrees, WasWritten}
 
 -- ---- what a filter that was read comes to

@@ -8,10 +8,10 @@ use Rattle.trace_command.specs.Requests.{Request, WriteFile}
 use Rattle.trace_command.specs.declared.command.Config.{Config}
 use Rattle.trace_command.specs.declared.file_name.CpuFile.TheVariants as per_cpu
 use Rattle.trace_command.specs.declared.file_name.TopFile.TheVariants as top
-use Rattle.trace_history.specs.Emissions.{Emitted, emitted, is_recorded}
-use Rattle.trace_history.specs.Rings.{rings, other_rings}
-use Rattle.trace_history.specs.Settings.{is_same, makes}
-use Rattle.trace_history.specs.Snapshots.{clears_spare, exchange_count, written_snapshot}
+use Rattle.tracer_specification.specs.Emissions.{Emitted, emitted, is_recorded}
+use Rattle.tracer_specification.specs.Rings.{rings, other_rings}
+use Rattle.tracer_specification.specs.Settings.{is_same, makes}
+use Rattle.tracer_specification.specs.Snapshots.{clears_spare, exchange_count, written_snapshot}
 use Rattle.history_laws.specs.ReadOnce.{taken_by}
 
 -- whether an emission that follows this past is one on a CPU that the instance records

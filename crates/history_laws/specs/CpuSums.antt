@@ -9,10 +9,10 @@ use Rattle.record_text.specs.BufferText.{reading_line}
 use Rattle.record_text.specs.TraceText.{trace_head}
 use Rattle.trace_command.specs.Requests.{Request}
 use Rattle.trace_command.specs.declared.command.Config.{Config}
-use Rattle.trace_history.specs.FileTexts.{shown_snapshot, shown_trace}
-use Rattle.trace_history.specs.Rings.{rings, other_rings}
-use Rattle.trace_history.specs.Settings.{declared_events}
-use Rattle.trace_history.specs.Snapshots.{has_spare}
+use Rattle.tracer_specification.specs.FileTexts.{shown_snapshot, shown_trace}
+use Rattle.tracer_specification.specs.Rings.{rings, other_rings}
+use Rattle.tracer_specification.specs.Settings.{declared_events}
+use Rattle.tracer_specification.specs.Snapshots.{has_spare}
 
 -- the sum over the CPUs 0 to n - 1
 abbrev pub over_cpus : ℕ → (ℕ → ℕ) → ℕ

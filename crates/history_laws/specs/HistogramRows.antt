@@ -8,8 +8,8 @@ use Rattle.hist_entries.specs.PrintOrder.{entry_cmp, printed, sum_at}
 use Rattle.hist_entries.specs.RowPlaces.{entry_keys}
 use Rattle.trace_hist.specs.Groups.{with_key}
 use Rattle.trace_command.specs.Requests.{Request}
-use Rattle.trace_history.specs.HistTriggers.{HistTrigger, asked_by, empties, hits_of, table_of}
-use Rattle.trace_history.specs.Laws.{some_later}
+use Rattle.tracer_specification.specs.HistTriggers.{HistTrigger, asked_by, empties, hits_of, table_of}
+use Rattle.tracer_specification.specs.Laws.{some_later}
 use Rattle.history_laws.specs.GroupedRows.{counted_rows, rows_before, total, total_of}
 
 -- the rows that a trigger's table counted since it was made or last emptied

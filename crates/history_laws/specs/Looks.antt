@@ -5,8 +5,8 @@ use Rattle.trace_command.specs.Paths.{File}
 use Rattle.trace_command.specs.Requests.{Request, ReadFile, request_of}
 use Rattle.trace_command.specs.declared.command.Config.{Config}
 use Rattle.trace_command.specs.declared.command.Entry.{Entry}
-use Rattle.trace_history.specs.History.{answer, answer_with_room, IsLegalNewestFirst}
-use Rattle.trace_history.specs.Waiting.{waiting}
+use Rattle.tracer_specification.specs.History.{answer, answer_with_room, IsLegalNewestFirst}
+use Rattle.tracer_specification.specs.Waiting.{waiting}
 use Rattle.history_laws.specs.ReadsInParts.{is_pipe}
 
 -- whatever was done before it and after it, the answer to a request is the same with it and without it, were there no limit on the history

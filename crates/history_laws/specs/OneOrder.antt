@@ -12,11 +12,11 @@ use Rattle.trace_command.specs.Configs.{IsInRange}
 use Rattle.trace_command.specs.Requests.{Request}
 use Rattle.trace_command.specs.declared.command.Config.{Config}
 use Rattle.trace_command.specs.declared.command.Entry.{Entry}
-use Rattle.trace_history.specs.FileTexts.{shown_pipe, shown_trace}
-use Rattle.trace_history.specs.History.{requests_of, IsLegalNewestFirst}
-use Rattle.trace_history.specs.Laws.{kept_readings, spare_readings, those_of}
-use Rattle.trace_history.specs.Rings.{pipe_read, rings}
-use Rattle.trace_history.specs.Settings.{declared_events}
+use Rattle.tracer_specification.specs.FileTexts.{shown_pipe, shown_trace}
+use Rattle.tracer_specification.specs.History.{requests_of, IsLegalNewestFirst}
+use Rattle.tracer_specification.specs.Laws.{kept_readings, spare_readings, those_of}
+use Rattle.tracer_specification.specs.Rings.{pipe_read, rings}
+use Rattle.tracer_specification.specs.Settings.{declared_events}
 
 -- the timestamps of records rise strictly
 abbrev pub TimesRise : List Reading → Type 0

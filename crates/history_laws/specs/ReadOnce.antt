@@ -11,11 +11,11 @@ use Rattle.trace_command.specs.declared.command.Config.{Config}
 use Rattle.trace_command.specs.declared.command.Entry.{Entry}
 use Rattle.trace_command.specs.declared.file_name.CpuFile.TheVariants as per_cpu
 use Rattle.trace_command.specs.declared.file_name.TopFile.TheVariants as top
-use Rattle.trace_history.specs.History.{requests_of, IsLegalNewestFirst}
-use Rattle.trace_history.specs.Laws.{those_of}
-use Rattle.trace_history.specs.Rings.{pipe_read, cpu_pipe_read, rings}
-use Rattle.trace_history.specs.Settings.{is_same}
-use Rattle.trace_history.specs.Snapshots.{live_side}
+use Rattle.tracer_specification.specs.History.{requests_of, IsLegalNewestFirst}
+use Rattle.tracer_specification.specs.Laws.{those_of}
+use Rattle.tracer_specification.specs.Rings.{pipe_read, cpu_pipe_read, rings}
+use Rattle.tracer_specification.specs.Settings.{is_same}
+use Rattle.tracer_specification.specs.Snapshots.{live_side}
 
 -- the records of a CPU that a read of one of the instance's pipes shows and consumes; of another request none
 abbrev pub taken_by : Config → Option (List ℕ) → ℕ → List Request → Request → List CpuReading

@@ -7,8 +7,8 @@ use Rattle.trace_command.specs.declared.command.Config.{Config}
 use Rattle.trace_command.specs.declared.command.Reply.TheVariants.{Text}
 use Rattle.trace_command.specs.declared.file_name.CpuFile.TheVariants as per_cpu
 use Rattle.trace_command.specs.declared.file_name.TopFile.TheVariants as top
-use Rattle.trace_history.specs.History.{answer_with_room}
-use Rattle.trace_history.specs.Rings.{rings, other_rings}
+use Rattle.tracer_specification.specs.History.{answer_with_room}
+use Rattle.tracer_specification.specs.Rings.{rings, other_rings}
 
 -- the pipes of an instance
 abbrev pub is_pipe : File → Bool

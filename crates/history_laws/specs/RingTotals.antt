@@ -4,9 +4,9 @@ use Rattle.std.specs.Prelude.{◌≡◌, ℕ, ◌+◌, ◌<◌, ◌==◌, Bool, 
 use Rattle.trace_buffer.specs.Families.{cpu_readings, cpu_stats}
 use Rattle.trace_command.specs.Requests.{Request}
 use Rattle.trace_command.specs.declared.command.Config.{Config}
-use Rattle.trace_history.specs.Rings.{rings_of_side}
-use Rattle.trace_history.specs.Settings.{makes}
-use Rattle.trace_history.specs.Snapshots.{live_side}
+use Rattle.tracer_specification.specs.Rings.{rings_of_side}
+use Rattle.tracer_specification.specs.Settings.{makes}
+use Rattle.tracer_specification.specs.Snapshots.{live_side}
 use Rattle.history_laws.specs.AccountedFor.{counted, emissions_of, empties_live, empties_spare, shown_of}
 use Rattle.history_laws.specs.ReadOnce.{taken_by}
 

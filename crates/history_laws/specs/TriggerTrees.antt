@@ -12,11 +12,11 @@ use Rattle.trace_command.specs.Requests.{Request, WriteFile}
 use Rattle.trace_command.specs.declared.command.Config.{Config}
 use Rattle.trace_command.specs.declared.command.Entry.{Entry}
 use Rattle.trace_command.specs.declared.file_name.EventFile.TheVariants as per_event
-use Rattle.trace_history.specs.Emissions.{Emitted, emitted}
-use Rattle.trace_history.specs.HistTriggers.{HistTrigger, hist_triggers}
-use Rattle.trace_history.specs.History.{requests_of, IsLegalNewestFirst}
-use Rattle.trace_history.specs.Settings.{NumberedEvent, event_named}
-use Rattle.trace_history.specs.Triggers.{Trigger, passes, trigger_of}
+use Rattle.tracer_specification.specs.Emissions.{Emitted, emitted}
+use Rattle.tracer_specification.specs.HistTriggers.{HistTrigger, hist_triggers}
+use Rattle.tracer_specification.specs.History.{requests_of, IsLegalNewestFirst}
+use Rattle.tracer_specification.specs.Settings.{NumberedEvent, event_named}
+use Rattle.tracer_specification.specs.Triggers.{Trigger, passes, trigger_of}
 
 -- the condition of a trigger, if one is written, holds of an emission: some tree that it spells does
 abbrev pub HoldsOf : Definition → Option (List ℕ) → Emitted → Type 0

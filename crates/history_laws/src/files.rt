@@ -28,7 +28,7 @@ pub fn trace_and_pipe_show_one_order()
     ensures orders { OrdersAreOne }
 {
     page_ring::laws::least_is_read();
-    trace_history::laws::pipe_reads_consume_what_they_show();
+    tracer_specification::laws::pipe_reads_consume_what_they_show();
 }
 
 /// Triggers meet as their trees. In a legal history each trigger that an event has, for snapshots or of a histogram, was attached by a string written
@@ -42,7 +42,7 @@ pub fn triggers_meet_as_their_trees()
     trace_filter::laws::filters_hold_as_their_trees();
     trace_trigger::laws::trigger_texts_are_as_written();
     trace_trigger::hist_laws::hist_triggers_are_as_written();
-    trace_history::laws::triggers_are_few_and_differ();
+    tracer_specification::laws::triggers_are_few_and_differ();
 }
 
 /// Looking changes nothing. A read of a file that is no pipe leaves the answer to every later request as it is without the read, whatever was done

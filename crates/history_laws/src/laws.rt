@@ -26,7 +26,7 @@ pub fn rings_count_what_was_done()
     page_ring::laws::offered_is_puts();
     page_ring::laws::counts_are_of_records();
     page_ring::laws::least_is_read();
-    trace_history::laws::pipe_reads_consume_what_they_show();
+    tracer_specification::laws::pipe_reads_consume_what_they_show();
 }
 
 /// Nothing is read twice: in a legal history each timestamp is that of at most one record of a CPU that an instance's pipes showed, whatever was
@@ -36,7 +36,7 @@ pub fn nothing_is_read_twice()
     ensures rise { ReadTimesRise }
 {
     page_ring::laws::least_is_read();
-    trace_history::laws::pipe_reads_consume_what_they_show();
+    tracer_specification::laws::pipe_reads_consume_what_they_show();
 }
 
 /// Reads of a pipe add up: a read of so many records, and then one of so many others or of all the rest, show in turn what one read of all of them
@@ -56,5 +56,5 @@ pub fn losses_add_up()
 {
     page_ring::laws::least_is_read();
     page_ring::laws::counts_are_of_records();
-    trace_history::laws::pipe_reads_consume_what_they_show();
+    tracer_specification::laws::pipe_reads_consume_what_they_show();
 }

@@ -4,11 +4,11 @@
 
 ghost use Rattle.std.specs.Prelude.{◌≡◌, IfOk, vec_len};
 
+use parallel_history::history_of;
 use std::alloc::{AllocError, Global};
 use std::process::ExitCode;
 use std::sync::Wait;
 use std::thread::Threads;
-use thread_history::history_of;
 use trace_book::{Book, Command, CommandRef, Config, EntryRef, Pairs, Refusal, Reply, Tracer};
 use trace_workers::{BlockFault, OpenGate, Part};
 

@@ -8,7 +8,7 @@ use Rattle.trace_command.specs.Requests.{Request}
 use Rattle.trace_format.specs.Definitions.{Definition}
 use Rattle.library_tracer.specs.ListedFiles.{event_names}
 use Rattle.file_list.specs.Names.{NamesSeen}
-use Rattle.trace_history.specs.Settings.{declared_events}
+use Rattle.tracer_specification.specs.Settings.{declared_events}
 
 -- ---- a list taken one by one
 

@@ -2,7 +2,7 @@
 use Rattle.std.specs.Prelude.{ℕ, List, [], map}
 use Rattle.trace_command.specs.Requests.{Request}
 use Rattle.trace_command.specs.declared.command.Config.{Config}
-use Rattle.trace_history.specs.Settings.{declared_events, instance_names}
+use Rattle.tracer_specification.specs.Settings.{declared_events, instance_names}
 use Rattle.file_list.specs.Listings.{listing}
 use Rattle.file_list.specs.Names.{NamesSeen}
 

@@ -7,7 +7,7 @@ ghost use Rattle.trace_command.specs.declared.command.Command.{Command as Comman
 ghost use Rattle.trace_command.specs.declared.command.Command.TheVariants as commands;
 ghost use Rattle.trace_command.specs.declared.command.Reply.TheVariants as replies;
 ghost use Rattle.trace_command.specs.declared.refusal.Refusal.TheVariants as refusals;
-ghost use Rattle.trace_history.specs.Waiting.{waiting};
+ghost use Rattle.tracer_specification.specs.Waiting.{waiting};
 ghost use Rattle.tracer_without_history.specs.Lives.{most_done};
 ghost use Rattle.library_tracer.specs.Consoles.{Asked, ComesTo, StandsFor, after_command, after_emission, after_line, after_listing, after_values, failed, opened, outcome_of, with_last};
 ghost use Rattle.library_tracer.specs.Statuses.{offset_in, reply_in, status_of};

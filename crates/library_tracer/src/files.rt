@@ -3,7 +3,7 @@
 ghost use Rattle.std.specs.Prelude.{◌≡◌, ◌++◌, List, IfOk, OnOk};
 ghost use Rattle.trace_command.specs.Requests.{Request};
 ghost use Rattle.library_tracer.specs.ListedFiles.{event_names, files_after, names_of};
-ghost use Rattle.trace_history.specs.Settings.{instance_names};
+ghost use Rattle.tracer_specification.specs.Settings.{instance_names};
 ghost use Rattle.tracer_without_history.specs.Lives.{IsLive};
 
 use file_list::Names;

@@ -12,7 +12,7 @@ use Rattle.trace_command.specs.declared.command.Command.TheVariants as commands
 use Rattle.trace_command.specs.declared.command.Reply.{Reply as Answer}
 use Rattle.trace_command.specs.declared.refusal.Refusal.{Refusal}
 use Rattle.trace_format.specs.Definitions.{Definition}
-use Rattle.trace_history.specs.Settings.{declared_events, now_of}
+use Rattle.tracer_specification.specs.Settings.{declared_events, now_of}
 use Rattle.error_log.specs.Logs.{log_text}
 use Rattle.mount_tree.specs.Children.{is_there}
 use Rattle.mount_tree.specs.FileKinds.{access_of_file, kind_of_file}

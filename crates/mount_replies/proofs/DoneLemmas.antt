@@ -7,10 +7,10 @@ use Rattle.trace_command.specs.declared.command.Reply.{Reply as Answer}
 use Rattle.trace_command.specs.declared.refusal.Refusal.{Refusal}
 use Rattle.trace_format.specs.Catalogs.{AreEvents}
 use Rattle.trace_format.specs.Definitions.{Definition}
-use Rattle.trace_history.proofs.EventLists.{AreEvents-push}
-use Rattle.trace_history.specs.History.{answer_with_room, unless_full}
-use Rattle.trace_history.specs.Pasts.{AreDone}
-use Rattle.trace_history.specs.Settings.{declared_events, declares}
+use Rattle.tracer_specification.proofs.EventLists.{AreEvents-push}
+use Rattle.tracer_specification.specs.History.{answer_with_room, unless_full}
+use Rattle.tracer_specification.specs.Pasts.{AreDone}
+use Rattle.tracer_specification.specs.Settings.{declared_events, declares}
 use Rattle.tracer_without_history.specs.Lives.{limited_answer, live_answer, most_done}
 use Rattle.mount_replies.proofs.NewEvents.{declared-new}
 use Rattle.mount_replies.specs.Mounted.{AreServed, Right, Wrong, Unframed, Does, IsAnswered, IsExchanged, Serves, TellsOwed, past_after}

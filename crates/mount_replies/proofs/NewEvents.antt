@@ -15,9 +15,9 @@ use Rattle.trace_command.specs.Paths.{SyntheticEvents}
 use Rattle.trace_command.specs.Requests.{Request, WriteFile}
 use Rattle.trace_command.specs.declared.command.Config.{Config}
 use Rattle.trace_command.specs.declared.refusal.Refusal.TheVariants as refusal
-use Rattle.trace_history.proofs.LegalEvents.{asked-done}
-use Rattle.trace_history.specs.History.{answer_with_room, added_answer, read_declaration_answer, declaration_answer}
-use Rattle.trace_history.specs.Settings.{declares, declared_events}
+use Rattle.tracer_specification.proofs.LegalEvents.{asked-done}
+use Rattle.tracer_specification.specs.History.{answer_with_room, added_answer, read_declaration_answer, declaration_answer}
+use Rattle.tracer_specification.specs.Settings.{declares, declared_events}
 
 -- what is read from a text is a definition
 read-defined : (standing : Standing) (words : List (List ℕ)) (spots : List Spot) (len : ℕ) (event : Definition) → Stands standing words

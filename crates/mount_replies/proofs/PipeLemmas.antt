@@ -10,9 +10,9 @@ use Rattle.trace_command.specs.declared.file_name.TopFile.{TopFile}
 use Rattle.trace_command.specs.declared.file_name.TopFile.TheVariants as top
 use Rattle.trace_command.specs.declared.refusal.Refusal.{Refusal}
 use Rattle.trace_command.specs.declared.refusal.Refusal.TheVariants.{BadValue, NoSuchCpu, NoSuchFile, NoSuchInstance}
-use Rattle.trace_history.specs.History.{missing, missing_cpu, unless_refused}
-use Rattle.trace_history.specs.Settings.{is_there as exists}
-use Rattle.trace_history.specs.Waiting.{waiting, waits_in}
+use Rattle.tracer_specification.specs.History.{missing, missing_cpu, unless_refused}
+use Rattle.tracer_specification.specs.Settings.{is_there as exists}
+use Rattle.tracer_specification.specs.Waiting.{waiting, waits_in}
 use Rattle.std.proofs.lemmas.Bool.Decides.{nat_tests}
 use Rattle.trace_instance.specs.Files.{HasCpu, file_at as path_at}
 use Rattle.trace_instance.specs.declared.file.File.{File as Opened}

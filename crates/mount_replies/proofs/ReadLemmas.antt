@@ -15,7 +15,7 @@ use Rattle.mount_tree.specs.declared.file.File.{File}
 use Rattle.mount_tree.specs.declared.file.FileKind.{FileKind}
 use Rattle.mount_tree.specs.declared.file.FileKind.TheVariants as kinds
 use Rattle.mount_tree.specs.NodePaths.{owner_name}
-use Rattle.trace_history.specs.Settings.{is_tracing}
+use Rattle.tracer_specification.specs.Settings.{is_tracing}
 use Rattle.mount_tree.specs.declared.node.Node.{Node}
 use Rattle.mount_tree.specs.declared.node.Node.TheVariants as nodes
 use Rattle.mount_tree.specs.declared.node.Owner.{Owner}

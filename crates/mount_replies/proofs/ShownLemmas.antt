@@ -14,8 +14,8 @@ use Rattle.trace_command.specs.declared.file_name.CpuFile.TheVariants as per_cpu
 use Rattle.trace_command.specs.declared.file_name.TopFile.TheVariants as top
 use Rattle.trace_command.specs.declared.refusal.Refusal.{Refusal}
 use Rattle.trace_command.specs.declared.refusal.Refusal.TheVariants as refusal
-use Rattle.trace_history.specs.History.{answer_with_room, file_answer, instance_answer, missing, read_answer, text_of, unless_refused, whole_text}
-use Rattle.trace_history.specs.Settings.{is_there as instance_is_there, now_of}
+use Rattle.tracer_specification.specs.History.{answer_with_room, file_answer, instance_answer, missing, read_answer, text_of, unless_refused, whole_text}
+use Rattle.tracer_specification.specs.Settings.{is_there as instance_is_there, now_of}
 use Rattle.error_log.specs.Errors.{begun}
 use Rattle.mount_tree.proofs.AddressLaws.{path-address}
 use Rattle.mount_tree.proofs.SoundLemmas.{scene-sound}

@@ -9,7 +9,7 @@ use Rattle.trace_command.specs.declared.refusal.Refusal.{Refusal}
 use Rattle.mount_tree.specs.Children.{is_there}
 use Rattle.mount_tree.specs.NodePaths.{file_meant, owner_name}
 use Rattle.mount_tree.specs.declared.node.Node.TheVariants as nodes
-use Rattle.trace_history.specs.Waiting.{waiting}
+use Rattle.tracer_specification.specs.Waiting.{waiting}
 use Rattle.mount_replies.specs.Mounted.{Does}
 use Rattle.mount_replies.specs.Owed.{ReplyAt, WakeupAt, first_owed, is_due, is_ready, step_of_parked}
 use Rattle.mount_replies.specs.ParkedLaws.{ClosedReadsTakeNothing, InterruptedReadsTakeNothing, InterruptingAsksNothing, NoPollWaitsForWhatIsThere, NoReadWaitsForWhatIsThere, NothingIsOwedToRequests, OldestIsAnsweredFirst, TakenTextIsGivenOrKept, TellingDoesOneCommandAtMost, WaitingAsksNothing, WaitsForRecords}

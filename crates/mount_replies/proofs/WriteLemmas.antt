@@ -9,7 +9,7 @@ use Rattle.trace_command.specs.Requests.{Request}
 use Rattle.trace_command.specs.declared.refusal.Refusal.{Refusal}
 use Rattle.trace_command.specs.declared.refusal.Refusal.TheVariants.{Memory}
 use Rattle.trace_format.specs.Definitions.{Definition}
-use Rattle.trace_history.specs.Settings.{now_of}
+use Rattle.tracer_specification.specs.Settings.{now_of}
 use Rattle.error_log.specs.Errors.{ErrorSeen, begun, refused}
 use Rattle.refusal_explanations.specs.Writes.{write_offset, write_words}
 use Rattle.mount_tree.specs.FileKinds.{kind_of_file}

@@ -11,7 +11,7 @@ use Rattle.trace_command.specs.Refusals.{OrMemory}
 use Rattle.trace_command.specs.Requests.{Request}
 use Rattle.trace_command.specs.declared.command.Reply.{Reply as Answer}
 use Rattle.trace_command.specs.declared.refusal.Refusal.{Refusal}
-use Rattle.trace_history.specs.Settings.{declares, made, removed}
+use Rattle.tracer_specification.specs.Settings.{declares, made, removed}
 use Rattle.tracer_without_history.specs.LiveSeen.{LiveSeen}
 use Rattle.tracer_without_history.specs.Lives.{IsLive, live_answer}
 use Rattle.error_log.specs.Errors.{ErrorSeen}

@@ -7,7 +7,7 @@ use Rattle.fuse_wire.specs.declared.reply.Reply.TheVariants as replies
 use Rattle.fuse_wire.specs.declared.request.Operation.{Operation}
 use Rattle.fuse_wire.specs.declared.request.Operation.TheVariants as operations
 use Rattle.trace_command.specs.Requests.{Request}
-use Rattle.trace_history.specs.Waiting.{waiting}
+use Rattle.tracer_specification.specs.Waiting.{waiting}
 use Rattle.mount_tree.specs.Children.{is_there}
 use Rattle.mount_tree.specs.FileKinds.{kind_of_file}
 use Rattle.mount_tree.specs.NodePaths.{file_meant, owner_name}

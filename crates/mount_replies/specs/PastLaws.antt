@@ -11,10 +11,10 @@ use Rattle.trace_command.specs.Paths as paths
 use Rattle.trace_command.specs.Requests.{Request, ReadFile, WriteFile}
 use Rattle.trace_command.specs.declared.file_name.CpuFile.TheVariants as per_cpu
 use Rattle.trace_command.specs.declared.refusal.Refusal.{Refusal}
-use Rattle.trace_history.specs.FileTexts.{cpu_stats_text}
-use Rattle.trace_history.specs.History.{text_of}
-use Rattle.trace_history.specs.Pasts.{AreDone}
-use Rattle.trace_history.specs.Settings.{now_of}
+use Rattle.tracer_specification.specs.FileTexts.{cpu_stats_text}
+use Rattle.tracer_specification.specs.History.{text_of}
+use Rattle.tracer_specification.specs.Pasts.{AreDone}
+use Rattle.tracer_specification.specs.Settings.{now_of}
 use Rattle.tracer_without_history.specs.Lives.{live_answer, most_done}
 use Rattle.error_log.specs.Errors.{begun}
 use Rattle.mount_tree.specs.Children.{is_there}
@@ -95,7 +95,7 @@ ReadsShowThePast =
     → ReadsAnew g before (read_whole (instance_of g before file) meant) request.unique handle size (text_of g.config (instance_of g before file) before.past meant) bytes
     after
 
--- Of `stats` this is the text of the numbers that trace_history counts of the commands that were done by then: what the CPU's ring of that instance
+-- Of `stats` this is the text of the numbers that tracer_specification counts of the commands that were done by then: what the CPU's ring of that instance
 -- keeps, what it overwrote, dropped and gave, and the clock.
 abbrev pub StatsShowThePast : Type 0
 StatsShowThePast =

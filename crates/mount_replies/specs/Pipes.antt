@@ -2,8 +2,8 @@
 -- of the open file gave something before).
 use Rattle.std.specs.Prelude.{◌==◌, Bool, false, not, ◌&&◌, [], length, Option, Some, None, unwrap_or, Result, Ok, Err}
 use Rattle.trace_command.specs.declared.refusal.Refusal.{Refusal}
-use Rattle.trace_history.specs.Settings.{is_tracing}
-use Rattle.trace_history.specs.Waiting.{waiting}
+use Rattle.tracer_specification.specs.Settings.{is_tracing}
+use Rattle.tracer_specification.specs.Waiting.{waiting}
 use Rattle.mount_tree.specs.Children.{is_there}
 use Rattle.mount_tree.specs.NodePaths.{file_meant, owner_name}
 use Rattle.mount_tree.specs.declared.file.File.{File}

@@ -19,7 +19,7 @@ use Rattle.trace_command.specs.declared.refusal.Refusal.{Refusal}
 use Rattle.trace_command.specs.declared.refusal.Refusal.TheVariants.{Memory}
 use Rattle.refusal_explanations.specs.Writes.{write_offset, write_words}
 use Rattle.trace_format.specs.Definitions.{Definition}
-use Rattle.trace_history.specs.Settings.{declared_events, now_of}
+use Rattle.tracer_specification.specs.Settings.{declared_events, now_of}
 use Rattle.error_log.specs.Errors.{ErrorSeen, begun, refused}
 use Rattle.error_log.specs.Logs.{cleared, log_text, noted}
 use Rattle.mount_tree.specs.Children.{is_there}

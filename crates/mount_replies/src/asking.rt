@@ -6,7 +6,7 @@
 ghost use Rattle.std.specs.Prelude.{◌≡◌, Bool, IfOk, List};
 ghost use Rattle.trace_command.specs.Requests.{Request, request_of};
 ghost use Rattle.trace_command.specs.declared.command.Command.TheVariants as commands;
-ghost use Rattle.trace_history.specs.Settings.{declares, made, removed};
+ghost use Rattle.tracer_specification.specs.Settings.{declares, made, removed};
 ghost use Rattle.mount_tree.specs.NodePaths.{path_of};
 ghost use Rattle.mount_tree.specs.declared.node.Node.TheVariants as nodes;
 ghost use Rattle.mount_replies.specs.Mounted.{AsksBy, IsQuiet};

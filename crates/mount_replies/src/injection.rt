@@ -7,7 +7,7 @@ ghost use Rattle.std.specs.Str.{bytes_eq};
 ghost use Rattle.trace_lex.specs.Blanks.{is_blank as is_blank_byte};
 ghost use Rattle.trace_format.specs.declared.pair.Pair.{Pair as PairSeen};
 ghost use Rattle.trace_command.specs.Requests.{Request, request_of};
-ghost use Rattle.trace_history.specs.Settings.{declared_events};
+ghost use Rattle.tracer_specification.specs.Settings.{declared_events};
 ghost use Rattle.mount_replies.specs.Injections.{default_pair, first_line as line_of, injection, left_out, pairs_asked as asked_pairs, pairs_of_line as pairs_of};
 ghost use Rattle.mount_replies.specs.Mounted.{HasLedTo, IsQuiet, IsStep, StepsBy};
 ghost use Rattle.mount_replies.specs.Served.{Asks, inject as injected, written};

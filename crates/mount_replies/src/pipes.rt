@@ -3,7 +3,7 @@
 ghost use Rattle.std.specs.Prelude.{◌≡◌, true, false, List, None, is_some, IfSome};
 ghost use Rattle.trace_buffer.specs.Buffers as buffers;
 ghost use Rattle.trace_command.specs.Requests.{Request};
-ghost use Rattle.trace_history.specs.Settings.{is_tracing, is_there as exists};
+ghost use Rattle.tracer_specification.specs.Settings.{is_tracing, is_there as exists};
 ghost use Rattle.trace_instance.specs.Instances.{InstanceStandsFor};
 ghost use Rattle.tracer_without_history.specs.Lives.{IsLive};
 ghost use Rattle.mount_tree.specs.Children.{owner_is_there};

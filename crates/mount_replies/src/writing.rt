@@ -2,7 +2,7 @@
 
 ghost use Rattle.std.specs.Prelude.{◌≡◌, ◌<◌, ◌^◌, ◌++◌, ◌∷◌, [], List, Some, length};
 ghost use Rattle.trace_command.specs.Requests.{Request};
-ghost use Rattle.trace_history.specs.Settings.{now_of};
+ghost use Rattle.tracer_specification.specs.Settings.{now_of};
 ghost use Rattle.error_log.specs.Errors.{ErrorSeen};
 ghost use Rattle.mount_tree.specs.FileKinds.{kind_of_file};
 ghost use Rattle.mount_tree.specs.declared.node.Node.TheVariants as nodes;

@@ -4,8 +4,8 @@ use Rattle.std.proofs.lemmas.Bool.{false≢true}
 use Rattle.history_laws.specs.AccountedFor.{EmissionsAreAccountedFor, EmissionsAreShownOrCounted, ShownCountsAccountForEmissions}
 use Rattle.trace_command.specs.Paths as paths
 use Rattle.trace_command.specs.declared.file_name.CpuFile.TheVariants as per_cpu
-use Rattle.trace_history.specs.FileTexts.{cpu_stats_text}
-use Rattle.trace_history.specs.Settings.{now_of}
+use Rattle.tracer_specification.specs.FileTexts.{cpu_stats_text}
+use Rattle.tracer_specification.specs.Settings.{now_of}
 use Rattle.record_text.specs.StatsText.{stats_text}
 use Rattle.mount_tree.specs.Children.{is_there, owner_is_there}
 use Rattle.mount_tree.specs.declared.file.File.{File}

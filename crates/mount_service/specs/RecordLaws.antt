@@ -10,10 +10,10 @@ use Rattle.trace_command.specs.Configs.{IsInRange}
 use Rattle.trace_command.specs.Paths as paths
 use Rattle.trace_command.specs.Requests.{Request}
 use Rattle.trace_command.specs.declared.file_name.CpuFile.TheVariants as per_cpu
-use Rattle.trace_history.specs.Pasts.{AreDone}
-use Rattle.trace_history.specs.Rings.{other_rings, rings}
-use Rattle.trace_history.specs.Settings.{now_of}
-use Rattle.trace_history.specs.Snapshots.{exchange_count}
+use Rattle.tracer_specification.specs.Pasts.{AreDone}
+use Rattle.tracer_specification.specs.Rings.{other_rings, rings}
+use Rattle.tracer_specification.specs.Settings.{now_of}
+use Rattle.tracer_specification.specs.Snapshots.{exchange_count}
 use Rattle.record_text.specs.StatsText.{stats_text}
 use Rattle.mount_tree.specs.Children.{is_there}
 use Rattle.mount_tree.specs.declared.file.File.TheVariants as files

@@ -7,7 +7,7 @@ use Rattle.std.proofs.lemmas.Option.{get_or_from_slice_get}
 use Rattle.trace_command.specs.Requests.{Request}
 use Rattle.trace_command.specs.declared.command.Config.{Config}
 use Rattle.trace_format.specs.Definitions.{Definition}
-use Rattle.trace_history.specs.Settings.{declared_events, declares, is_enabled}
+use Rattle.tracer_specification.specs.Settings.{declared_events, declares, is_enabled}
 use Rattle.trace_instance.specs.Instances.{InstanceSeen, InstanceStandsFor}
 use Rattle.mount_tree.specs.Scenes.{has_folder, shown_event}
 use Rattle.mount_tree.specs.ScenesAfter.{declared_event, events_after}

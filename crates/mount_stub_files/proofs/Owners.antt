@@ -5,7 +5,7 @@ use Rattle.std.specs.Str.{bytes_eq}
 use Rattle.std.proofs.lemmas.Bool.{false≢true}
 use Rattle.std.proofs.lemmas.Slice.Eq.{bytes_eq-Decides}
 use Rattle.trace_command.specs.Requests.{Request}
-use Rattle.trace_history.specs.Settings.{is_there}
+use Rattle.tracer_specification.specs.Settings.{is_there}
 use Rattle.trace_command.specs.declared.command.Config.{Config}
 use Rattle.mount_tree.specs.Children.{owner_is_there}
 use Rattle.mount_tree.specs.Children.{is_there as files_there}

@@ -3,7 +3,7 @@
 ghost use Rattle.std.specs.Prelude.{◌≡◌, ◌++◌, List, Option, ℕ, is_some, true, false, IfOk, IfSome, OnOk};
 ghost use Rattle.std.specs.Fmt.{decimal};
 ghost use Rattle.trace_command.specs.Requests.{Request};
-ghost use Rattle.trace_history.specs.Settings.{is_there};
+ghost use Rattle.tracer_specification.specs.Settings.{is_there};
 ghost use Rattle.trace_instance.specs.Instances.{InstanceStandsFor};
 ghost use Rattle.mount_tree.specs.Children.{owner_is_there};
 ghost use Rattle.mount_tree.specs.NodePaths.{owner_name};

@@ -3,7 +3,7 @@ use Rattle.std.proofs.Common.{◌≡◌, ℕ, ◌+◌, List, [], ◌∷◌, ◌+
 use Rattle.std.specs.Option.{option_to_list}
 use Rattle.trace_command.specs.Requests.{Request, Emission, MakeInstance, RemoveInstance, WriteFile, ReadFile}
 use Rattle.trace_format.specs.Definitions.{Definition}
-use Rattle.trace_history.specs.Settings.{declared_events, declares, made, removed}
+use Rattle.tracer_specification.specs.Settings.{declared_events, declares, made, removed}
 use Rattle.mount_tree.specs.Scenes.{with_event, with_instance, without_instance, without_named}
 use Rattle.mount_tree.specs.ScenesAfter.{declared_event, events_after, instances_after, left_instances, made_after, made_instance, scene_after}
 

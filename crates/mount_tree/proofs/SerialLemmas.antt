@@ -9,7 +9,7 @@ use Rattle.std.proofs.lemmas.List.Folds.{find-append}
 use Rattle.std.proofs.lemmas.List.Elements.{filter-append}
 use Rattle.trace_command.specs.Requests.{Request}
 use Rattle.trace_format.specs.Definitions.{Definition}
-use Rattle.trace_history.specs.Settings.{declared_events, declares, instance_names, made, removed, without}
+use Rattle.tracer_specification.specs.Settings.{declared_events, declares, instance_names, made, removed, without}
 use Rattle.mount_tree.specs.Children.{is_there}
 use Rattle.mount_tree.specs.Nodes.{owner_of}
 use Rattle.mount_tree.specs.Scenes.{SceneSeen, has_folder, instance_at, shown_event, without_named}

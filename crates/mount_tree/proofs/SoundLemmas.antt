@@ -17,10 +17,10 @@ use Rattle.trace_command.specs.declared.refusal.Refusal.{Refusal}
 use Rattle.trace_command.specs.declared.refusal.Refusal.TheVariants as refusal
 use Rattle.trace_format.specs.Catalogs.{AreEvents}
 use Rattle.trace_format.specs.Definitions.{Definition}
-use Rattle.trace_history.specs.History.{most_instances, named_answer}
-use Rattle.trace_history.specs.Pasts.{AreDone}
-use Rattle.trace_history.specs.Settings.{declared_events, declares, instance_names, is_there}
-use Rattle.trace_history.proofs.EventLists.{one_index}
+use Rattle.tracer_specification.specs.History.{most_instances, named_answer}
+use Rattle.tracer_specification.specs.Pasts.{AreDone}
+use Rattle.tracer_specification.specs.Settings.{declared_events, declares, instance_names, is_there}
+use Rattle.tracer_specification.proofs.EventLists.{one_index}
 use Rattle.trace_lex.specs.Names.{is_name}
 use Rattle.mount_tree.specs.Scenes.{has_folder, shown_event, without_named}
 use Rattle.mount_tree.specs.ScenesAfter.{declared_event, events_after, instances_after, made_after, scene_after}

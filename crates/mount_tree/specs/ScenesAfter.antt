@@ -3,7 +3,7 @@ use Rattle.std.specs.Prelude.{ℕ, ◌+◌, List, [], ◌∷◌, ◌++◌, lengt
 use Rattle.std.specs.Option.{option_to_list}
 use Rattle.trace_command.specs.Requests.{Request}
 use Rattle.trace_format.specs.Definitions.{Definition}
-use Rattle.trace_history.specs.Settings.{declared_events, declares, made, removed}
+use Rattle.tracer_specification.specs.Settings.{declared_events, declares, made, removed}
 use Rattle.mount_tree.specs.Scenes.{SceneSeen, shown_event, without_named}
 use Rattle.mount_tree.specs.declared.scene.Event.{Event}
 use Rattle.mount_tree.specs.declared.scene.Instance.{Instance}

@@ -7,8 +7,8 @@ use Rattle.trace_command.specs.Requests.{Request}
 use Rattle.trace_command.specs.declared.command.Config.{Config}
 use Rattle.trace_format.specs.Catalogs.{AreEvents}
 use Rattle.trace_format.specs.Definitions.{Definition}
-use Rattle.trace_history.specs.Pasts.{AreDone}
-use Rattle.trace_history.specs.Settings.{declared_events, declares, instance_names, made, removed}
+use Rattle.tracer_specification.specs.Pasts.{AreDone}
+use Rattle.tracer_specification.specs.Settings.{declared_events, declares, instance_names, made, removed}
 use Rattle.trace_lex.specs.Names.{is_name}
 use Rattle.mount_tree.specs.Children.{Child, children, is_there, node_named}
 use Rattle.mount_tree.specs.NodePaths.{address_meant, path_of}
@@ -33,11 +33,11 @@ NumbersNameNodes = (a b : Node) → FitsItsTypes a → FitsItsTypes b → number
 
 -- ---- requests
 
--- the instances that are there are those of trace_history, each with its number
+-- the instances that are there are those of tracer_specification, each with its number
 abbrev pub NamesGoWithSerials : Type 0
 NamesGoWithSerials = (past : List Request) → map (λ (i : Instance). i.name) (instances_after past) ≡ instance_names past
 
--- the events are those of trace_history, but for those that have no folder
+-- the events are those of tracer_specification, but for those that have no folder
 abbrev pub EventsAreDeclared : Type 0
 EventsAreDeclared =
     (past : List Request) → map (λ (e : Event). e.name) (events_after past) ≡ filter has_folder (map (λ (d : Definition). d.name) (declared_events past))

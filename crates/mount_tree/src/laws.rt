@@ -9,7 +9,7 @@ pub fn numbers_name_nodes()
     ensures { NumbersNameNodes }
 {}
 
-/// After the requests that were done, the instances are those of trace_history, each with the number of those that were made before it; the events
+/// After the requests that were done, the instances are those of tracer_specification, each with the number of those that were made before it; the events
 /// are those that were declared, but for those named as a file beside their folder.
 pub fn scenes_are_of_their_pasts()
     ensures instances { NamesGoWithSerials }

@@ -5,7 +5,7 @@ use Rattle.std.proofs.lemmas.List.Elements.{All-nil, All-head, All-tail}
 use Rattle.trace_command.specs.Configs.{IsInRange}
 use Rattle.trace_command.specs.declared.command.Config.{Config}
 use Rattle.trace_command.specs.declared.command.Entry.{Entry}
-use Rattle.trace_history.specs.History.{IsLegal}
+use Rattle.tracer_specification.specs.History.{IsLegal}
 use Rattle.script_reader.specs.FewThreads.{HasFewThreads, PartsHaveFewThreads}
 use Rattle.script_reader.specs.Items.{Item, items_of}
 use Rattle.trace_session.proofs.Standing.{given_front}

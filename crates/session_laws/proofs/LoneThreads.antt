@@ -9,11 +9,11 @@ use Rattle.trace_command.specs.declared.command.Entry.{Entry}
 use Rattle.trace_command.specs.declared.command.Reply.{Reply}
 use Rattle.trace_command.specs.declared.refusal.Refusal.{Refusal}
 use Rattle.trace_command.specs.declared.refusal.Refusal.TheVariants.{Worn}
-use Rattle.trace_history.proofs.Trailing.{trail-grows, trail-later}
-use Rattle.trace_history.proofs.Unworn.{worn_is_no_answer}
-use Rattle.trace_history.specs.Blocks.{Trail, IsUnworn, StandsIn}
-use Rattle.trace_history.specs.History.{answer_to}
-use Rattle.trace_history.specs.Trails.{IsTrail}
+use Rattle.tracer_specification.proofs.Trailing.{trail-grows, trail-later}
+use Rattle.tracer_specification.proofs.Unworn.{worn_is_no_answer}
+use Rattle.tracer_specification.specs.Blocks.{Trail, IsUnworn, StandsIn}
+use Rattle.tracer_specification.specs.History.{answer_to}
+use Rattle.tracer_specification.specs.Trails.{IsTrail}
 use Rattle.trace_session.specs.Sessions.{Progress}
 use Rattle.session_laws.proofs.FitCommands.{AreFit, AllFit}
 use Rattle.session_laws.proofs.ReadyHistories.{IsReady, entry_by, after_one, is_done, ready_after}

@@ -8,8 +8,8 @@ use Rattle.trace_command.specs.declared.command.Config.{Config}
 use Rattle.trace_command.specs.declared.command.Entry.{Entry}
 use Rattle.trace_command.specs.declared.command.Reply.{Reply}
 use Rattle.trace_command.specs.declared.refusal.Refusal.{Refusal}
-use Rattle.trace_history.proofs.LegalEvents.{done-had_room}
-use Rattle.trace_history.specs.History.{IsLegal, answer_to, past_of}
+use Rattle.tracer_specification.proofs.LegalEvents.{done-had_room}
+use Rattle.tracer_specification.specs.History.{IsLegal, answer_to, past_of}
 use Rattle.trace_session.specs.Sessions.{Progress, so_far}
 use Rattle.tracer_state.proofs.Histories.{IsLegal-push, length-past_of, past_of-push}
 

@@ -10,9 +10,9 @@ use Rattle.trace_command.specs.declared.command.Config.{Config}
 use Rattle.trace_command.specs.declared.command.Entry.{Entry}
 use Rattle.trace_command.specs.declared.command.Reply.{Reply}
 use Rattle.trace_command.specs.declared.refusal.Refusal.{Refusal}
-use Rattle.trace_history.specs.Blocks.{Trail, StandsIn}
-use Rattle.trace_history.specs.History.{IsEntry, IsLegal, IsLegalNewestFirst, answer, answer_to, past_of}
-use Rattle.trace_history.specs.Trails.{IsTrail}
+use Rattle.tracer_specification.specs.Blocks.{Trail, StandsIn}
+use Rattle.tracer_specification.specs.History.{IsEntry, IsLegal, IsLegalNewestFirst, answer, answer_to, past_of}
+use Rattle.tracer_specification.specs.Trails.{IsTrail}
 use Rattle.trace_session.specs.Parts.{Given, PartMayGive}
 use Rattle.trace_session.specs.Sessions.{Progress, so_far}
 use Rattle.script_reader.specs.declared.part.Numbered.{Numbered}

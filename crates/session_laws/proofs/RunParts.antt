@@ -7,8 +7,8 @@ use Rattle.trace_command.specs.declared.command.Command.{Command}
 use Rattle.trace_command.specs.declared.command.Config.{Config}
 use Rattle.trace_command.specs.declared.command.Reply.{Reply}
 use Rattle.trace_command.specs.declared.refusal.Refusal.{Refusal}
-use Rattle.trace_history.specs.Blocks.{Trail}
-use Rattle.trace_history.specs.History.{IsLegal, answer, answer_to}
+use Rattle.tracer_specification.specs.Blocks.{Trail}
+use Rattle.tracer_specification.specs.History.{IsLegal, answer, answer_to}
 use Rattle.script_reader.specs.FewThreads.{HasFewThreads}
 use Rattle.script_reader.specs.Items.{Item, Single, Threads, Faulty}
 use Rattle.script_reader.specs.declared.part.Numbered.{Numbered}

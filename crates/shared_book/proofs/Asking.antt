@@ -7,9 +7,9 @@ use Rattle.ticket_lock.specs.Calls.{mine_of, IsDrawn, IsMet, Finds, IsBack, IsWo
 use Rattle.ticket_lock.specs.Entries.{is_under, entries_under}
 use Rattle.ticket_lock.specs.Views.{HasAllNames}
 use Rattle.ticket_lock.specs.declared.views.View.{View}
-use Rattle.trace_history.specs.History.{answer_to, IsLegal}
-use Rattle.trace_history.specs.LateMemory.{TakesMemoryLate}
-use Rattle.trace_history.proofs.Unworn.{worn_is_no_answer}
+use Rattle.tracer_specification.specs.History.{answer_to, IsLegal}
+use Rattle.tracer_specification.specs.LateMemory.{TakesMemoryLate}
+use Rattle.tracer_specification.proofs.Unworn.{worn_is_no_answer}
 use Rattle.shared_book.specs.Bases.{numbers_of}
 use Rattle.shared_book.proofs.SameBases.{numbers_of-determines}
 use Rattle.trace_command.specs.Refusals.{OrMemory, IsFoundEarly}

@@ -4,9 +4,9 @@ use Rattle.ticket_lock.specs.Calls.{mine_of, IsWorn}
 use Rattle.ticket_lock.specs.Entries.{entries_under}
 use Rattle.ticket_lock.specs.Views.{HasAllNames}
 use Rattle.ticket_lock.specs.declared.views.View.{View}
-use Rattle.trace_history.specs.History.{answer_to}
-use Rattle.trace_history.specs.LateMemory.{TakesMemoryLate}
-use Rattle.trace_history.specs.Trails.{IsDoneAfter, IsRefusedAfter}
+use Rattle.tracer_specification.specs.History.{answer_to}
+use Rattle.tracer_specification.specs.LateMemory.{TakesMemoryLate}
+use Rattle.tracer_specification.specs.Trails.{IsDoneAfter, IsRefusedAfter}
 use Rattle.shared_book.specs.Bases.{numbers_of}
 use Rattle.trace_command.specs.Refusals.{IsFoundEarly}
 use Rattle.trace_command.specs.Requests.{request_of}

@@ -5,8 +5,8 @@ ghost use Rattle.trace_command.specs.Refusals.{OrMemory, IsFoundEarly};
 ghost use Rattle.trace_command.specs.Requests.{request_of};
 ghost use Rattle.trace_command.specs.declared.command.Config.{Config};
 ghost use Rattle.trace_command.specs.declared.command.Entry.{Entry};
-ghost use Rattle.trace_history.specs.History.{answer_to, IsLegal};
-ghost use Rattle.trace_history.specs.LateMemory.{TakesMemoryLate};
+ghost use Rattle.tracer_specification.specs.History.{answer_to, IsLegal};
+ghost use Rattle.tracer_specification.specs.LateMemory.{TakesMemoryLate};
 ghost use Rattle.shared_book.specs.Asks.{caller_of};
 ghost use Rattle.shared_book.specs.Bases.{numbers_of};
 

@@ -2,7 +2,7 @@
 
 ghost use Rattle.std.specs.Prelude.{◌≡◌, Err, IfOk, IfErr};
 ghost use Rattle.ticket_lock.specs.Calls.{view_of, IsOf};
-ghost use Rattle.trace_history.specs.History.{IsLegal};
+ghost use Rattle.tracer_specification.specs.History.{IsLegal};
 ghost use Rattle.shared_book.specs.Bases.{numbers_of};
 ghost use Rattle.shared_book.specs.Asks.{GoesOn, IsDone, IsRefused};
 ghost use Rattle.trace_command.specs.declared.command.Config.{Config};

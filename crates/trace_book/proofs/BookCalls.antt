@@ -8,8 +8,8 @@ use Rattle.trace_command.specs.declared.command.Entry.{Entry}
 use Rattle.trace_command.specs.declared.command.Reply.{Reply}
 use Rattle.trace_command.specs.declared.refusal.Refusal.{Refusal}
 use Rattle.trace_command.specs.declared.refusal.Refusal.TheVariants.{Memory}
-use Rattle.trace_history.specs.History.{answer, answer_with_room, past_of, IsEntry, IsLegal}
-use Rattle.trace_history.specs.LateMemory.{TakesMemoryLate}
+use Rattle.tracer_specification.specs.History.{answer, answer_with_room, past_of, IsEntry, IsLegal}
+use Rattle.tracer_specification.specs.LateMemory.{TakesMemoryLate}
 use Rattle.tracer_state.proofs.Histories.{IsLegal-push, length-past_of}
 use Rattle.tracer_without_history.specs.LiveSeen.{LiveSeen}
 use Rattle.tracer_without_history.specs.Lives.{IsLive, limited_answer}

@@ -1,5 +1,5 @@
 -- What contracts see of a book.
-use Rattle.trace_history.specs.History.{past_of, IsLegal}
+use Rattle.tracer_specification.specs.History.{past_of, IsLegal}
 use Rattle.tracer_without_history.specs.Lives.{IsLive}
 use Rattle.trace_book.specs.BookSeen.{BookSeen}
 use Rattle.trace_book.specs.declared.book.Book.TheInside.{Inside}

@@ -4,8 +4,8 @@ ghost use Rattle.std.specs.Prelude.{◌≡◌, ◌+◌, ◌<◌, ◌-◌, ◌^�
 ghost use Rattle.trace_command.specs.Configs.{IsInRange};
 ghost use Rattle.trace_command.specs.Refusals.{OrMemory, IsFoundEarly};
 ghost use Rattle.trace_command.specs.Requests.{request_of};
-ghost use Rattle.trace_history.specs.History.{answer_to, IsLegal};
-ghost use Rattle.trace_history.specs.LateMemory.{TakesMemoryLate};
+ghost use Rattle.tracer_specification.specs.History.{answer_to, IsLegal};
+ghost use Rattle.tracer_specification.specs.LateMemory.{TakesMemoryLate};
 
 use crate::book::Book;
 use std::alloc::Global;

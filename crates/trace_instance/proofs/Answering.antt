@@ -19,13 +19,13 @@ use Rattle.trace_command.specs.declared.command.Reply.{Reply}
 use Rattle.trace_command.specs.declared.command.Reply.TheVariants.{Done}
 use Rattle.trace_command.specs.declared.refusal.Refusal.{Refusal}
 use Rattle.trace_command.specs.declared.refusal.Refusal.TheVariants as refusal
-use Rattle.trace_history.specs.History.{asked_answer, fitting_answer, hist_answer, new_hist_answer, remove_hist_answer, room_answer, said_answer, trigger_answer, trigger_count}
-use Rattle.trace_history.specs.HistTriggers.{HistTrigger, fits_that, has_same, hist_triggers, hists_of, hists_said, named_by}
-use Rattle.trace_history.specs.Triggers as triggers
-use Rattle.trace_history.specs.Triggers.{trigger_of}
-use Rattle.trace_history.proofs.HistTriggers.{hist_triggers_are_in_order}
-use Rattle.trace_history.proofs.Members.{IsIn}
-use Rattle.trace_history.proofs.Triggered.{number-before}
+use Rattle.tracer_specification.specs.History.{asked_answer, fitting_answer, hist_answer, new_hist_answer, remove_hist_answer, room_answer, said_answer, trigger_answer, trigger_count}
+use Rattle.tracer_specification.specs.HistTriggers.{HistTrigger, fits_that, has_same, hist_triggers, hists_of, hists_said, named_by}
+use Rattle.tracer_specification.specs.Triggers as triggers
+use Rattle.tracer_specification.specs.Triggers.{trigger_of}
+use Rattle.tracer_specification.proofs.HistTriggers.{hist_triggers_are_in_order}
+use Rattle.tracer_specification.proofs.Members.{IsIn}
+use Rattle.tracer_specification.proofs.Triggered.{number-before}
 use Rattle.trace_instance.specs.private.Attaching.{AreKept, IsAttached, IsChangeOf, kept_count, same_left}
 use Rattle.trace_instance.specs.Instances as instances
 use Rattle.trace_instance.specs.Changes.{IsNewest}
@@ -37,7 +37,7 @@ use Rattle.trace_instance.specs.declared.change.TriggerChange.TheVariants.{Keep,
 use Rattle.trace_instance.specs.declared.trigger.Trigger.{Trigger}
 use Rattle.trace_instance.specs.declared.write.WrittenText.{WrittenText}
 use Rattle.trace_instance.proofs.Attached.{IsNamed, all-are, all_left, hists-stay, own_left, snapshot-attached, snapshot-removed, snapshot-stays, tables-stay, text_request}
-use Rattle.trace_history.proofs.NamedTables.{fit-fewer}
+use Rattle.tracer_specification.proofs.NamedTables.{fit-fewer}
 use Rattle.trace_instance.proofs.FittingTables.{fit-tables, left-fit}
 use Rattle.trace_instance.proofs.EachEvent.{any-map}
 use Rattle.trace_instance.proofs.OneSays.{some-found}

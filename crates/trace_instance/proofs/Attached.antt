@@ -16,15 +16,15 @@ use Rattle.trace_trigger.specs.declared.trigger.TriggerText.TheVariants as said
 use Rattle.trace_command.specs.Paths as paths
 use Rattle.trace_command.specs.Requests.{Request, WriteFile}
 use Rattle.trace_command.specs.declared.file_name.EventFile.TheVariants as per_event
-use Rattle.trace_history.specs.HistTriggers.{HistTrigger, Written, asked_by, asked_in, asked_of, counted_by, empties, has_same, hist_triggers, hists_after, hists_of, hists_said, hits_of, is_paused, kept_by, left_by, new_hist, paused_after, says_same, speaks_of, written_to}
-use Rattle.trace_history.specs.Settings.{event_named}
-use Rattle.trace_history.specs.Triggers as triggers
-use Rattle.trace_history.specs.Triggers.{trigger_of, written_trigger}
-use Rattle.trace_history.proofs.EventHists.{hists_of-after, own_after, own_said}
-use Rattle.trace_history.proofs.HistTriggers.{hist_triggers_differ, same-itself}
-use Rattle.trace_history.proofs.OwnFiles.{OwnWritten, as_written, own-declared, own_written, trigger_after, trigger_of-after}
-use Rattle.trace_history.proofs.TableSteps.{nothing-counted}
-use Rattle.trace_history.proofs.Triggered.{number-before, times_left-attached, times_left-same}
+use Rattle.tracer_specification.specs.HistTriggers.{HistTrigger, Written, asked_by, asked_in, asked_of, counted_by, empties, has_same, hist_triggers, hists_after, hists_of, hists_said, hits_of, is_paused, kept_by, left_by, new_hist, paused_after, says_same, speaks_of, written_to}
+use Rattle.tracer_specification.specs.Settings.{event_named}
+use Rattle.tracer_specification.specs.Triggers as triggers
+use Rattle.tracer_specification.specs.Triggers.{trigger_of, written_trigger}
+use Rattle.tracer_specification.proofs.EventHists.{hists_of-after, own_after, own_said}
+use Rattle.tracer_specification.proofs.HistTriggers.{hist_triggers_differ, same-itself}
+use Rattle.tracer_specification.proofs.OwnFiles.{OwnWritten, as_written, own-declared, own_written, trigger_after, trigger_of-after}
+use Rattle.tracer_specification.proofs.TableSteps.{nothing-counted}
+use Rattle.tracer_specification.proofs.Triggered.{number-before, times_left-attached, times_left-same}
 use Rattle.trace_instance.specs.Changes.{IsAsked}
 use Rattle.trace_instance.specs.Instances.{kept_trigger}
 use Rattle.trace_instance.specs.Instances as instances

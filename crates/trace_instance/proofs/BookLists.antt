@@ -7,14 +7,14 @@ use Rattle.std.proofs.lemmas.Slice.Eq.{bytes_eq-Decides}
 use Rattle.trace_format.specs.Catalogs.{AreEvents}
 use Rattle.trace_format.specs.Definitions.{Definition}
 use Rattle.trace_command.specs.Requests.{Request}
-use Rattle.trace_history.specs.Declarations.{IsIndexOf}
-use Rattle.trace_history.specs.HistTriggers.{HistTrigger, is_of, left_by, those_of}
-use Rattle.trace_history.specs.Settings.{NumberedEvent, declared_events}
-use Rattle.trace_history.proofs.EventLists.{one_index}
-use Rattle.trace_history.proofs.Events.{index_of_id}
-use Rattle.trace_history.proofs.LegalEvents.{named-is_numbered}
-use Rattle.trace_history.proofs.Members.{IsIn, each-in, filter-in, in-filter}
-use Rattle.trace_history.proofs.OwnFiles.{IsNamed}
+use Rattle.tracer_specification.specs.Declarations.{IsIndexOf}
+use Rattle.tracer_specification.specs.HistTriggers.{HistTrigger, is_of, left_by, those_of}
+use Rattle.tracer_specification.specs.Settings.{NumberedEvent, declared_events}
+use Rattle.tracer_specification.proofs.EventLists.{one_index}
+use Rattle.tracer_specification.proofs.Events.{index_of_id}
+use Rattle.tracer_specification.proofs.LegalEvents.{named-is_numbered}
+use Rattle.tracer_specification.proofs.Members.{IsIn, each-in, filter-in, in-filter}
+use Rattle.tracer_specification.proofs.OwnFiles.{IsNamed}
 use Rattle.trace_instance.proofs.Calm.{no_event}
 
 -- ---- members of lists of lists

@@ -14,17 +14,17 @@ use Rattle.trace_command.specs.declared.command.Config.{Config}
 use Rattle.trace_command.specs.declared.file_name.EventFile.TheVariants as per_event
 use Rattle.trace_command.specs.declared.file_name.TopFile.TheVariants as top
 use Rattle.trace_snapshot.specs.Sides.{SideFamilies}
-use Rattle.trace_history.specs.Emissions.{emitted}
+use Rattle.tracer_specification.specs.Emissions.{emitted}
 use Rattle.trace_trigger.specs.declared.spec.Action.{Action}
-use Rattle.trace_history.specs.HistTriggers.{written_to}
-use Rattle.trace_history.specs.Rings.{other_rings, rings, rings_after, rings_after_write, spare_after, spare_rings}
-use Rattle.trace_history.specs.Settings.{declared_events, is_enabled, is_same, is_tracing, kept_filter, makes, overwrites, set_by, sets_filter, sets_overwrite, sets_tracing, switches}
-use Rattle.trace_history.specs.Snapshots.{exchanges, has_spare, sets_spare}
-use Rattle.trace_history.specs.Triggers as triggers
-use Rattle.trace_history.specs.Triggers.{sets_trigger, times_left, trigger_of}
-use Rattle.trace_history.proofs.EventLists.{map-agrees}
-use Rattle.trace_history.proofs.Sides.{rings-stay}
-use Rattle.trace_history.proofs.Triggered.{number-before, times_left-same}
+use Rattle.tracer_specification.specs.HistTriggers.{written_to}
+use Rattle.tracer_specification.specs.Rings.{other_rings, rings, rings_after, rings_after_write, spare_after, spare_rings}
+use Rattle.tracer_specification.specs.Settings.{declared_events, is_enabled, is_same, is_tracing, kept_filter, makes, overwrites, set_by, sets_filter, sets_overwrite, sets_tracing, switches}
+use Rattle.tracer_specification.specs.Snapshots.{exchanges, has_spare, sets_spare}
+use Rattle.tracer_specification.specs.Triggers as triggers
+use Rattle.tracer_specification.specs.Triggers.{sets_trigger, times_left, trigger_of}
+use Rattle.tracer_specification.proofs.EventLists.{map-agrees}
+use Rattle.tracer_specification.proofs.Sides.{rings-stay}
+use Rattle.tracer_specification.proofs.Triggered.{number-before, times_left-same}
 use Rattle.trace_instance.specs.Changes.{IsAsked, IsEffect, IsJoined, asks, filters_after, flags_after, hists_after, overwrite_after, rings_changed, sides_changed, tracing_after, triggers_after}
 use Rattle.trace_instance.specs.Instances.{IsSpared, kept_as, kept_trigger, side_families}
 use Rattle.trace_instance.specs.KeptHists.{kept_hists}

@@ -16,18 +16,18 @@ use Rattle.trace_format.specs.Definitions.{Definition}
 use Rattle.trace_format.specs.declared.pair.Pair.{Pair}
 use Rattle.trace_command.specs.Requests.{Request, Emission}
 use Rattle.trace_command.specs.declared.command.Config.{Config}
-use Rattle.trace_history.specs.Declarations.{IsIndexOf}
-use Rattle.trace_history.specs.Emissions.{Emitted, emitted, emitted_bytes, is_recorded}
-use Rattle.trace_history.specs.Rings.{other_rings, rings, spare_rings, with_emitted}
-use Rattle.trace_history.specs.Settings.{declared_events, overwrites}
-use Rattle.trace_history.specs.Snapshots.{has_spare, is_exchanged_by}
-use Rattle.trace_history.specs.Triggers as triggers
-use Rattle.trace_history.specs.Triggers.{is_left, met_by, passes, times_left, trigger_of}
-use Rattle.trace_history.proofs.EventLists.{map-set, one_index}
-use Rattle.trace_history.proofs.Sides.{rings-exchanged, rings-stay}
-use Rattle.trace_history.proofs.Triggered.{number-before, times_left-less, times_left-same}
+use Rattle.tracer_specification.specs.Declarations.{IsIndexOf}
+use Rattle.tracer_specification.specs.Emissions.{Emitted, emitted, emitted_bytes, is_recorded}
+use Rattle.tracer_specification.specs.Rings.{other_rings, rings, spare_rings, with_emitted}
+use Rattle.tracer_specification.specs.Settings.{declared_events, overwrites}
+use Rattle.tracer_specification.specs.Snapshots.{has_spare, is_exchanged_by}
+use Rattle.tracer_specification.specs.Triggers as triggers
+use Rattle.tracer_specification.specs.Triggers.{is_left, met_by, passes, times_left, trigger_of}
+use Rattle.tracer_specification.proofs.EventLists.{map-set, one_index}
+use Rattle.tracer_specification.proofs.Sides.{rings-exchanged, rings-stay}
+use Rattle.tracer_specification.proofs.Triggered.{number-before, times_left-less, times_left-same}
 use Rattle.trace_format.specs.Operands.{Emission as Row}
-use Rattle.trace_history.specs.HistTriggers.{counted_row}
+use Rattle.tracer_specification.specs.HistTriggers.{counted_row}
 use Rattle.trace_instance.specs.Instances.{InstanceSeen, InstanceStandsFor, IsSpared, WereOffered, kept_as, kept_trigger, side_families}
 use Rattle.hist_entries.specs.Hits.{Hit}
 use Rattle.trace_instance.specs.KeptHists.{AreHit, IsHitIf, KeptTable, TableStandsFor, is_used, kept_at, kept_hists}

@@ -10,10 +10,10 @@ use Rattle.trace_format.specs.Definitions.{Definition}
 use Rattle.trace_command.specs.Paths as paths
 use Rattle.trace_command.specs.Requests.{Request, WriteFile, ReadFile}
 use Rattle.trace_command.specs.declared.command.Config.{Config}
-use Rattle.trace_history.proofs.EventLists.{named_at}
-use Rattle.trace_history.specs.History.{missing}
-use Rattle.trace_history.specs.Rings.{rings, rings_after_read, rings_after_write}
-use Rattle.trace_history.specs.Settings.{declared_events, event_named, event_named_in, filter_of, is_enabled, is_same, is_tracing, overwrites}
+use Rattle.tracer_specification.proofs.EventLists.{named_at}
+use Rattle.tracer_specification.specs.History.{missing}
+use Rattle.tracer_specification.specs.Rings.{rings, rings_after_read, rings_after_write}
+use Rattle.tracer_specification.specs.Settings.{declared_events, event_named, event_named_in, filter_of, is_enabled, is_same, is_tracing, overwrites}
 use Rattle.trace_instance.specs.Changes.{IsEffect, filters_after, IsLawful, rings_changed}
 use Rattle.trace_instance.specs.FileAnswers.{IsReading}
 use Rattle.trace_instance.specs.Files.{IsThere, file_at, name_at}

@@ -7,7 +7,7 @@ use Rattle.trace_command.specs.Requests.{Request}
 use Rattle.trace_command.specs.declared.command.Config.{Config}
 use Rattle.trace_filter.specs.Filters.{parsed_of}
 use Rattle.trace_format.specs.Definitions.{Definition}
-use Rattle.trace_history.proofs.EventLists.{named_at}
+use Rattle.tracer_specification.proofs.EventLists.{named_at}
 use Rattle.trace_buffer.specs.Buffers.{Seen}
 use Rattle.record_text.specs.SnapshotText.{SpareHasShape}
 use Rattle.trace_text.specs.HistText.{hist_text}
@@ -18,11 +18,11 @@ use Rattle.hist_entries.specs.Hits.{Hit}
 use Rattle.hist_entries.proofs.Printing.{filter-over}
 use Rattle.trace_trigger.specs.FittingLaws.{CountsAlike}
 use Rattle.trace_trigger.specs.HistSpecs.{SpecSeen}
-use Rattle.trace_history.specs.FileTexts.{filter_text, format_of_event, hists_of_event, in_order as in_order_said, shown_hist, shown_trigger, triggers_of_event}
-use Rattle.trace_history.specs.HistTriggers.{HistTrigger, hists_of, hits_of}
-use Rattle.trace_history.specs.Triggers as history
-use Rattle.trace_history.specs.Triggers.{trigger_of}
-use Rattle.trace_history.specs.Settings.{declared_events, event_named, filter_of, is_enabled, kept_filter}
+use Rattle.tracer_specification.specs.FileTexts.{filter_text, format_of_event, hists_of_event, in_order as in_order_said, shown_hist, shown_trigger, triggers_of_event}
+use Rattle.tracer_specification.specs.HistTriggers.{HistTrigger, hists_of, hits_of}
+use Rattle.tracer_specification.specs.Triggers as history
+use Rattle.tracer_specification.specs.Triggers.{trigger_of}
+use Rattle.tracer_specification.specs.Settings.{declared_events, event_named, filter_of, is_enabled, kept_filter}
 use Rattle.record_text.specs.FormatText.{format_text}
 use Rattle.trace_instance.specs.FileAnswers.{IsSource}
 use Rattle.trace_instance.specs.private.Commands.{shown_attached, shown_filter, shown_of, shown_with}

@@ -6,9 +6,9 @@ use Rattle.trace_filter.specs.declared.fault.FilterFault.{FilterFault}
 use Rattle.trace_filter.specs.declared.fault.FilterFault.TheVariants as filter_fault
 use Rattle.trace_filter.specs.Filters.{Parsed, IsFilterOf, IsAnswered, parsed_of, answer_of}
 use Rattle.trace_format.specs.Definitions.{Definition}
-use Rattle.trace_history.specs.History.{filter_answer, filter_of_all_answer}
+use Rattle.tracer_specification.specs.History.{filter_answer, filter_of_all_answer}
 use Rattle.trace_command.specs.Refusals.{refusal_of_filter, IsFoundEarly, IsRefusal}
-use Rattle.trace_history.specs.Settings.{clears_filter, can_take}
+use Rattle.tracer_specification.specs.Settings.{clears_filter, can_take}
 use Rattle.trace_command.specs.declared.command.Reply.{Reply}
 use Rattle.trace_command.specs.declared.command.Reply.TheVariants as reply
 use Rattle.trace_command.specs.declared.refusal.Refusal.{Refusal}

@@ -2,9 +2,9 @@
 use Rattle.std.proofs.Common.{ℕ, Bool, List, Option}
 use Rattle.trace_format.specs.Definitions.{Definition}
 use Rattle.trace_command.specs.Requests.{Request}
-use Rattle.trace_history.specs.HistTriggers.{HistTrigger, hist_triggers, left_by}
-use Rattle.trace_history.proofs.Members.{IsIn, contains-in, in-contains, left-in}
-use Rattle.trace_history.proofs.NamedTables.{AllFit, left-fit as left-of_fitting}
+use Rattle.tracer_specification.specs.HistTriggers.{HistTrigger, hist_triggers, left_by}
+use Rattle.tracer_specification.proofs.Members.{IsIn, contains-in, in-contains, left-in}
+use Rattle.tracer_specification.proofs.NamedTables.{AllFit, left-fit as left-of_fitting}
 use Rattle.trace_instance.specs.Instances.{TablesFit}
 
 pub tables-fit : (name : Option (List ℕ)) (past : List Request) → TablesFit name past → AllFit (hist_triggers name past)

@@ -12,12 +12,12 @@ use Rattle.trace_command.specs.declared.command.Reply.{Reply}
 use Rattle.trace_command.specs.declared.command.Reply.TheVariants.{Done}
 use Rattle.trace_command.specs.declared.refusal.Refusal.{Refusal}
 use Rattle.trace_command.specs.declared.refusal.Refusal.TheVariants as refusal
-use Rattle.trace_history.specs.History.{asked_answer, fitting_answer, new_hist_answer, remove_hist_answer, room_answer, trigger_answer, trigger_count}
-use Rattle.trace_history.specs.HistTriggers.{HistTrigger, fits_that, has_same, hist_triggers, hists_said, is_of, named_by, says_same as says_same_as, those_of}
-use Rattle.trace_history.specs.Triggers as triggers
-use Rattle.trace_history.specs.Triggers.{trigger_of}
-use Rattle.trace_history.proofs.EventHists.{own-left}
-use Rattle.trace_history.proofs.Members.{IsIn, in-filter}
+use Rattle.tracer_specification.specs.History.{asked_answer, fitting_answer, new_hist_answer, remove_hist_answer, room_answer, trigger_answer, trigger_count}
+use Rattle.tracer_specification.specs.HistTriggers.{HistTrigger, fits_that, has_same, hist_triggers, hists_said, is_of, named_by, says_same as says_same_as, those_of}
+use Rattle.tracer_specification.specs.Triggers as triggers
+use Rattle.tracer_specification.specs.Triggers.{trigger_of}
+use Rattle.tracer_specification.proofs.EventHists.{own-left}
+use Rattle.tracer_specification.proofs.Members.{IsIn, in-filter}
 use Rattle.trace_instance.specs.private.Attaching.{AreKept, IsAsked, IsRemovedHist, asked_change, attaches, kept_count, same_left}
 use Rattle.trace_instance.specs.Instances.{TablesFit}
 use Rattle.trace_instance.specs.KeptHists.{says_same}
@@ -26,7 +26,7 @@ use Rattle.trace_instance.specs.declared.change.TriggerChange.TheVariants.{Detac
 use Rattle.trace_instance.specs.declared.hists.AttachedHist.{AttachedHist}
 use Rattle.trace_instance.specs.declared.write.WrittenText.{WrittenText}
 use Rattle.trace_instance.proofs.Attached.{IsNamed, all-are, all_left, hists-asked, hists-removed, own_left, snapshot-stays, tables-asked, tables-stay, text_request}
-use Rattle.trace_history.proofs.NamedTables.{fit-fewer}
+use Rattle.tracer_specification.proofs.NamedTables.{fit-fewer}
 use Rattle.trace_instance.proofs.FittingTables.{fit-tables, left-fit}
 use Rattle.trace_instance.proofs.Snapshotting.{refused}
 use Rattle.trace_instance.proofs.Answering.{answered, count-left, fit-stays, found-left, has-same, has-same_left, room-full, room-had}

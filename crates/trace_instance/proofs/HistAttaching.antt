@@ -13,13 +13,13 @@ use Rattle.trace_command.specs.Requests.{Request}
 use Rattle.trace_command.specs.declared.command.Reply.TheVariants.{Done}
 use Rattle.trace_command.specs.declared.refusal.Refusal.{Refusal}
 use Rattle.trace_command.specs.declared.refusal.Refusal.TheVariants as refusal
-use Rattle.trace_history.specs.History.{fitting_answer, trigger_answer}
-use Rattle.trace_history.specs.HistTriggers.{HistTrigger, fits_that, has_same, hist_triggers, hists_said, is_pause, named_by, table_or, those_of}
-use Rattle.trace_history.proofs.EventHists.{own-left}
-use Rattle.trace_history.proofs.Members.{IsIn, in-contains}
-use Rattle.trace_history.proofs.NamedTables.{fit-fewer, fit-new, left-old}
-use Rattle.trace_history.proofs.SharedTables.{said-alike}
-use Rattle.trace_history.proofs.Tables.{found-in}
+use Rattle.tracer_specification.specs.History.{fitting_answer, trigger_answer}
+use Rattle.tracer_specification.specs.HistTriggers.{HistTrigger, fits_that, has_same, hist_triggers, hists_said, is_pause, named_by, table_or, those_of}
+use Rattle.tracer_specification.proofs.EventHists.{own-left}
+use Rattle.tracer_specification.proofs.Members.{IsIn, in-contains}
+use Rattle.tracer_specification.proofs.NamedTables.{fit-fewer, fit-new, left-old}
+use Rattle.tracer_specification.proofs.SharedTables.{said-alike}
+use Rattle.tracer_specification.proofs.Tables.{found-in}
 use Rattle.trace_instance.specs.private.Attaching.{AreKept, IsAsked, IsJoinedChange, IsMadeChange, attaches, kept_count, same_left}
 use Rattle.trace_instance.specs.private.SharedTables.{left_of, named_in}
 use Rattle.trace_instance.specs.Changes.{IsAsked as IsAskedOf, IsNewest, Joins}

@@ -6,10 +6,10 @@ use Rattle.hist_entries.specs.Hits.{Hit}
 use Rattle.trace_trigger.specs.FittingSpecs.{is_fitting}
 use Rattle.trace_trigger.specs.declared.spec.Action.{Action}
 use Rattle.trace_command.specs.Requests.{Request}
-use Rattle.trace_history.specs.Emissions.{Emitted, emitted}
-use Rattle.trace_history.specs.HistTriggers.{HistTrigger, Written, asked_by, asked_in, counted_by, empties, hist_triggers, hists_after, hits_of, is_paused, paused_after, those_of, written_to}
-use Rattle.trace_history.specs.Settings.{makes}
-use Rattle.trace_history.proofs.TableSteps.{nothing-counted}
+use Rattle.tracer_specification.specs.Emissions.{Emitted, emitted}
+use Rattle.tracer_specification.specs.HistTriggers.{HistTrigger, Written, asked_by, asked_in, counted_by, empties, hist_triggers, hists_after, hits_of, is_paused, paused_after, those_of, written_to}
+use Rattle.tracer_specification.specs.Settings.{makes}
+use Rattle.tracer_specification.proofs.TableSteps.{nothing-counted}
 use Rattle.trace_instance.specs.Changes.{IsAsked}
 use Rattle.trace_instance.specs.Instances.{TablesFit}
 use Rattle.trace_instance.specs.KeptHists.{attached_as, kept_hists}

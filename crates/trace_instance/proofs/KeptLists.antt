@@ -6,13 +6,13 @@ use Rattle.std.proofs.lemmas.List.Folds.{list_any_at}
 use Rattle.std.proofs.lemmas.Slice.Eq.{bytes_eq-Decides}
 use Rattle.trace_format.specs.Definitions.{Definition}
 use Rattle.trace_command.specs.Requests.{Request}
-use Rattle.trace_history.specs.HistTriggers.{HistTrigger, hist_triggers, is_of, those_of}
-use Rattle.trace_history.specs.Declarations.{IsIndexOf}
-use Rattle.trace_history.specs.Settings.{NumberedEvent, declared_events}
-use Rattle.trace_history.proofs.Events.{index_of_id}
-use Rattle.trace_history.proofs.LegalEvents.{named-is_numbered}
-use Rattle.trace_history.proofs.Members.{IsIn, each-in, filter-in, in-all, in-filter}
-use Rattle.trace_history.proofs.OwnFiles.{IsNamed, all-named}
+use Rattle.tracer_specification.specs.HistTriggers.{HistTrigger, hist_triggers, is_of, those_of}
+use Rattle.tracer_specification.specs.Declarations.{IsIndexOf}
+use Rattle.tracer_specification.specs.Settings.{NumberedEvent, declared_events}
+use Rattle.tracer_specification.proofs.Events.{index_of_id}
+use Rattle.tracer_specification.proofs.LegalEvents.{named-is_numbered}
+use Rattle.tracer_specification.proofs.Members.{IsIn, each-in, filter-in, in-all, in-filter}
+use Rattle.tracer_specification.proofs.OwnFiles.{IsNamed, all-named}
 use Rattle.trace_instance.specs.Changes.{hists_after, hists_changed}
 use Rattle.trace_instance.specs.KeptHists.{attached_as, is_used, kept_hists, says_same, uses_table}
 use Rattle.trace_instance.specs.declared.hists.AttachedHist.{AttachedHist}

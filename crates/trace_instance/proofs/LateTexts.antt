@@ -13,7 +13,7 @@ use Rattle.trace_trigger.specs.declared.fault.TriggerFault.TheVariants as fault
 use Rattle.trace_trigger.specs.declared.trigger.TriggerText.TheVariants as said
 use Rattle.trace_command.specs.Refusals.{refusal_of_trigger}
 use Rattle.trace_command.specs.declared.refusal.Refusal.TheVariants.{Memory}
-use Rattle.trace_history.proofs.SaidHists.{snapshot-no_hist}
+use Rattle.tracer_specification.proofs.SaidHists.{snapshot-no_hist}
 
 -- a fault that is not out of memory becomes no such refusal
 pub other-fault : (faulty : TriggerFault) → faulty ≢ fault.Memory → refusal_of_trigger faulty ≢ Memory

@@ -8,13 +8,13 @@ use Rattle.trace_trigger.specs.FittingSpecs.{is_fitting}
 use Rattle.trace_trigger.specs.HistSpecs.{SpecSeen}
 use Rattle.trace_trigger.proofs.FittingLaws.{fitting_is_transitive}
 use Rattle.trace_command.specs.Requests.{Request}
-use Rattle.trace_history.specs.HistTriggers.{HistTrigger, fits_that, hist_triggers, is_name_of, left_by, named_by, names_table_of, table_or}
-use Rattle.trace_history.specs.Settings.{declared_events}
-use Rattle.trace_history.proofs.EventHists.{tables-apart}
-use Rattle.trace_history.proofs.Members.{IsIn, each-in}
-use Rattle.trace_history.proofs.NamedTables.{AllFit, one-table}
-use Rattle.trace_history.proofs.OwnFiles.{all-named}
-use Rattle.trace_history.proofs.Tables.{AreApart, IsFound, found-in, name-same, none-found}
+use Rattle.tracer_specification.specs.HistTriggers.{HistTrigger, fits_that, hist_triggers, is_name_of, left_by, named_by, names_table_of, table_or}
+use Rattle.tracer_specification.specs.Settings.{declared_events}
+use Rattle.tracer_specification.proofs.EventHists.{tables-apart}
+use Rattle.tracer_specification.proofs.Members.{IsIn, each-in}
+use Rattle.tracer_specification.proofs.NamedTables.{AllFit, one-table}
+use Rattle.tracer_specification.proofs.OwnFiles.{all-named}
+use Rattle.tracer_specification.proofs.Tables.{AreApart, IsFound, found-in, name-same, none-found}
 use Rattle.trace_instance.specs.KeptHists.{attached_as, kept_hists}
 use Rattle.trace_instance.specs.private.Attaching.{AreKept}
 use Rattle.trace_instance.specs.private.SharedTables as sharing

@@ -11,12 +11,12 @@ use Rattle.trace_buffer.specs.Buffers as buffers
 use Rattle.trace_format.specs.Definitions.{Definition}
 use Rattle.trace_command.specs.Requests.{Request, MakeInstance}
 use Rattle.trace_command.specs.declared.command.Config.{Config}
-use Rattle.trace_history.specs.HistTriggers.{HistTrigger, hist_triggers}
-use Rattle.trace_history.specs.Rings.{spare_rings}
-use Rattle.trace_history.specs.Settings.{declared_events, is_enabled, kept_filter}
-use Rattle.trace_history.specs.Triggers.{trigger_of}
-use Rattle.trace_history.proofs.EventLists.{map-constant}
-use Rattle.trace_history.proofs.Sides.{AreMade, rings-made}
+use Rattle.tracer_specification.specs.HistTriggers.{HistTrigger, hist_triggers}
+use Rattle.tracer_specification.specs.Rings.{spare_rings}
+use Rattle.tracer_specification.specs.Settings.{declared_events, is_enabled, kept_filter}
+use Rattle.tracer_specification.specs.Triggers.{trigger_of}
+use Rattle.tracer_specification.proofs.EventLists.{map-constant}
+use Rattle.tracer_specification.proofs.Sides.{AreMade, rings-made}
 use Rattle.trace_snapshot.specs.Sides.{IsNewSide, SpareStandsFor}
 use Rattle.trace_instance.specs.Instances.{HasShape, InstanceSeen, InstanceStandsFor, IsShaped, TablesFit, WasOffered, WereOffered, kept_trigger}
 use Rattle.trace_instance.specs.KeptHists.{TableStandsFor, kept_at, kept_hists}

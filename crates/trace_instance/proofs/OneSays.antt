@@ -6,7 +6,7 @@ use Rattle.std.proofs.lemmas.Option.{same_Some}
 use Rattle.trace_trigger.specs.HistSpecs.{SpecSeen}
 use Rattle.trace_trigger.specs.SameSpecs.{IsSame, is_same}
 use Rattle.trace_trigger.proofs.SameLaws.{same_is_decided}
-use Rattle.trace_history.specs.HistTriggers.{HistTrigger}
+use Rattle.tracer_specification.specs.HistTriggers.{HistTrigger}
 use Rattle.trace_instance.specs.KeptHists.{attached_as, says_same}
 use Rattle.trace_instance.specs.declared.hists.AttachedHist.{AttachedHist}
 

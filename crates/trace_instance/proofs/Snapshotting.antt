@@ -18,13 +18,13 @@ use Rattle.trace_command.specs.declared.file_name.TopFile.TheVariants as top
 use Rattle.trace_command.specs.declared.refusal.Refusal.{Refusal}
 use Rattle.trace_command.specs.declared.refusal.Refusal.TheVariants as refusal
 use Rattle.trace_snapshot.specs.Sides.{SideFamilies}
-use Rattle.trace_history.specs.History.{snapshot_answer, spare_answer}
-use Rattle.trace_history.specs.Rings.{other_rings, rings, rings_after, rings_after_write, spare_after, spare_rings}
-use Rattle.trace_history.specs.Settings.{declared_events, filter_of, is_enabled, is_tracing, kept_filter, overwrites}
-use Rattle.trace_history.specs.Snapshots.{Empties, Frees, Takes, exchanges, has_spare, live_side, snapshot_write, written_snapshot}
-use Rattle.trace_history.specs.Triggers.{has_trigger, trigger_of}
-use Rattle.trace_history.proofs.EventLists.{map-agrees}
-use Rattle.trace_history.proofs.Sides.{rings-exchanged, rings-stay, side-has_all_cpus}
+use Rattle.tracer_specification.specs.History.{snapshot_answer, spare_answer}
+use Rattle.tracer_specification.specs.Rings.{other_rings, rings, rings_after, rings_after_write, spare_after, spare_rings}
+use Rattle.tracer_specification.specs.Settings.{declared_events, filter_of, is_enabled, is_tracing, kept_filter, overwrites}
+use Rattle.tracer_specification.specs.Snapshots.{Empties, Frees, Takes, exchanges, has_spare, live_side, snapshot_write, written_snapshot}
+use Rattle.tracer_specification.specs.Triggers.{has_trigger, trigger_of}
+use Rattle.tracer_specification.proofs.EventLists.{map-agrees}
+use Rattle.tracer_specification.proofs.Sides.{rings-exchanged, rings-stay, side-has_all_cpus}
 use Rattle.trace_instance.specs.Changes.{IsEffect}
 use Rattle.trace_instance.specs.FileAnswers.{IsWriteChange}
 use Rattle.trace_instance.specs.Instances.{InstanceSeen, InstanceStandsFor, IsSpared, kept_as, kept_trigger}

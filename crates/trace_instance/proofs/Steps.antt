@@ -21,17 +21,17 @@ use Rattle.trace_command.specs.declared.file_name.EventFile.TheVariants as per_e
 use Rattle.trace_command.specs.declared.file_name.TopFile.TheVariants as top
 use Rattle.trace_command.specs.declared.refusal.Refusal.{Refusal}
 use Rattle.trace_command.specs.declared.refusal.Refusal.TheVariants.{NoSuchEvent, NoSuchInstance}
-use Rattle.trace_history.specs.History.{answer_with_room, unless_refused}
-use Rattle.trace_history.specs.Settings.{declares, declared_events, event_named, filter_of, is_enabled, is_same, kept_filter, makes, set_by, sets_filter, switches}
-use Rattle.trace_history.specs.Triggers as triggers
-use Rattle.trace_history.specs.Triggers.{sets_trigger, trigger_of}
-use Rattle.trace_history.proofs.Events.{named_in-fewer}
+use Rattle.tracer_specification.specs.History.{answer_with_room, unless_refused}
+use Rattle.tracer_specification.specs.Settings.{declares, declared_events, event_named, filter_of, is_enabled, is_same, kept_filter, makes, set_by, sets_filter, switches}
+use Rattle.tracer_specification.specs.Triggers as triggers
+use Rattle.tracer_specification.specs.Triggers.{sets_trigger, trigger_of}
+use Rattle.tracer_specification.proofs.Events.{named_in-fewer}
 use Rattle.trace_trigger.specs.declared.spec.Action.{Action}
-use Rattle.trace_history.specs.HistTriggers.{HistTrigger, Written, hist_triggers, hists_of}
-use Rattle.trace_history.proofs.EventHists.{hists_of-after, hists_of-made, own_after, tables-made_before}
-use Rattle.trace_history.proofs.Members.{contains-in, each-in}
-use Rattle.trace_history.proofs.Tables.{IsBefore}
-use Rattle.trace_history.proofs.OwnFiles.{own-none, own_written}
+use Rattle.tracer_specification.specs.HistTriggers.{HistTrigger, Written, hist_triggers, hists_of}
+use Rattle.tracer_specification.proofs.EventHists.{hists_of-after, hists_of-made, own_after, tables-made_before}
+use Rattle.tracer_specification.proofs.Members.{contains-in, each-in}
+use Rattle.tracer_specification.proofs.Tables.{IsBefore}
+use Rattle.tracer_specification.proofs.OwnFiles.{own-none, own_written}
 use Rattle.trace_instance.specs.KeptHists.{KeptTable, TableStandsFor, asked_if, attached_as, is_used, kept_at, kept_hists, kept_table, uses_table}
 use Rattle.trace_instance.specs.declared.tables.Table.{Table}
 use Rattle.trace_instance.specs.declared.hists.AttachedHist.{AttachedHist}

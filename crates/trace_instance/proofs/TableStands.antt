@@ -12,11 +12,11 @@ use Rattle.trace_trigger.specs.SameSpecs.{is_passed}
 use Rattle.trace_trigger.specs.declared.spec.Action.{Action}
 use Rattle.trace_trigger.specs.declared.spec.Action.TheVariants.{Attach, Pause, Continue, Clear}
 use Rattle.trace_command.specs.Requests.{Request}
-use Rattle.trace_history.specs.Emissions.{Emitted, emitted}
-use Rattle.trace_history.specs.HistTriggers.{HistTrigger, counted_by, counted_hit, counted_row, empties, hist_triggers, hits_of, is_of, is_pause, is_paused, met_in, paused_after, those_of}
-use Rattle.trace_history.specs.Triggers.{passes}
-use Rattle.trace_history.proofs.OwnFiles.{bytes-differ}
-use Rattle.trace_history.proofs.TableSteps.{unmade}
+use Rattle.tracer_specification.specs.Emissions.{Emitted, emitted}
+use Rattle.tracer_specification.specs.HistTriggers.{HistTrigger, counted_by, counted_hit, counted_row, empties, hist_triggers, hits_of, is_of, is_pause, is_paused, met_in, paused_after, those_of}
+use Rattle.tracer_specification.specs.Triggers.{passes}
+use Rattle.tracer_specification.proofs.OwnFiles.{bytes-differ}
+use Rattle.tracer_specification.proofs.TableSteps.{unmade}
 use Rattle.trace_instance.specs.Changes.{IsAsked, IsMadeFor}
 use Rattle.trace_instance.specs.KeptHists.{AreHit, IsHitIf, KeptTable, TableStandsFor, asked_if, attached_as, kept_at, kept_hists, kept_table, row_counted, rows_counted}
 use Rattle.trace_instance.specs.declared.hists.AttachedHist.{AttachedHist}

@@ -15,17 +15,17 @@ use Rattle.trace_command.specs.declared.command.Reply.{Reply}
 use Rattle.trace_command.specs.declared.file_name.EventFile.TheVariants as per_event
 use Rattle.trace_command.specs.declared.refusal.Refusal.{Refusal}
 use Rattle.trace_snapshot.specs.Sides.{SideFamilies}
-use Rattle.trace_history.specs.Declarations.{IsIndexOf}
-use Rattle.trace_history.specs.History.{named_trigger_answer, trigger_answer}
-use Rattle.trace_history.specs.HistTriggers.{Written, hist_triggers, hists_of}
-use Rattle.trace_history.specs.Rings.{other_rings, rings, rings_after, rings_after_write}
-use Rattle.trace_history.specs.Settings.{NumberedEvent, declared_events, event_named, set_by}
-use Rattle.trace_history.specs.Snapshots.{has_spare, sets_spare, spare_armed}
-use Rattle.trace_history.specs.Triggers.{trigger_of}
-use Rattle.trace_history.proofs.EventHists.{hists_of-after, own_after}
-use Rattle.trace_history.proofs.EventLists.{map-set, named_at}
-use Rattle.trace_history.proofs.OwnFiles.{own-none, own_written}
-use Rattle.trace_history.proofs.Sides.{AreStaying, rings-stay}
+use Rattle.tracer_specification.specs.Declarations.{IsIndexOf}
+use Rattle.tracer_specification.specs.History.{named_trigger_answer, trigger_answer}
+use Rattle.tracer_specification.specs.HistTriggers.{Written, hist_triggers, hists_of}
+use Rattle.tracer_specification.specs.Rings.{other_rings, rings, rings_after, rings_after_write}
+use Rattle.tracer_specification.specs.Settings.{NumberedEvent, declared_events, event_named, set_by}
+use Rattle.tracer_specification.specs.Snapshots.{has_spare, sets_spare, spare_armed}
+use Rattle.tracer_specification.specs.Triggers.{trigger_of}
+use Rattle.tracer_specification.proofs.EventHists.{hists_of-after, own_after}
+use Rattle.tracer_specification.proofs.EventLists.{map-set, named_at}
+use Rattle.tracer_specification.proofs.OwnFiles.{own-none, own_written}
+use Rattle.tracer_specification.proofs.Sides.{AreStaying, rings-stay}
 use Rattle.trace_instance.specs.private.Attaching.{AreKept, IsTriggerChange, IsTriggerEffect, arms, write_of}
 use Rattle.trace_instance.specs.Changes.{IsAsked, IsEffect, asks_triggers, hists_changed, sides_changed, trigger_changed, triggers_after}
 use Rattle.trace_instance.specs.FileAnswers.{IsWriteChange}

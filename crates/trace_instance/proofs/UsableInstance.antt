@@ -10,7 +10,7 @@ use Rattle.trace_format.specs.Definitions.{Definition}
 use Rattle.trace_format.specs.Rows.{row_of}
 use Rattle.trace_command.specs.Requests.{Request, Emission}
 use Rattle.trace_command.specs.declared.command.Config.{Config}
-use Rattle.trace_history.specs.Settings.{NumberedEvent, declared_events, event_named, is_enabled, kept_filter, now_of}
+use Rattle.tracer_specification.specs.Settings.{NumberedEvent, declared_events, event_named, is_enabled, kept_filter, now_of}
 use Rattle.page_ring.specs.Shown.{most_offered}
 use Rattle.trace_instance.specs.Deliveries.{most_requests}
 use Rattle.trace_instance.specs.Instances.{InstanceSeen, InstanceStandsFor, TablesFit, kept_trigger, IsUsableInstance}
@@ -23,18 +23,18 @@ use Rattle.trace_trigger.proofs.FittingLaws.{fitting_specs_of_one_event_read_ali
 use Rattle.trace_hist.specs.Hists.{Seen, counted}
 use Rattle.hist_entries.specs.RowPlaces.{most_rows}
 use Rattle.hist_entries.specs.Hits.{Hit}
-use Rattle.trace_history.specs.Emissions.{Emitted, emitted, emitted_event, emitted_row}
-use Rattle.trace_history.specs.History.{trigger_count}
-use Rattle.trace_history.specs.Pasts.{AreDone}
-use Rattle.trace_history.specs.HistTriggers.{HistTrigger, asked_by, counted_by, empties, hist_triggers, hists_of, hits_of, is_of, is_paused, those_of}
-use Rattle.trace_history.specs.Triggers as triggers
-use Rattle.trace_history.specs.Triggers.{trigger_of}
-use Rattle.trace_history.proofs.SaidHists.{said-spec}
-use Rattle.trace_history.proofs.AttachedHists.{hist_triggers_are_those_attached}
-use Rattle.trace_history.proofs.FewTriggers.{few-triggers}
-use Rattle.trace_history.proofs.Members.{IsIn, each-in, in-contains, in-filter}
-use Rattle.trace_history.proofs.OwnFiles.{IsNamed, all-named}
-use Rattle.trace_history.proofs.TableSteps.{nothing-counted, rows-few}
+use Rattle.tracer_specification.specs.Emissions.{Emitted, emitted, emitted_event, emitted_row}
+use Rattle.tracer_specification.specs.History.{trigger_count}
+use Rattle.tracer_specification.specs.Pasts.{AreDone}
+use Rattle.tracer_specification.specs.HistTriggers.{HistTrigger, asked_by, counted_by, empties, hist_triggers, hists_of, hits_of, is_of, is_paused, those_of}
+use Rattle.tracer_specification.specs.Triggers as triggers
+use Rattle.tracer_specification.specs.Triggers.{trigger_of}
+use Rattle.tracer_specification.proofs.SaidHists.{said-spec}
+use Rattle.tracer_specification.proofs.AttachedHists.{hist_triggers_are_those_attached}
+use Rattle.tracer_specification.proofs.FewTriggers.{few-triggers}
+use Rattle.tracer_specification.proofs.Members.{IsIn, each-in, in-contains, in-filter}
+use Rattle.tracer_specification.proofs.OwnFiles.{IsNamed, all-named}
+use Rattle.tracer_specification.proofs.TableSteps.{nothing-counted, rows-few}
 use Rattle.trace_instance.specs.KeptHists.{HasRoomToCount, KeptTable, KeysAgree, TableStandsFor, attached_as, kept_hists, kept_table, table_numbered}
 use Rattle.trace_instance.specs.declared.hists.AttachedHist.{AttachedHist}
 use Rattle.trace_instance.specs.declared.tables.Table.{Table}

@@ -9,15 +9,15 @@ use Rattle.page_ring.specs.Events.{Event}
 use Rattle.trace_filter.specs.Filters.{Parsed, parsed_of}
 use Rattle.trace_format.specs.Catalogs.{AreEvents}
 use Rattle.trace_format.specs.Definitions.{Definition}
-use Rattle.trace_history.specs.History.{filter_of_all_answer, named_filter_answer, switch_answer, option_answer, tracing_answer}
+use Rattle.tracer_specification.specs.History.{filter_of_all_answer, named_filter_answer, switch_answer, option_answer, tracing_answer}
 use Rattle.trace_command.specs.Paths as paths
 use Rattle.trace_command.specs.Refusals.{IsRefusal}
 use Rattle.trace_command.specs.Requests.{Request}
 use Rattle.trace_command.specs.declared.file_name.CpuFile.TheVariants as per_cpu
 use Rattle.trace_command.specs.declared.file_name.EventFile.TheVariants as per_event
 use Rattle.trace_command.specs.declared.file_name.TopFile.TheVariants as top
-use Rattle.trace_history.specs.Settings.{event_named, declared_events, clears_filter, can_take, sets_filter, switches, written_flag, written_option, written_tracing}
-use Rattle.trace_history.specs.Rings.{rings_after_write}
+use Rattle.tracer_specification.specs.Settings.{event_named, declared_events, clears_filter, can_take, sets_filter, switches, written_flag, written_option, written_tracing}
+use Rattle.tracer_specification.specs.Rings.{rings_after_write}
 use Rattle.trace_command.specs.declared.command.Config.{Config}
 use Rattle.trace_command.specs.declared.command.Reply.TheVariants as reply
 use Rattle.trace_command.specs.declared.refusal.Refusal.{Refusal}
@@ -33,7 +33,7 @@ use Rattle.trace_instance.proofs.Effects.{own_write}
 use Rattle.trace_instance.proofs.Filtering.{all-late, changed-map, cleared-all, no-event-refused}
 use Rattle.trace_instance.proofs.EventReads.{name-at_place}
 use Rattle.trace_instance.proofs.UsableInstance.{usable-stands}
-use Rattle.trace_history.proofs.EventLists.{map-agrees, map-constant, map-set, named_at, one_index}
+use Rattle.tracer_specification.proofs.EventLists.{map-agrees, map-constant, map-set, named_at, one_index}
 
 -- ---- what changes
 

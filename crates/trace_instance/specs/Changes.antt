@@ -13,10 +13,10 @@ use Rattle.trace_command.specs.declared.command.Config.{Config}
 use Rattle.trace_trigger.specs.FittingLaws.{CountsAlike}
 use Rattle.trace_trigger.specs.declared.spec.Action.{Action}
 use Rattle.trace_hist.specs.Hists.{Seen, StandsFor}
-use Rattle.trace_history.specs.HistTriggers.{HistTrigger, empties, hist_triggers, hits_of, is_pause, is_paused, paused_after}
+use Rattle.tracer_specification.specs.HistTriggers.{HistTrigger, empties, hist_triggers, hits_of, is_pause, is_paused, paused_after}
 use Rattle.trace_snapshot.specs.Sides as snapshot
 use Rattle.trace_snapshot.specs.Sides.{SideFamilies, exchanged, spare_cleared, with_spare, without_spare}
-use Rattle.trace_history.specs.Settings.{can_take, declared_events, is_enabled, is_tracing, kept_filter, overwrites}
+use Rattle.tracer_specification.specs.Settings.{can_take, declared_events, is_enabled, is_tracing, kept_filter, overwrites}
 use Rattle.trace_instance.specs.Instances.{InstanceSeen, IsShaped, IsSpared, TablesFit, WereOffered, kept_trigger, side_families}
 use Rattle.trace_instance.specs.KeptHists.{KeptTable, asked_if, is_used, kept_at, kept_hists, kept_table, without_same}
 use Rattle.trace_instance.specs.declared.hists.AttachedHist.{AttachedHist}

@@ -8,9 +8,9 @@ use Rattle.trace_command.specs.Requests.{Request, WriteFile}
 use Rattle.trace_command.specs.declared.command.Config.{Config}
 use Rattle.trace_command.specs.declared.command.Reply.TheVariants.{Done}
 use Rattle.trace_command.specs.declared.refusal.Refusal.{Refusal}
-use Rattle.trace_history.specs.History.{read_answer, write_answer}
-use Rattle.trace_history.specs.Rings.{rings, rings_after_read}
-use Rattle.trace_history.specs.Settings.{declared_events, now_of}
+use Rattle.tracer_specification.specs.History.{read_answer, write_answer}
+use Rattle.tracer_specification.specs.Rings.{rings, rings_after_read}
+use Rattle.tracer_specification.specs.Settings.{declared_events, now_of}
 use Rattle.trace_instance.specs.Instances.{InstanceSeen, InstanceStandsFor}
 use Rattle.trace_instance.specs.KeptHists.{table_numbered}
 use Rattle.trace_instance.specs.declared.hists.AttachedHist.{AttachedHist}

@@ -9,13 +9,13 @@ use Rattle.trace_snapshot.specs.Sides.{SideFamilies, SidesSeen}
 use Rattle.trace_snapshot.specs.Sides as snapshot
 use Rattle.trace_command.specs.Requests.{Request}
 use Rattle.trace_command.specs.declared.command.Config.{Config}
-use Rattle.trace_history.specs.Settings.{declared_events, is_enabled, kept_filter, overwrites, is_tracing}
-use Rattle.trace_history.specs.Rings.{rings, other_rings, spare_rings}
-use Rattle.trace_history.specs.Snapshots.{has_spare}
-use Rattle.trace_history.specs.HistTriggers.{HistTrigger, hist_triggers}
-use Rattle.trace_history.specs.Triggers as triggers
+use Rattle.tracer_specification.specs.Settings.{declared_events, is_enabled, kept_filter, overwrites, is_tracing}
+use Rattle.tracer_specification.specs.Rings.{rings, other_rings, spare_rings}
+use Rattle.tracer_specification.specs.Snapshots.{has_spare}
+use Rattle.tracer_specification.specs.HistTriggers.{HistTrigger, hist_triggers}
+use Rattle.tracer_specification.specs.Triggers as triggers
 use Rattle.trace_trigger.specs.FittingSpecs.{is_fitting}
-use Rattle.trace_history.specs.Triggers.{times_left, trigger_of}
+use Rattle.tracer_specification.specs.Triggers.{times_left, trigger_of}
 use Rattle.trace_instance.specs.declared.hists.AttachedHist.{AttachedHist}
 use Rattle.trace_instance.specs.declared.trigger.Trigger.{Trigger}
 use Rattle.trace_format.specs.Operands.{Emission}

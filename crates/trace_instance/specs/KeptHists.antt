@@ -13,7 +13,7 @@ use Rattle.hist_entries.specs.RowPlaces.{most_rows}
 use Rattle.trace_trigger.specs.SameSpecs.{is_same, is_passed}
 use Rattle.trace_trigger.specs.declared.spec.Action.{Action}
 use Rattle.trace_command.specs.Requests.{Request}
-use Rattle.trace_history.specs.HistTriggers.{HistTrigger, empties, hists_of, hits_of, is_paused, paused_after}
+use Rattle.tracer_specification.specs.HistTriggers.{HistTrigger, empties, hists_of, hits_of, is_paused, paused_after}
 use Rattle.trace_instance.specs.declared.hists.AttachedHist.{AttachedHist}
 use Rattle.trace_instance.specs.declared.tables.Table.{Table}
 

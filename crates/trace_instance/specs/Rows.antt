@@ -3,7 +3,7 @@ use Rattle.std.specs.Prelude.{ℕ, ℤ, Bool, true, false, ◌&&◌, slice_index
 use Rattle.trace_filter.specs.Filters.{Parsed}
 use Rattle.trace_filter.specs.Values.{holds_of}
 use Rattle.trace_format.specs.Cells.{Cells}
-use Rattle.trace_history.specs.Triggers.{is_left}
+use Rattle.tracer_specification.specs.Triggers.{is_left}
 use Rattle.trace_instance.specs.Instances.{InstanceSeen}
 use Rattle.trace_instance.specs.declared.change.Reach.{Reach}
 use Rattle.trace_instance.specs.declared.trigger.Trigger.{Trigger}

@@ -6,9 +6,9 @@ ghost use Rattle.trace_command.specs.Paths as paths;
 ghost use Rattle.trace_command.specs.declared.command.Config.{Config};
 ghost use Rattle.trace_command.specs.declared.file_name.CpuFile.TheVariants as per_cpu;
 ghost use Rattle.trace_command.specs.declared.file_name.TopFile.TheVariants as top;
-ghost use Rattle.trace_history.specs.FileTexts as file_texts;
-ghost use Rattle.trace_history.specs.History as history;
-ghost use Rattle.trace_history.specs.Settings.{declared_events};
+ghost use Rattle.tracer_specification.specs.FileTexts as file_texts;
+ghost use Rattle.tracer_specification.specs.History as history;
+ghost use Rattle.tracer_specification.specs.Settings.{declared_events};
 ghost use Rattle.trace_buffer.specs.Buffers as buffers;
 ghost use Rattle.trace_format.specs.Definitions.{Definition};
 ghost use Rattle.record_text.specs.FormatText as texts;
@@ -144,7 +144,7 @@ fn text_of_event(
 }
 
 // The trace of one CPU or of all.
-#[tactic(auto, unfolding(trace_history::specs::FileTexts::shown_trace))]
+#[tactic(auto, unfolding(tracer_specification::specs::FileTexts::shown_trace))]
 fn trace(alloc: Global, source: FileSource<'_>, cpu: Option<u32>) -> Result<Text, AllocError>
     requires { IfSome cpu (λ cpu. cpu < buffers.cpus source.instance.now.sides.live) }
     ensures { (g : Config) (name : Option (List ℕ)) (past : List Request)
@@ -162,7 +162,7 @@ fn trace(alloc: Global, source: FileSource<'_>, cpu: Option<u32>) -> Result<Text
     Ok(Text::from(out))
 }
 
-#[tactic(auto, unfolding(trace_history::specs::FileTexts::cpu_stats_text))]
+#[tactic(auto, unfolding(tracer_specification::specs::FileTexts::cpu_stats_text))]
 fn stats(alloc: Global, source: FileSource<'_>, cpu: u32) -> Result<Text, AllocError>
     requires { cpu < buffers.cpus source.instance.now.sides.live }
     ensures { (g : Config) (name : Option (List ℕ)) (past : List Request)
@@ -186,7 +186,7 @@ fn format(alloc: Global, catalog: &Catalog, event: usize) -> Result<Text, AllocE
 }
 
 // What the spare side holds.
-#[tactic(auto, unfolding(trace_history::specs::FileTexts::shown_snapshot))]
+#[tactic(auto, unfolding(tracer_specification::specs::FileTexts::shown_snapshot))]
 fn snapshot(alloc: Global, source: FileSource<'_>) -> Result<Text, AllocError>
     ensures { (g : Config) (name : Option (List ℕ)) (past : List Request)
         → IsSource g name past source.entry
@@ -227,7 +227,7 @@ fn histograms(alloc: Global, instance: &Instance, event: usize) -> Result<Text, 
 }
 
 /// The declarations of all events, one on each line.
-#[tactic(auto, unfolding(trace_history::specs::FileTexts::declarations_text))]
+#[tactic(auto, unfolding(tracer_specification::specs::FileTexts::declarations_text))]
 pub fn declarations(alloc: Global, catalog: &Catalog) -> Result<Text, AllocError>
     requires few { length catalog.now ≤ 64 }
     ensures { (past : List Request) → catalog.now ≡ declared_events past
@@ -240,7 +240,7 @@ pub fn declarations(alloc: Global, catalog: &Catalog) -> Result<Text, AllocError
 
 // A read of the pipe of all CPUs, up to a limit. The string is built before anything is consumed. The records are looked for once: the change only
 // says how many of each CPU they are.
-#[tactic(auto, unfolding(trace_history::specs::FileTexts::shown_pipe))]
+#[tactic(auto, unfolding(tracer_specification::specs::FileTexts::shown_pipe))]
 fn read_pipe(alloc: Global, source: FileSource<'_>, limit: Option<u64>) -> Result<Shown, Refusal>
     ensures { (g : Config) (name : Option (List ℕ)) (past : List Request)
         → IsSource g name past source.entry → IsRead g name past limit (paths.OfInstance top.TracePipe) result }
@@ -262,7 +262,7 @@ fn read_pipe(alloc: Global, source: FileSource<'_>, limit: Option<u64>) -> Resul
 }
 
 // Likewise for a CPU's pipe.
-#[tactic(auto, unfolding(trace_history::specs::FileTexts::shown_cpu_pipe))]
+#[tactic(auto, unfolding(tracer_specification::specs::FileTexts::shown_cpu_pipe))]
 fn read_cpu_pipe(
     alloc: Global,
     source: FileSource<'_>,

@@ -2,7 +2,7 @@
 
 ghost use Rattle.std.specs.Prelude.{◌≡◌, ◌≤◌, ◌++◌, length, option_copied, IfOk, OnOk};
 ghost use Rattle.std.specs.List.{flat_map};
-ghost use Rattle.trace_history.specs.FileTexts as file_texts;
+ghost use Rattle.tracer_specification.specs.FileTexts as file_texts;
 ghost use Rattle.record_text.specs.DeclarationText as texts;
 ghost use Rattle.trace_instance.specs.private.Commands.{shown_filter};
 
@@ -14,7 +14,7 @@ use trace_format::Catalog;
 use trace_lex::Text;
 
 /// The text of a switch.
-#[tactic(auto, unfolding(trace_history::specs::FileTexts::flag_text))]
+#[tactic(auto, unfolding(tracer_specification::specs::FileTexts::flag_text))]
 pub(crate) fn flag_text(alloc: Global, flag: bool) -> Result<Text, AllocError>
     ensures { IfOk result (λ text. text ≡ file_texts.flag_text flag) }
 {
@@ -26,7 +26,7 @@ pub(crate) fn flag_text(alloc: Global, flag: bool) -> Result<Text, AllocError>
 }
 
 /// The word of an option.
-#[tactic(auto, unfolding(trace_history::specs::FileTexts::option_text))]
+#[tactic(auto, unfolding(tracer_specification::specs::FileTexts::option_text))]
 pub(crate) fn option_text(alloc: Global, flag: bool) -> Result<Text, AllocError>
     ensures { IfOk result (λ text. text ≡ file_texts.option_text flag) }
 {
@@ -38,7 +38,7 @@ pub(crate) fn option_text(alloc: Global, flag: bool) -> Result<Text, AllocError>
 }
 
 /// The text of several switches taken together.
-#[tactic(auto, unfolding(trace_history::specs::FileTexts::mixture_text))]
+#[tactic(auto, unfolding(tracer_specification::specs::FileTexts::mixture_text))]
 pub(crate) fn mixture_text(alloc: Global, none_on: bool, some_off: bool) -> Result<Text, AllocError>
     ensures { IfOk result (λ text. text ≡ file_texts.mixture_text none_on some_off) }
 {

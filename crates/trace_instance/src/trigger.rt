@@ -2,7 +2,7 @@
 
 ghost use Rattle.std.specs.Prelude.{◌≡◌, Some, option_copied};
 ghost use Rattle.std.specs.Option.{option_and_then};
-ghost use Rattle.trace_history.specs.Triggers as triggers;
+ghost use Rattle.tracer_specification.specs.Triggers as triggers;
 ghost use Rattle.trace_instance.specs.Rows.{kept_acts, kept_holds};
 ghost use Rattle.trace_instance.specs.Deliveries.{acted_once};
 ghost use Rattle.trace_instance.specs.private.Commands.{shown_kept, shown_of};

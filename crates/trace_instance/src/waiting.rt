@@ -5,7 +5,7 @@ ghost use Rattle.trace_buffer.specs.Buffers as buffers;
 ghost use Rattle.trace_command.specs.Requests.{Request};
 ghost use Rattle.trace_command.specs.declared.command.Config.{Config};
 ghost use Rattle.trace_format.specs.Definitions.{Definition};
-ghost use Rattle.trace_history.specs.Waiting.{waits_in};
+ghost use Rattle.tracer_specification.specs.Waiting.{waits_in};
 ghost use Rattle.trace_instance.specs.Files.{HasCpu, file_at};
 ghost use Rattle.trace_instance.specs.Instances.{InstanceStandsFor};
 

@@ -9,10 +9,10 @@ ghost use Rattle.trace_command.specs.Requests.{Request};
 ghost use Rattle.trace_command.specs.declared.command.Config.{Config};
 ghost use Rattle.trace_command.specs.declared.command.Reply.TheVariants.{Done};
 ghost use Rattle.trace_command.specs.declared.file_name.TopFile.TheVariants as top;
-ghost use Rattle.trace_history.specs.History as history;
-ghost use Rattle.trace_history.specs.LateMemory.{WriteTakesMemoryLate};
-ghost use Rattle.trace_history.specs.Settings as settings;
-ghost use Rattle.trace_history.specs.Settings.{declared_events};
+ghost use Rattle.tracer_specification.specs.History as history;
+ghost use Rattle.tracer_specification.specs.LateMemory.{WriteTakesMemoryLate};
+ghost use Rattle.tracer_specification.specs.Settings as settings;
+ghost use Rattle.tracer_specification.specs.Settings.{declared_events};
 ghost use Rattle.trace_instance.specs.Changes.{change_of, is_set};
 ghost use Rattle.trace_instance.specs.FileAnswers.{IsWriteChange};
 ghost use Rattle.trace_instance.specs.private.Commands.{IsWrittenFilter};
@@ -166,7 +166,7 @@ fn change_of_event(
 
 // The change that a number written to `snapshot` makes (ftrace.rst, "Snapshot"). The spare side is not freed while any event has a snapshot trigger,
 // which needs it.
-#[tactic(auto, unfolding(trace_history::specs::History::snapshot_answer, trace_history::specs::Snapshots::written_snapshot))]
+#[tactic(auto, unfolding(tracer_specification::specs::History::snapshot_answer, tracer_specification::specs::Snapshots::written_snapshot))]
 fn written_snapshot(instance: &Instance, text: &[u8]) -> Result<InstanceChange, Refusal>
     ensures change { (g : Config) (name : Option (List ℕ)) (past : List Request) (append : Bool) → InstanceStandsFor g name past instance.now
         → IsWriteChange g name past append text.now (paths.OfInstance top.Snapshot) result }
@@ -182,7 +182,7 @@ fn written_snapshot(instance: &Instance, text: &[u8]) -> Result<InstanceChange, 
 }
 
 /// The setting of a switch that a string writes: 0 or 1.
-#[tactic(auto, unfolding(trace_history::specs::Settings::written_flag))]
+#[tactic(auto, unfolding(tracer_specification::specs::Settings::written_flag))]
 fn written_flag(text: &[u8]) -> Option<bool>
     ensures { result ≡ settings.written_flag text.now }
 {
@@ -194,7 +194,7 @@ fn written_flag(text: &[u8]) -> Option<bool>
 }
 
 // The setting of `tracing_on` that a string writes: any number but 0 turns recording on.
-#[tactic(auto, unfolding(trace_history::specs::Settings::written_tracing))]
+#[tactic(auto, unfolding(tracer_specification::specs::Settings::written_tracing))]
 fn written_tracing(text: &[u8]) -> Option<bool>
     ensures { result ≡ settings.written_tracing text.now }
 {
@@ -203,7 +203,7 @@ fn written_tracing(text: &[u8]) -> Option<bool>
 }
 
 // The setting of an option that its word writes.
-#[tactic(auto, unfolding(trace_history::specs::Settings::written_option))]
+#[tactic(auto, unfolding(tracer_specification::specs::Settings::written_option))]
 fn written_option(text: &[u8]) -> Option<bool>
     ensures { result ≡ settings.written_option text.now }
 {
@@ -217,7 +217,7 @@ fn written_option(text: &[u8]) -> Option<bool>
 }
 
 // Whether a string written to a filter clears it.
-#[tactic(auto, unfolding(trace_history::specs::Settings::clears_filter))]
+#[tactic(auto, unfolding(tracer_specification::specs::Settings::clears_filter))]
 fn clears_filter(text: &[u8]) -> bool
     ensures { result ≡ settings.clears_filter text.now }
 {

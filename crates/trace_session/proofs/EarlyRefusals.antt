@@ -9,8 +9,8 @@ use Rattle.trace_command.specs.declared.command.Entry.{Entry}
 use Rattle.trace_command.specs.declared.command.Reply.{Reply}
 use Rattle.trace_command.specs.declared.refusal.Refusal.{Refusal}
 use Rattle.trace_command.specs.declared.refusal.Refusal.TheVariants.{Memory, Worn}
-use Rattle.trace_history.specs.History.{answer_to}
-use Rattle.trace_history.proofs.Unworn.{memory_is_no_answer}
+use Rattle.tracer_specification.specs.History.{answer_to}
+use Rattle.tracer_specification.proofs.Unworn.{memory_is_no_answer}
 use Rattle.trace_session.specs.Passes.{IsSessionPass, IsRefusedEarly}
 use Rattle.shared_book.specs.Asks.{IsRefused}
 

@@ -8,7 +8,7 @@ use Rattle.trace_command.specs.declared.command.Entry.{Entry}
 use Rattle.trace_command.specs.declared.command.Reply.{Reply}
 use Rattle.trace_command.specs.declared.refusal.Refusal.{Refusal}
 use Rattle.trace_command.specs.declared.refusal.Refusal.TheVariants as refusals
-use Rattle.trace_history.specs.History.{answer_to}
+use Rattle.tracer_specification.specs.History.{answer_to}
 use Rattle.trace_script.specs.Lines.{line_of}
 use Rattle.trace_script.specs.declared.line.Line.TheVariants.{Ask}
 use Rattle.trace_script.specs.declared.outcome.Outcome.{Outcome}

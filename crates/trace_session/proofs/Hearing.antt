@@ -5,8 +5,8 @@ use Rattle.script_reader.specs.PartReads.{IsLineAt}
 use Rattle.trace_script.specs.declared.outcome.Outcome.{Outcome}
 use Rattle.trace_session.specs.Heard.{Heard, Hears, heard_of, line_at}
 use Rattle.trace_session.specs.private.HeardItems.{AreInOrder, heard_each}
-use Rattle.thread_output.specs.ThreadTexts.{told_if}
-use Rattle.thread_output.specs.declared.outcome_at.OutcomeAt.{OutcomeAt}
+use Rattle.parallel_output.specs.ThreadTexts.{told_if}
+use Rattle.parallel_output.specs.declared.outcome_at.OutcomeAt.{OutcomeAt}
 
 pub Hears_nothing : (a : Option (List Heard)) → Hears a a []
 Hears_nothing None = tt

@@ -19,7 +19,7 @@ use Rattle.trace_script.specs.declared.line.Line.{Line}
 use Rattle.trace_script.specs.declared.line.Line.TheVariants.{Blank, Ask, Parallel, Thread, End}
 use Rattle.trace_script.specs.declared.outcome.Outcome.{Outcome}
 use Rattle.trace_script.specs.declared.outcome.Outcome.TheVariants as outcomes
-use Rattle.thread_output.specs.declared.outcome_at.OutcomeAt.{OutcomeAt}
+use Rattle.parallel_output.specs.declared.outcome_at.OutcomeAt.{OutcomeAt}
 use Rattle.trace_session.specs.Devices.{Passes}
 use Rattle.trace_session.specs.Fronts.{HasGiven}
 use Rattle.trace_session.specs.Heard.{Heard, Hears, heard_of, line_at, heard_lines, numbers_in, numbers_told, IsWrittenFirst, HoldsTexts, IsHeard, HearsAll}

@@ -5,9 +5,9 @@ use Rattle.std.proofs.lemmas.List.Elements.{All-head, All-tail}
 use Rattle.std.specs.declared.alloc.Global.{Global}
 use Rattle.shared_book.specs.Bases.{numbers_of}
 use Rattle.ticket_lock.specs.declared.views.View.{View}
-use Rattle.trace_history.specs.Blocks.{Trail, IsBlock, IsUnworn, StandsIn}
-use Rattle.trace_history.specs.History.{IsLegal}
-use Rattle.trace_history.specs.Trails.{IsTrail}
+use Rattle.tracer_specification.specs.Blocks.{Trail, IsBlock, IsUnworn, StandsIn}
+use Rattle.tracer_specification.specs.History.{IsLegal}
+use Rattle.tracer_specification.specs.Trails.{IsTrail}
 use Rattle.trace_command.specs.declared.command.Command.{Command}
 use Rattle.trace_command.specs.declared.command.Config.{Config}
 use Rattle.trace_command.specs.declared.command.Entry.{Entry}
@@ -16,11 +16,11 @@ use Rattle.trace_command.specs.declared.refusal.Refusal.{Refusal}
 use Rattle.script_reader.specs.declared.part.Numbered.{Numbered}
 use Rattle.trace_session.specs.Parts.{Given, PartMayGive, outcomes_in}
 use Rattle.trace_session.specs.declared.part_line.AskedLine.{AskedLine}
-use Rattle.thread_output.specs.ThreadTexts.{told_if}
+use Rattle.parallel_output.specs.ThreadTexts.{told_if}
 use Rattle.trace_session.specs.PartTexts.{asked_command, numbered_threads, outcomes_of_threads, replies_in, AreNumbered, AreOutcomesOf}
 use Rattle.trace_session.specs.Passes.{IsSessionPass, progress_of}
 use Rattle.trace_session.specs.Sessions.{status_of}
-use Rattle.thread_output.specs.declared.outcome_at.OutcomeAt.{OutcomeAt}
+use Rattle.parallel_output.specs.declared.outcome_at.OutcomeAt.{OutcomeAt}
 use Rattle.trace_session.specs.declared.status.Status.{Status}
 use Rattle.trace_session.proofs.PartWriting.{numbered_is, are_outcomes}
 use Rattle.trace_workers.specs.BlockRuns.{trails_of, commands_of as commands_asked, IsAfterBlock}

@@ -6,16 +6,16 @@ use Rattle.std.proofs.lemmas.List.Elements.{All-cons}
 use Rattle.std.proofs.lemmas.List.Folds.{list_any-append}
 use Rattle.std.specs.List.{list_any}
 use Rattle.std.specs.declared.alloc.Global.{Global}
-use Rattle.trace_history.specs.Blocks.{IsUnworn}
+use Rattle.tracer_specification.specs.Blocks.{IsUnworn}
 use Rattle.script_reader.specs.declared.part.Numbered.{Numbered}
 use Rattle.trace_script.specs.Rendering.{rendered}
 use Rattle.trace_script.specs.declared.outcome.Outcome.{Outcome}
-use Rattle.thread_output.proofs.ThreadWriting.{told_append}
-use Rattle.thread_output.specs.ThreadLines.{outcome_of, thread_line}
-use Rattle.thread_output.specs.ThreadTexts.{numbered_text, numbered_outcomes, told_if}
+use Rattle.parallel_output.proofs.ThreadWriting.{told_append}
+use Rattle.parallel_output.specs.ThreadLines.{outcome_of, thread_line}
+use Rattle.parallel_output.specs.ThreadTexts.{numbered_text, numbered_outcomes, told_if}
 use Rattle.trace_session.specs.Parts.{outcomes_in, replies_text, threads_text}
 use Rattle.trace_session.specs.Sessions.{is_fault, is_refusal, status_of}
-use Rattle.thread_output.specs.declared.outcome_at.OutcomeAt.{OutcomeAt}
+use Rattle.parallel_output.specs.declared.outcome_at.OutcomeAt.{OutcomeAt}
 use Rattle.trace_session.specs.declared.status.Status.{Status}
 use Rattle.trace_session.specs.declared.status.Status.TheVariants as statuses
 use Rattle.trace_session.specs.PartTexts.{numbered_threads, outcomes_of_threads, replies_in, items_in, AreNumbered, AreOutcomesOf}

@@ -4,9 +4,9 @@ use Rattle.std.specs.declared.alloc.Global.{Global}
 use Rattle.trace_command.specs.declared.command.Reply.{Reply}
 use Rattle.trace_command.specs.declared.refusal.Refusal.{Refusal}
 use Rattle.script_reader.specs.declared.part.Numbered.{Numbered}
-use Rattle.thread_output.specs.ThreadLines.{thread_line}
-use Rattle.thread_output.specs.ThreadTexts.{numbered_text, numbered_outcomes}
-use Rattle.thread_output.specs.declared.outcome_at.OutcomeAt.{OutcomeAt}
+use Rattle.parallel_output.specs.ThreadLines.{thread_line}
+use Rattle.parallel_output.specs.ThreadTexts.{numbered_text, numbered_outcomes}
+use Rattle.parallel_output.specs.declared.outcome_at.OutcomeAt.{OutcomeAt}
 use Rattle.trace_script.specs.declared.outcome.Outcome.{Outcome}
 use Rattle.trace_command.specs.declared.command.Command.{Command}
 use Rattle.trace_session.specs.declared.part_line.AskedLine.{AskedLine}

@@ -2,14 +2,14 @@
 -- may have several lawful sessions. They are told by histories alone.
 use Rattle.std.specs.Prelude.{◌≡◌, ℕ, ◌+◌, ◌≤◌, ◌<◌, Bool, true, false, List, [], ◌∷◌, ◌++◌, map, flat_map, take, All, Option, Some, Result}
 use Rattle.std.specs.List.{list_any}
-use Rattle.trace_history.specs.Blocks.{Trail, IsBlock, IsUnworn}
+use Rattle.tracer_specification.specs.Blocks.{Trail, IsBlock, IsUnworn}
 use Rattle.trace_command.specs.declared.command.Config.{Config}
 use Rattle.trace_command.specs.declared.command.Entry.{Entry}
 use Rattle.trace_command.specs.declared.command.Reply.{Reply}
 use Rattle.trace_command.specs.declared.refusal.Refusal.{Refusal}
 use Rattle.script_reader.specs.Items.{Item, Single, Threads, Faulty, items_of}
 use Rattle.script_reader.specs.declared.part.Numbered.{Numbered}
-use Rattle.thread_output.specs.ThreadLines.{outcome_of, thread_line}
+use Rattle.parallel_output.specs.ThreadLines.{outcome_of, thread_line}
 use Rattle.trace_script.specs.Rendering.{rendered}
 use Rattle.trace_script.specs.declared.outcome.Outcome.{Outcome}
 use Rattle.trace_script.specs.declared.outcome.Outcome.TheVariants as outcomes

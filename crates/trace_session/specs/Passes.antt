@@ -8,8 +8,8 @@ use Rattle.trace_command.specs.Requests.{request_of}
 use Rattle.trace_command.specs.declared.command.Command.{Command}
 use Rattle.trace_command.specs.declared.command.Config.{Config}
 use Rattle.trace_command.specs.declared.command.Entry.{Entry}
-use Rattle.trace_history.specs.History.{IsLegal, answer_to}
-use Rattle.trace_history.specs.LateMemory.{TakesMemoryLate}
+use Rattle.tracer_specification.specs.History.{IsLegal, answer_to}
+use Rattle.tracer_specification.specs.LateMemory.{TakesMemoryLate}
 use Rattle.trace_session.specs.Sessions.{Progress, so_far}
 
 -- how far the session has come. Its lock's tickets count from 0, so as many were drawn as commands were asked

@@ -6,11 +6,11 @@ ghost use Rattle.trace_command.specs.declared.command.Config.{Config};
 ghost use Rattle.script_reader.specs.PartReads.{commands_in};
 ghost use Rattle.trace_session.specs.Gated.{commands_asked};
 ghost use Rattle.trace_session.specs.Parts.{Given, PartMayGive};
-ghost use Rattle.thread_output.specs.ThreadTexts.{told_if};
+ghost use Rattle.parallel_output.specs.ThreadTexts.{told_if};
 ghost use Rattle.trace_session.specs.PartTexts.{AreOutcomesOf};
 ghost use Rattle.trace_session.specs.Passes.{IsSessionPass, progress_of};
 ghost use Rattle.trace_session.specs.Sessions.{status_of};
-ghost use Rattle.thread_output.specs.declared.outcome_at.OutcomeAt.{OutcomeAt};
+ghost use Rattle.parallel_output.specs.declared.outcome_at.OutcomeAt.{OutcomeAt};
 ghost use Rattle.trace_workers.specs.Gates.{LetsAllPass, StopsOne};
 
 use crate::environment::Environment;

@@ -2,16 +2,16 @@
 //! leaves half a part written.
 
 ghost use Rattle.std.specs.Prelude.{◌≡◌, if◌then◌else◌, All, IfOk, OnOk, IsErrOf};
-ghost use Rattle.trace_history.specs.Blocks.{IsUnworn};
-ghost use Rattle.thread_output.specs.ThreadTexts.{told_if};
+ghost use Rattle.tracer_specification.specs.Blocks.{IsUnworn};
+ghost use Rattle.parallel_output.specs.ThreadTexts.{told_if};
 ghost use Rattle.trace_session.specs.Parts.{outcomes_in};
 ghost use Rattle.trace_session.specs.PartTexts.{numbered_threads, outcomes_of_threads, replies_in, items_in, AreNumbered};
 ghost use Rattle.trace_session.specs.Sessions.{status_of};
 
 use crate::status::Status;
+use parallel_output::{OutcomeAt, Transcript};
 use script_reader::Stop;
 use std::alloc::Global;
-use thread_output::{OutcomeAt, Transcript};
 use trace_workers::Part;
 
 /// The output of a part, the status of its commands, and the outcome of each of them, in the order of their lines, if somebody is told.

@@ -19,9 +19,9 @@ use crate::output::write_outcome;
 use crate::part_text::PartOutput;
 use crate::replies::Replies;
 use crate::status::Status;
+use parallel_output::OutcomeAt;
 use script_reader::{LinesFrom, Stop};
 use std::alloc::Global;
-use thread_output::OutcomeAt;
 use trace_command::{Refusal, Reply};
 use trace_script::Outcome;
 

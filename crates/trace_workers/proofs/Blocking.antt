@@ -9,8 +9,8 @@ use Rattle.std.specs.declared.alloc.Global.{Global}
 use Rattle.ticket_lock.specs.Moves.{middle_of}
 use Rattle.ticket_lock.specs.Views.{HasAllNames}
 use Rattle.ticket_lock.specs.declared.views.View.{View}
-use Rattle.trace_history.specs.History.{IsLegal}
-use Rattle.trace_history.specs.Blocks.{Trail, StandsIn, IsUnworn}
+use Rattle.tracer_specification.specs.History.{IsLegal}
+use Rattle.tracer_specification.specs.Blocks.{Trail, StandsIn, IsUnworn}
 use Rattle.trace_workers.specs.BlockRuns.{trails_of, commands_of, Begins, IsAfterBlock}
 use Rattle.trace_workers.specs.Ends.{EndAs, told_fault, reported}
 use Rattle.trace_workers.specs.Gates.{HasReply, LetsBegunPass}

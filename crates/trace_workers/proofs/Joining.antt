@@ -8,14 +8,14 @@ use Rattle.ticket_lock.specs.declared.views.View.{View}
 use Rattle.ticket_lock.specs.Entries.{longer_of}
 use Rattle.ticket_lock.specs.Moves.{middle_of}
 use Rattle.ticket_lock.specs.Calls.{AreHalves, IsMet}
-use Rattle.trace_history.specs.History.{IsLegal}
-use Rattle.trace_history.specs.Blocks.{Trail, StandsIn, IsUnworn}
+use Rattle.tracer_specification.specs.History.{IsLegal}
+use Rattle.tracer_specification.specs.Blocks.{Trail, StandsIn, IsUnworn}
 use Rattle.shared_book.specs.Asks.{IsAhead}
 use Rattle.trace_workers.specs.PartRuns.{IsNameOf, HasRun}
 use Rattle.trace_command.specs.declared.command.Config.{Config}
 use Rattle.trace_command.specs.declared.command.Entry.{Entry}
 use Rattle.shared_book.proofs.Asking.{ahead_of}
-use Rattle.trace_history.proofs.Trailing.{trail-grows}
+use Rattle.tracer_specification.proofs.Trailing.{trail-grows}
 use Rattle.trace_workers.proofs.Working.{none_under, without_name, only, any_append, of_any}
 
 -- the middle is between the ends

@@ -6,10 +6,10 @@ use Rattle.std.proofs.lemmas.List.Elements.{All-append, All-nil, All-cons, All-h
 use Rattle.ticket_lock.specs.declared.views.View.{View}
 use Rattle.ticket_lock.specs.Entries.{is_under, entries_under}
 use Rattle.ticket_lock.specs.Moves.{after_look}
-use Rattle.trace_history.specs.History.{IsLegal}
+use Rattle.tracer_specification.specs.History.{IsLegal}
 use Rattle.shared_book.specs.Bases.{numbers_of}
-use Rattle.trace_history.specs.Trails.{IsTrail, IsWithout, IsRefusedAfter}
-use Rattle.trace_history.specs.Blocks.{Trail, StandsIn, IsUnworn}
+use Rattle.tracer_specification.specs.Trails.{IsTrail, IsWithout, IsRefusedAfter}
+use Rattle.tracer_specification.specs.Blocks.{Trail, StandsIn, IsUnworn}
 use Rattle.shared_book.specs.Asks.{GoesOn, IsDone, IsRefused, IsUndone, AreOthers}
 use Rattle.trace_workers.specs.PartRuns.{IsNameOf, HasRun, begun_trail, HasAsked}
 use Rattle.trace_command.specs.declared.command.Command.{Command}
@@ -20,7 +20,7 @@ use Rattle.trace_command.specs.declared.refusal.Refusal.{Refusal}
 use Rattle.trace_command.specs.declared.refusal.Refusal.TheVariants as Refusals
 use Rattle.trace_command.specs.declared.refusal.Refusal.TheVariants.{Worn}
 use Rattle.trace_workers.specs.declared.fault.BlockFault.{BlockFault}
-use Rattle.trace_history.proofs.Trailing.{trail-append, trail-done, trail-refused}
+use Rattle.tracer_specification.proofs.Trailing.{trail-append, trail-done, trail-refused}
 
 abbrev Answer : Type 0
 Answer = Result Reply Refusal

@@ -3,8 +3,8 @@ use Rattle.std.specs.Prelude.{◌≡◌, ◌≢◌, ◌≤◌, ◌^◌, Vec, Lis
 use Rattle.std.specs.declared.alloc.Global.{Global}
 use Rattle.ticket_lock.specs.Views.{HasAllNames}
 use Rattle.ticket_lock.specs.declared.views.View.{View}
-use Rattle.trace_history.specs.History.{IsLegal}
-use Rattle.trace_history.specs.Blocks.{Trail, StandsIn, IsUnworn}
+use Rattle.tracer_specification.specs.History.{IsLegal}
+use Rattle.tracer_specification.specs.Blocks.{Trail, StandsIn, IsUnworn}
 use Rattle.shared_book.specs.Bases.{numbers_of}
 use Rattle.shared_book.specs.Asks.{IsAhead}
 use Rattle.trace_workers.specs.declared.part.Part.{Part}

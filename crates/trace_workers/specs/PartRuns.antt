@@ -2,8 +2,8 @@
 -- are how the promise of a block is put together, first from the calls of one worker, and then from the parts, where their passes are joined.
 use Rattle.std.specs.Prelude.{◌≡◌, ◌≢◌, ℕ, ◌+◌, ◌≤◌, ◌<◌, ◌^◌, ◌⊎◌, Bool, true, false, List, [], ◌∷◌, ◌++◌, take, length, All, Any, AllPairs, Result, Option, None, Some}
 use Rattle.ticket_lock.specs.declared.views.View.{View}
-use Rattle.trace_history.specs.History.{IsLegal}
-use Rattle.trace_history.specs.Blocks.{Trail, StandsIn, IsUnworn}
+use Rattle.tracer_specification.specs.History.{IsLegal}
+use Rattle.tracer_specification.specs.Blocks.{Trail, StandsIn, IsUnworn}
 use Rattle.shared_book.specs.Bases.{numbers_of}
 use Rattle.shared_book.specs.Asks.{GoesOn}
 use Rattle.trace_workers.specs.Ends.{StopsHere, IsShort}

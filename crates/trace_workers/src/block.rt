@@ -15,7 +15,7 @@ ghost use Rattle.std.specs.Prelude.{◌≡◌, ◌≢◌, ◌+◌, ◌-◌, ◌<
 ghost use Rattle.std.specs.List.{AllZip};
 ghost use Rattle.ticket_lock.specs.Calls.{view_of, IsOf};
 ghost use Rattle.ticket_lock.specs.Views.{HasAllNames};
-ghost use Rattle.trace_history.specs.Blocks.{Trail};
+ghost use Rattle.tracer_specification.specs.Blocks.{Trail};
 ghost use Rattle.trace_workers.specs.BlockRuns.{trails_of, commands_of, Begins, IsAfterBlock};
 ghost use Rattle.trace_workers.specs.Ends.{EndAs, reported};
 ghost use Rattle.trace_workers.specs.Gates.{LetsAllPass, LetsBegunPass, StopsOne};

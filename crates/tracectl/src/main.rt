@@ -9,10 +9,10 @@ mod stop;
 
 ghost use Rattle.trace_command.specs.Configs.{IsInRange};
 
-use command_line::{Notes, Script, Stop, Words, words_of};
 use drawn::Drawn;
 use explained::Explained;
 use listed::Listed;
+use program_arguments::{Notes, Script, Stop, Words, words_of};
 use std::fs::File;
 use std::io::Read;
 use std::process::ExitCode;

@@ -1,5 +1,5 @@
 //! What is told where the program ends before its script does.
-use command_line::Stop;
+use program_arguments::Stop;
 use std::process::ExitCode;
 use trace_session::Status;
 

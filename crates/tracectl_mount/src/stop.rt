@@ -1,8 +1,8 @@
 //! What ends the program, what is told then, and the exit status.
 
-use command_line::Stop as Early;
 use fuse_serve::Fault;
 use mount_service::Failure;
+use program_arguments::Stop as Early;
 use std::process::ExitCode;
 
 /// Why there was no service, or what stopped it.

@@ -5,7 +5,7 @@ ghost use Rattle.std.specs.Prelude.{◌≡◌, ◌^◌};
 use crate::help::{ABOUT, MORE, USAGE};
 use crate::stop::Stop;
 use clap::{Arg, ArgMatches, Error};
-use command_line::{Program, add_config, add_number, config_of, number_of, told};
+use program_arguments::{Program, add_config, add_number, config_of, number_of, told};
 use std::alloc::{AllocError, Global};
 use trace_command::Config;
 

@@ -15,9 +15,9 @@ use Rattle.trace_command.specs.declared.command.Config.{Config}
 use Rattle.trace_command.specs.declared.command.Reply.{Reply}
 use Rattle.trace_command.specs.declared.command.Reply.TheVariants.{Done, Text}
 use Rattle.trace_command.specs.declared.refusal.Refusal.{Refusal}
-use Rattle.trace_history.specs.FileTexts.{declarations_text}
-use Rattle.trace_history.specs.History.{added_answer, answer_with_room, declaration_answer, file_answer, instance_answer, missing, read_answer, read_declaration_answer, write_answer}
-use Rattle.trace_history.specs.Settings.{declared_events, instance_names, is_there, is_same}
+use Rattle.tracer_specification.specs.FileTexts.{declarations_text}
+use Rattle.tracer_specification.specs.History.{added_answer, answer_with_room, declaration_answer, file_answer, instance_answer, missing, read_answer, read_declaration_answer, write_answer}
+use Rattle.tracer_specification.specs.Settings.{declared_events, instance_names, is_there, is_same}
 use Rattle.trace_instance.specs.Changes.{IsEffect}
 use Rattle.trace_instance.specs.FileAnswers.{IsRead, IsReadable, IsSource, IsWriteChange}
 use Rattle.trace_instance.specs.Files.{IsThere, file_at}

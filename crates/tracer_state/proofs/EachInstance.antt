@@ -6,8 +6,8 @@ use Rattle.std.proofs.lemmas.Map.Keys.{IsDistinct-head, IsDistinct-tail, IsDisti
 use Rattle.std.proofs.lemmas.Slice.Eq.{bytes_eq-Decides}
 use Rattle.std.specs.List.{AllByRecursion, IsDistinct, filter}
 use Rattle.std.specs.Str.{bytes_eq}
-use Rattle.trace_history.proofs.OwnFiles.{bytes-differ}
-use Rattle.trace_history.specs.Settings.{is_same, is_born}
+use Rattle.tracer_specification.proofs.OwnFiles.{bytes-differ}
+use Rattle.tracer_specification.specs.Settings.{is_same, is_born}
 use Rattle.trace_instance.specs.Instances.{InstanceSeen}
 use Rattle.tracer_state.specs.States.{names_of}
 use Rattle.tracer_state.specs.declared.state.Named.{Named}

@@ -14,13 +14,13 @@ use Rattle.trace_command.specs.Refusals.{IsFoundEarly}
 use Rattle.trace_command.specs.Requests.{Request, Emission}
 use Rattle.trace_command.specs.declared.command.Config.{Config}
 use Rattle.trace_command.specs.declared.command.Reply.TheVariants as reply
-use Rattle.trace_history.specs.Declarations.{IsFit, IsIndexOf}
-use Rattle.trace_history.specs.Settings.{NumberedEvent, declared_events, event_named, event_named_in, filter_of, is_enabled, kept_filter, now_of}
-use Rattle.trace_history.specs.Emissions.{Emitted, filter_holds, is_recorded}
-use Rattle.trace_history.specs.History.{emission_answer, row_answer}
-use Rattle.trace_history.specs.Snapshots.{is_exchanged_by}
-use Rattle.trace_history.specs.Triggers as triggers
-use Rattle.trace_history.specs.Triggers.{acts, is_left, passes, times_left, trigger_of}
+use Rattle.tracer_specification.specs.Declarations.{IsFit, IsIndexOf}
+use Rattle.tracer_specification.specs.Settings.{NumberedEvent, declared_events, event_named, event_named_in, filter_of, is_enabled, kept_filter, now_of}
+use Rattle.tracer_specification.specs.Emissions.{Emitted, filter_holds, is_recorded}
+use Rattle.tracer_specification.specs.History.{emission_answer, row_answer}
+use Rattle.tracer_specification.specs.Snapshots.{is_exchanged_by}
+use Rattle.tracer_specification.specs.Triggers as triggers
+use Rattle.tracer_specification.specs.Triggers.{acts, is_left, passes, times_left, trigger_of}
 use Rattle.trace_instance.specs.Instances.{InstanceSeen, InstanceStandsFor, IsAlike, kept_as}
 use Rattle.trace_instance.specs.Rows.{fires, kept_acts, kept_holds, records}
 use Rattle.trace_instance.specs.KeptHists.{passed}

@@ -2,7 +2,7 @@
 use Rattle.std.proofs.Common.{◌≡◌, suc, ◌-◌, ◌<◌, List, [], ◌∷◌, ◌++◌, length, reverse, All, IsOk, refl, ap, ◌∙◌, arith}
 use Rattle.std.proofs.lemmas.List.{reverse-append, length-reverse, get_or-reverse}
 use Rattle.trace_command.specs.Requests.{request_of}
-use Rattle.trace_history.specs.History.{answer, requests_of, past_of, IsEntry, IsLegal}
+use Rattle.tracer_specification.specs.History.{answer, requests_of, past_of, IsEntry, IsLegal}
 use Rattle.trace_command.specs.declared.command.Config.{Config}
 use Rattle.trace_command.specs.declared.command.Entry.{Entry}
 

@@ -4,7 +4,7 @@ use Rattle.std.specs.List.{slice_get}
 use Rattle.std.specs.Option.{option_and_then}
 use Rattle.trace_command.specs.Requests.{Request}
 use Rattle.trace_command.specs.declared.command.Config.{Config}
-use Rattle.trace_history.specs.Settings.{instance_names}
+use Rattle.tracer_specification.specs.Settings.{instance_names}
 use Rattle.tracer_state.specs.States.{StandsFor, names_of}
 use Rattle.tracer_state.specs.declared.state.Named.{Named}
 use Rattle.tracer_state.specs.declared.state.State.{State}

@@ -12,10 +12,10 @@ use Rattle.trace_command.specs.Requests.{Request, MakeInstance, RemoveInstance}
 use Rattle.trace_command.specs.declared.command.Config.{Config}
 use Rattle.trace_command.specs.declared.command.Reply.TheVariants.{Done}
 use Rattle.trace_command.specs.declared.refusal.Refusal.TheVariants.{BadValue, InstanceExists, Memory, NoSuchInstance, TooMany}
-use Rattle.trace_history.specs.History.{named_answer}
-use Rattle.trace_history.specs.Settings.{declared_events, instance_names, is_enabled, is_there, kept_filter, makes}
-use Rattle.trace_history.proofs.EventLists.{map-agrees}
-use Rattle.trace_history.proofs.OwnFiles.{bytes-differ}
+use Rattle.tracer_specification.specs.History.{named_answer}
+use Rattle.tracer_specification.specs.Settings.{declared_events, instance_names, is_enabled, is_there, kept_filter, makes}
+use Rattle.tracer_specification.proofs.EventLists.{map-agrees}
+use Rattle.tracer_specification.proofs.OwnFiles.{bytes-differ}
 use Rattle.trace_instance.specs.Changes.{IsEffect}
 use Rattle.trace_instance.specs.Instances.{InstanceStandsFor}
 use Rattle.tracer_state.specs.States.{IsPrepared, StandsFor}

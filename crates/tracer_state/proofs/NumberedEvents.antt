@@ -18,11 +18,11 @@ use Rattle.trace_command.specs.Refusals.{IsRefusal, refusal_of_row}
 use Rattle.trace_command.specs.Requests.{Request, Emission}
 use Rattle.trace_command.specs.declared.command.Config.{Config}
 use Rattle.trace_command.specs.declared.refusal.Refusal.TheVariants.{BadRow, Memory, NoSuchCpu, NoSuchEvent}
-use Rattle.trace_history.specs.Declarations.{IsIndexOf}
-use Rattle.trace_history.specs.History.{answer_with_room, emission_answer}
-use Rattle.trace_history.specs.LateMemory.{TakesMemoryLate}
-use Rattle.trace_history.specs.Settings.{NumberedEvent, declared_events, event_named, event_named_in, numbered_event}
-use Rattle.trace_history.proofs.Events.{found_from, named_in-found}
+use Rattle.tracer_specification.specs.Declarations.{IsIndexOf}
+use Rattle.tracer_specification.specs.History.{answer_with_room, emission_answer}
+use Rattle.tracer_specification.specs.LateMemory.{TakesMemoryLate}
+use Rattle.tracer_specification.specs.Settings.{NumberedEvent, declared_events, event_named, event_named_in, numbered_event}
+use Rattle.tracer_specification.proofs.Events.{found_from, named_in-found}
 use Rattle.tracer_state.specs.private.Found.{numbered}
 use Rattle.tracer_state.specs.States.{StandsFor}
 use Rattle.tracer_state.specs.ValueEmissions.{emission_of, values_emission}

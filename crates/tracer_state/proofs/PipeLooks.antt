@@ -8,9 +8,9 @@ use Rattle.trace_command.specs.declared.command.Reply.{Reply}
 use Rattle.trace_command.specs.declared.command.Reply.TheVariants.{Done}
 use Rattle.trace_command.specs.declared.refusal.Refusal.{Refusal}
 use Rattle.trace_command.specs.declared.refusal.Refusal.TheVariants.{BadValue, NoSuchFile, NoSuchInstance}
-use Rattle.trace_history.specs.History.{file_answer, missing, unless_refused}
-use Rattle.trace_history.specs.Settings.{is_there}
-use Rattle.trace_history.specs.Waiting.{waiting, waits_in}
+use Rattle.tracer_specification.specs.History.{file_answer, missing, unless_refused}
+use Rattle.tracer_specification.specs.Settings.{is_there}
+use Rattle.tracer_specification.specs.Waiting.{waiting, waits_in}
 use Rattle.trace_format.specs.Definitions.{Definition}
 use Rattle.trace_instance.specs.Files.{HasCpu, IsThere, file_at}
 use Rattle.trace_instance.specs.declared.file.File.{File}

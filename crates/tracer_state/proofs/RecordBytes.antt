@@ -4,7 +4,7 @@ use Rattle.std.proofs.Math.Seq.{drop-append_seam}
 use Rattle.std.proofs.lemmas.List.{length-take, drop-replicate}
 use Rattle.trace_record.specs.Record.{head_bytes, padding, record_size}
 use Rattle.trace_format.specs.Cells.{Cells, payload_of}
-use Rattle.trace_history.specs.Emissions.{record_bytes}
+use Rattle.tracer_specification.specs.Emissions.{record_bytes}
 
 -- what stands behind a front of so many bytes
 behind : (n : ℕ) (front rest : List ℕ) → length front ≡ n → drop n (front ++ rest) ≡ rest

@@ -8,8 +8,8 @@ use Rattle.std.proofs.lemmas.List.Folds.{list_any_at}
 use Rattle.std.proofs.lemmas.Iterator.Adapters.{position_from-zero}
 use Rattle.trace_format.proofs.FieldNames.{bytes_eq-swap}
 use Rattle.trace_format.specs.Definitions.{Definition}
-use Rattle.trace_history.specs.Declarations.{IsIndexOf}
-use Rattle.trace_history.specs.Settings.{instance_names, is_same, is_there}
+use Rattle.tracer_specification.specs.Declarations.{IsIndexOf}
+use Rattle.tracer_specification.specs.Settings.{instance_names, is_same, is_there}
 use Rattle.trace_command.specs.Requests.{Request}
 use Rattle.trace_command.specs.Paths as paths
 use Rattle.trace_command.specs.Paths.{Address}
@@ -17,7 +17,7 @@ use Rattle.trace_command.specs.declared.command.Config.{Config}
 use Rattle.trace_command.specs.declared.command.Reply.{Reply}
 use Rattle.trace_command.specs.declared.refusal.Refusal.{Refusal}
 use Rattle.trace_command.specs.declared.refusal.Refusal.TheVariants.{NoSuchFile, NoSuchInstance}
-use Rattle.trace_history.specs.History.{file_answer, instance_answer, missing}
+use Rattle.tracer_specification.specs.History.{file_answer, instance_answer, missing}
 use Rattle.tracer_state.specs.private.Files.{IsAt}
 use Rattle.trace_instance.specs.Files.{name_at}
 use Rattle.tracer_state.specs.States.{StandsFor, names_of}

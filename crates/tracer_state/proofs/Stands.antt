@@ -14,15 +14,15 @@ use Rattle.trace_command.specs.Requests.{Request, Emission}
 use Rattle.trace_command.specs.declared.command.Config.{Config}
 use Rattle.trace_command.specs.declared.command.Reply.{Reply}
 use Rattle.trace_command.specs.declared.command.Reply.TheVariants.{Done}
-use Rattle.trace_history.specs.Declarations.{IsFit}
-use Rattle.trace_history.specs.History.{answer_with_room}
-use Rattle.trace_history.specs.Settings.{declares, declared_events, instance_names, is_born, is_same, made, removed, ticks}
-use Rattle.trace_history.proofs.EventLists.{AreEvents-push}
-use Rattle.trace_history.proofs.Events.{fit-push}
+use Rattle.tracer_specification.specs.Declarations.{IsFit}
+use Rattle.tracer_specification.specs.History.{answer_with_room}
+use Rattle.tracer_specification.specs.Settings.{declares, declared_events, instance_names, is_born, is_same, made, removed, ticks}
+use Rattle.tracer_specification.proofs.EventLists.{AreEvents-push}
+use Rattle.tracer_specification.proofs.Events.{fit-push}
 use Rattle.trace_instance.specs.Instances.{InstanceSeen, InstanceStandsFor}
 use Rattle.tracer_state.specs.States.{IsChangeOf, IsDeclared, IsEmission, IsFresh, IsMade, IsEmitted, IsPrepared, IsPreparedEmission, HasChanged, IsReady, IsRemoved, IsStep, StandsFor, names_of, reach_at}
 use Rattle.trace_instance.specs.Deliveries.{row_of}
-use Rattle.trace_history.specs.HistTriggers.{counted_row}
+use Rattle.tracer_specification.specs.HistTriggers.{counted_row}
 use Rattle.tracer_state.specs.EventPlans.{IsPlanned}
 use Rattle.tracer_state.specs.declared.change.Change.{Change}
 use Rattle.tracer_state.specs.declared.change.Change.TheVariants.{Declare, Make, Remove, Instance}

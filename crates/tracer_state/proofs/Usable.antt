@@ -8,10 +8,10 @@ use Rattle.trace_format.specs.Definitions.{Definition}
 use Rattle.trace_command.specs.Configs.{IsInRange}
 use Rattle.trace_command.specs.Requests.{Request}
 use Rattle.trace_command.specs.declared.command.Config.{Config}
-use Rattle.trace_history.specs.Declarations.{IsFit}
-use Rattle.trace_history.specs.Settings.{declared_events, instance_names, is_same}
+use Rattle.tracer_specification.specs.Declarations.{IsFit}
+use Rattle.tracer_specification.specs.Settings.{declared_events, instance_names, is_same}
 use Rattle.trace_instance.specs.Instances.{InstanceSeen, InstanceStandsFor, IsUsableInstance}
-use Rattle.trace_history.specs.Pasts.{AreDone}
+use Rattle.tracer_specification.specs.Pasts.{AreDone}
 use Rattle.trace_instance.specs.Deliveries.{HasFew, HasFewRows, most_requests}
 use Rattle.tracer_state.specs.States.{IsUsable, StandsFor, names_of}
 use Rattle.tracer_state.specs.declared.state.Named.{Named}

@@ -9,13 +9,13 @@ use Rattle.trace_command.specs.Requests.{Request}
 use Rattle.trace_command.specs.declared.command.Config.{Config}
 use Rattle.trace_command.specs.declared.refusal.Refusal.{Refusal}
 use Rattle.trace_command.specs.declared.command.Reply.TheVariants.{Done}
-use Rattle.trace_history.specs.Declarations.{IsFit, IsIndexOf}
-use Rattle.trace_history.specs.Settings.{event_named, declares, declared_events, filter_of, instance_names, is_enabled, is_same, made, makes, now_of, removed, ticks}
-use Rattle.trace_history.specs.Emissions.{Emitted, emitted, emitted_bytes, is_recorded}
-use Rattle.trace_history.specs.History.{answer_with_room}
-use Rattle.trace_history.specs.Snapshots.{is_exchanged_by}
-use Rattle.trace_history.specs.Triggers.{trigger_of}
-use Rattle.trace_history.specs.HistTriggers.{hists_of}
+use Rattle.tracer_specification.specs.Declarations.{IsFit, IsIndexOf}
+use Rattle.tracer_specification.specs.Settings.{event_named, declares, declared_events, filter_of, instance_names, is_enabled, is_same, made, makes, now_of, removed, ticks}
+use Rattle.tracer_specification.specs.Emissions.{Emitted, emitted, emitted_bytes, is_recorded}
+use Rattle.tracer_specification.specs.History.{answer_with_room}
+use Rattle.tracer_specification.specs.Snapshots.{is_exchanged_by}
+use Rattle.tracer_specification.specs.Triggers.{trigger_of}
+use Rattle.tracer_specification.specs.HistTriggers.{hists_of}
 use Rattle.trace_format.specs.Operands.{Emission}
 use Rattle.trace_instance.specs.Instances.{InstanceSeen, InstanceStandsFor, passed_in, IsAlike, IsUsableInstance}
 use Rattle.trace_instance.specs.Changes.{IsEffect, IsApplied, IsLawful, with_event}

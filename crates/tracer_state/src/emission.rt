@@ -8,8 +8,8 @@ ghost use Rattle.trace_command.specs.Requests as requests;
 ghost use Rattle.trace_command.specs.Requests.{Request, Emission};
 ghost use Rattle.trace_format.specs.Cells.{IsRowOf, record_size_of};
 ghost use Rattle.trace_format.specs.declared.pair.Pair.{Pair as PairSeen};
-ghost use Rattle.trace_history.specs.History.{answer_with_room, emission_answer};
-ghost use Rattle.trace_history.specs.Settings.{declared_events};
+ghost use Rattle.tracer_specification.specs.History.{answer_with_room, emission_answer};
+ghost use Rattle.tracer_specification.specs.Settings.{declared_events};
 ghost use Rattle.tracer_state.specs.EventPlans.{IsPlanOf};
 ghost use Rattle.tracer_state.specs.private.Emissions as emissions;
 ghost use Rattle.tracer_state.specs.ValueEmissions.{values_emission};
@@ -32,7 +32,7 @@ impl State {
     /// records it, and the memory of its hist triggers. A refused one leaves a delivery that means nothing. It is inlined, so that an emission's parts
     /// are not moved.
     #[inline(always)]
-    #[tactic(auto, unfolding(trace_history::specs::History::emission_answer))]
+    #[tactic(auto, unfolding(tracer_specification::specs::History::emission_answer))]
     pub fn prepare_emission(
         &mut self,
         alloc: Global,
@@ -117,7 +117,7 @@ impl State {
     /// The refusal of an emission that ran out of memory: a missing CPU or event is reported even so.
     #[cold]
     #[inline(never)]
-    #[tactic(auto, unfolding(trace_history::specs::History::emission_answer))]
+    #[tactic(auto, unfolding(tracer_specification::specs::History::emission_answer))]
     pub fn refusal_without_memory(&self, config: &Config, cpu: u32, name: &[u8]) -> Refusal
         ensures { (past : List Request) (pairs : List PairSeen) → StandsFor config.now self.now past
             → IsRefusal result (emission_answer config.now past name.now cpu pairs) }

@@ -5,7 +5,7 @@ ghost use Rattle.trace_command.specs.Configs.{IsInRange};
 ghost use Rattle.trace_command.specs.Paths as paths;
 ghost use Rattle.trace_command.specs.Requests.{Request, MakeInstance, RemoveInstance};
 ghost use Rattle.trace_command.specs.declared.command.Config.{Config};
-ghost use Rattle.trace_history.specs.Settings.{declared_events};
+ghost use Rattle.tracer_specification.specs.Settings.{declared_events};
 ghost use Rattle.trace_instance.specs.Instances.{InstanceStandsFor};
 ghost use Rattle.tracer_state.specs.States.{StandsFor, IsPrepared, IsUsable};
 

@@ -7,8 +7,8 @@ ghost use Rattle.trace_command.specs.Paths as paths;
 ghost use Rattle.trace_command.specs.Requests as requests;
 ghost use Rattle.trace_command.specs.Requests.{Request, WriteFile, ReadFile};
 ghost use Rattle.trace_command.specs.declared.command.Config.{Config};
-ghost use Rattle.trace_history.specs.LateMemory.{TakesMemoryLate};
-ghost use Rattle.trace_history.specs.Settings.{is_there, ticks};
+ghost use Rattle.tracer_specification.specs.LateMemory.{TakesMemoryLate};
+ghost use Rattle.tracer_specification.specs.Settings.{is_there, ticks};
 ghost use Rattle.tracer_state.specs.States.{StandsFor, IsPrepared, IsUsable};
 
 use crate::change::Change;
@@ -93,7 +93,7 @@ impl State {
     }
 
     // A declaration. Checked in this order: its text, that it is appended unless it is the first, whether the catalog can take it.
-    #[tactic(auto, unfolding(trace_history::specs::History::declaration_answer))]
+    #[tactic(auto, unfolding(tracer_specification::specs::History::declaration_answer))]
     fn prepare_declaration(
         &self,
         alloc: Global,

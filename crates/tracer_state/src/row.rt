@@ -3,7 +3,7 @@
 ghost use Rattle.std.specs.Prelude.{◌≡◌, ◌<◌, ◌≤◌, ◌+◌, ◌-◌, ◌^◌, ◌++◌, length, take, drop, replicate, OnOk};
 ghost use Rattle.trace_record.specs.Record.{IsRecord, head_bytes, padding, record_size};
 ghost use Rattle.trace_format.specs.Cells.{size_of_all, payload_of};
-ghost use Rattle.trace_history.specs.Emissions.{record_bytes};
+ghost use Rattle.tracer_specification.specs.Emissions.{record_bytes};
 
 use std::alloc::AllocError;
 use trace_format::Row;
@@ -11,7 +11,7 @@ use trace_record::{HEAD_SIZE, Head, record_size, write_head};
 
 /// Makes the record of an emission, whose row has a payload of this many bytes, over that of an earlier one.
 #[inline(always)]
-#[tactic(auto, unfolding(trace_history::specs::Emissions::record_bytes))]
+#[tactic(auto, unfolding(tracer_specification::specs::Emissions::record_bytes))]
 pub(crate) fn record(
     timestamp: u64,
     pid: i32,

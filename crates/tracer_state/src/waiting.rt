@@ -3,7 +3,7 @@
 ghost use Rattle.std.specs.Prelude.{◌≡◌, List};
 ghost use Rattle.trace_command.specs.Paths as paths;
 ghost use Rattle.trace_command.specs.Requests.{Request};
-ghost use Rattle.trace_history.specs.Waiting.{waiting};
+ghost use Rattle.tracer_specification.specs.Waiting.{waiting};
 ghost use Rattle.tracer_state.specs.States.{StandsFor, IsUsable};
 
 use crate::resolve::Target;

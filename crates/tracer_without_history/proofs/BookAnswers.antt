@@ -9,8 +9,8 @@ use Rattle.trace_command.specs.declared.command.Entry.{Entry}
 use Rattle.trace_command.specs.declared.command.Reply.{Reply}
 use Rattle.trace_command.specs.declared.refusal.Refusal.{Refusal}
 use Rattle.trace_command.specs.declared.refusal.Refusal.TheVariants.{HistoryFull}
-use Rattle.trace_history.specs.History.{answer, answer_with_room, past_of, unless_full, IsLegal, IsLegalNewestFirst}
-use Rattle.trace_history.proofs.LegalEvents.{done-legal}
+use Rattle.tracer_specification.specs.History.{answer, answer_with_room, past_of, unless_full, IsLegal, IsLegalNewestFirst}
+use Rattle.tracer_specification.proofs.LegalEvents.{done-legal}
 use Rattle.tracer_without_history.specs.LiveLaws.{LegalHistoriesWereDone, HistoriesAreAnsweredAlike, RefusalsAreAlike, LimitsAreAlike}
 use Rattle.tracer_without_history.specs.Lives.{limited_answer, most_done}
 

@@ -6,8 +6,8 @@ use Rattle.trace_command.specs.declared.command.Config.{Config}
 use Rattle.trace_command.specs.declared.command.Reply.{Reply}
 use Rattle.trace_command.specs.declared.refusal.Refusal.{Refusal}
 use Rattle.trace_command.specs.declared.refusal.Refusal.TheVariants.{Memory}
-use Rattle.trace_history.specs.History.{answer_with_room}
-use Rattle.trace_history.specs.LateMemory.{TakesMemoryLate}
+use Rattle.tracer_specification.specs.History.{answer_with_room}
+use Rattle.tracer_specification.specs.LateMemory.{TakesMemoryLate}
 use Rattle.tracer_state.specs.States.{IsPrepared}
 use Rattle.tracer_state.specs.declared.state.Prepared.{Prepared}
 use Rattle.tracer_without_history.specs.LiveSeen.{LiveSeen}

@@ -8,7 +8,7 @@ use Rattle.trace_command.specs.declared.command.Config.{Config}
 use Rattle.trace_command.specs.declared.command.Reply.{Reply}
 use Rattle.trace_command.specs.declared.refusal.Refusal.{Refusal}
 use Rattle.trace_command.specs.declared.refusal.Refusal.TheVariants.{HistoryFull}
-use Rattle.trace_history.specs.History.{answer_with_room, unless_full}
+use Rattle.tracer_specification.specs.History.{answer_with_room, unless_full}
 use Rattle.tracer_without_history.specs.Lives.{limited_answer}
 
 -- what can be done is done while there is room

@@ -5,7 +5,7 @@ use Rattle.trace_command.specs.Requests.{Request}
 use Rattle.trace_command.specs.declared.command.Config.{Config}
 use Rattle.trace_command.specs.declared.command.Reply.{Reply}
 use Rattle.trace_command.specs.declared.command.Reply.TheVariants.{Done}
-use Rattle.trace_history.specs.History.{answer_with_room}
+use Rattle.tracer_specification.specs.History.{answer_with_room}
 use Rattle.trace_instance.specs.Deliveries.{HasFew, HasFewRows}
 use Rattle.trace_instance.specs.declared.change.Delivery.{Delivery}
 use Rattle.tracer_state.specs.States.{IsEmitted, IsPrepared, IsPreparedEmission, IsStateAlike, IsStep, IsUnchanged, IsUsable, StandsFor}

@@ -6,8 +6,8 @@ use Rattle.trace_command.specs.declared.command.Command.{Command}
 use Rattle.trace_command.specs.declared.command.Config.{Config}
 use Rattle.trace_command.specs.declared.command.Entry.{Entry}
 use Rattle.trace_command.specs.declared.refusal.Refusal.TheVariants.{HistoryFull}
-use Rattle.trace_history.specs.History.{answer_to, past_of, IsLegal}
-use Rattle.trace_history.specs.Pasts.{AreDone}
+use Rattle.tracer_specification.specs.History.{answer_to, past_of, IsLegal}
+use Rattle.tracer_specification.specs.Pasts.{AreDone}
 use Rattle.tracer_without_history.specs.Lives.{limited_answer, live_answer}
 
 -- the requests of a legal history were done one after another, as `IsLive` says of those that led to a tracer

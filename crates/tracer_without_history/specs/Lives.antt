@@ -6,9 +6,9 @@ use Rattle.trace_command.specs.Requests.{Request}
 use Rattle.trace_command.specs.declared.command.Config.{Config}
 use Rattle.trace_command.specs.declared.command.Reply.{Reply}
 use Rattle.trace_command.specs.declared.refusal.Refusal.{Refusal}
-use Rattle.trace_history.specs.History.{answer_with_room, unless_full}
-use Rattle.trace_history.specs.LateMemory.{TakesMemoryLate}
-use Rattle.trace_history.specs.Pasts.{AreDone}
+use Rattle.tracer_specification.specs.History.{answer_with_room, unless_full}
+use Rattle.tracer_specification.specs.LateMemory.{TakesMemoryLate}
+use Rattle.tracer_specification.specs.Pasts.{AreDone}
 use Rattle.trace_instance.specs.Deliveries.{most_requests}
 use Rattle.tracer_state.specs.States.{IsPrepared, IsPreparedEmission, StandsFor}
 use Rattle.tracer_state.specs.declared.state.Prepared.{Prepared}

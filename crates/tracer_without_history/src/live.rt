@@ -31,8 +31,8 @@ ghost use Rattle.trace_command.specs.FileNames.{bytes_now};
 ghost use Rattle.trace_command.specs.Paths as paths;
 ghost use Rattle.trace_command.specs.Requests.{Request};
 ghost use Rattle.trace_command.specs.declared.refusal.Refusal.TheVariants as refusal;
-ghost use Rattle.trace_history.specs.Settings.{declared_events, instance_names, is_there, now_of};
-ghost use Rattle.trace_history.specs.Waiting.{waiting};
+ghost use Rattle.tracer_specification.specs.Settings.{declared_events, instance_names, is_there, now_of};
+ghost use Rattle.tracer_specification.specs.Waiting.{waiting};
 ghost use Rattle.trace_instance.specs.Instances.{InstanceStandsFor};
 ghost use Rattle.tracer_without_history.specs.Lives.{IsLive, WasLedTo};
 

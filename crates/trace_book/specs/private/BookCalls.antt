@@ -5,8 +5,8 @@ use Rattle.trace_command.specs.Requests.{request_of}
 use Rattle.trace_command.specs.declared.command.Entry.{Entry}
 use Rattle.trace_command.specs.declared.command.Reply.{Reply}
 use Rattle.trace_command.specs.declared.refusal.Refusal.{Refusal}
-use Rattle.trace_history.specs.History.{answer_to, IsLegal}
-use Rattle.trace_history.specs.LateMemory.{TakesMemoryLate}
+use Rattle.tracer_specification.specs.History.{answer_to, IsLegal}
+use Rattle.tracer_specification.specs.LateMemory.{TakesMemoryLate}
 use Rattle.trace_book.specs.BookSeen.{BookSeen}
 
 -- the clauses of `Book::ask`, for the command of this entry

@@ -17,16 +17,16 @@ use Rattle.trace_command.specs.declared.command.Reply.TheVariants.{Done}
 use Rattle.trace_command.specs.declared.file_name.EventFile.TheVariants as per_event
 use Rattle.trace_command.specs.declared.refusal.Refusal.{Refusal}
 use Rattle.trace_command.specs.declared.refusal.Refusal.TheVariants.{Memory, TriggerExists}
-use Rattle.trace_history.specs.History.{trigger_answer}
-use Rattle.trace_history.specs.Settings.{declared_events, event_named}
-use Rattle.trace_history.specs.Declarations.{IsIndexOf}
-use Rattle.trace_history.specs.Snapshots.{spare_armed}
+use Rattle.tracer_specification.specs.History.{trigger_answer}
+use Rattle.tracer_specification.specs.Settings.{declared_events, event_named}
+use Rattle.tracer_specification.specs.Declarations.{IsIndexOf}
+use Rattle.tracer_specification.specs.Snapshots.{spare_armed}
 use Rattle.trace_instance.specs.Changes.{IsAsked as IsAskedOf, IsJoinedBy, IsPossible, asks_triggers, hists_changed, trigger_changed}
 use Rattle.trace_instance.specs.Instances.{TablesFit, kept_trigger}
 use Rattle.trace_instance.specs.KeptHists.{kept_hists, says_same}
 use Rattle.trace_trigger.specs.FittingSpecs.{is_fitting}
 use Rattle.trace_hist.specs.Hists.{StandsFor}
-use Rattle.trace_history.specs.HistTriggers.{is_pause}
+use Rattle.tracer_specification.specs.HistTriggers.{is_pause}
 use Rattle.trace_instance.specs.private.EventLists.{all_hists}
 use Rattle.trace_instance.specs.declared.hists.AttachedHist.{AttachedHist}
 use Rattle.trace_instance.specs.declared.attach.EventTriggers.{EventTriggers}

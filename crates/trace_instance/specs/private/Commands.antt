@@ -7,8 +7,8 @@ use Rattle.trace_command.specs.Refusals.{IsRefusal}
 use Rattle.trace_command.specs.declared.command.Reply.TheVariants.{Done}
 use Rattle.trace_command.specs.declared.refusal.Refusal.{Refusal}
 use Rattle.trace_command.specs.declared.refusal.Refusal.TheVariants.{BadValue}
-use Rattle.trace_history.specs.History.{filter_answer}
-use Rattle.trace_history.specs.Settings.{written_filter}
+use Rattle.tracer_specification.specs.History.{filter_answer}
+use Rattle.tracer_specification.specs.Settings.{written_filter}
 use Rattle.trace_instance.specs.KeptHists.{KeptTable, kept_at}
 use Rattle.trace_instance.specs.declared.hists.AttachedHist.{AttachedHist}
 use Rattle.trace_instance.specs.declared.tables.Table.{Table}

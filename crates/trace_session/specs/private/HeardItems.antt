@@ -7,7 +7,7 @@ use Rattle.script_reader.specs.ScriptLines.{lines_of, lines_left}
 use Rattle.script_reader.specs.declared.item.ItemRead.TheVariants as reads
 use Rattle.script_reader.specs.declared.item.ItemRead.{ItemRead}
 use Rattle.script_reader.specs.declared.lines_from.LinesFrom.{LinesFrom}
-use Rattle.thread_output.specs.declared.outcome_at.OutcomeAt.{OutcomeAt}
+use Rattle.parallel_output.specs.declared.outcome_at.OutcomeAt.{OutcomeAt}
 use Rattle.trace_script.specs.declared.outcome.Outcome.TheVariants.{Fault}
 use Rattle.trace_session.specs.Heard.{Heard, Hears, heard_of, heard_lines, line_at, numbers_in}
 use Rattle.trace_session.specs.Parts.{Given}

@@ -3,7 +3,7 @@ use Rattle.std.specs.Prelude.{◌≡◌, ℕ, ℤ, ◌+◌, ◌<◌, Bool, true,
 use Rattle.trace_format.specs.Cells.{Cells, record_size_of}
 use Rattle.trace_format.specs.Definitions.{Definition}
 use Rattle.trace_record.specs.Record.{IsRecord}
-use Rattle.trace_history.specs.Emissions.{record_bytes}
+use Rattle.tracer_specification.specs.Emissions.{record_bytes}
 use Rattle.trace_instance.specs.Deliveries.{CanCountRow, row_of}
 use Rattle.trace_instance.specs.Instances.{InstanceSeen}
 use Rattle.trace_instance.specs.KeptHists.{KeysAgree}

@@ -8,8 +8,8 @@ use Rattle.trace_command.specs.declared.command.Config.{Config}
 use Rattle.trace_command.specs.declared.command.Reply.{Reply}
 use Rattle.trace_command.specs.declared.refusal.Refusal.{Refusal}
 use Rattle.trace_command.specs.declared.refusal.Refusal.TheVariants.{NoSuchCpu, NoSuchEvent}
-use Rattle.trace_history.specs.Settings.{event_named_in, is_there}
-use Rattle.trace_history.specs.History.{file_answer, instance_answer, missing}
+use Rattle.tracer_specification.specs.Settings.{event_named_in, is_there}
+use Rattle.tracer_specification.specs.History.{file_answer, instance_answer, missing}
 use Rattle.trace_instance.specs.declared.file.File.{File}
 use Rattle.tracer_state.specs.declared.resolve.Target.{Target}
 use Rattle.tracer_state.specs.declared.resolve.Target.TheVariants as target

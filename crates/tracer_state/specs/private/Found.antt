@@ -1,6 +1,6 @@
 -- An event that was found by its name.
 use Rattle.std.specs.Prelude.{◌+◌}
-use Rattle.trace_history.specs.Settings.{NumberedEvent}
+use Rattle.tracer_specification.specs.Settings.{NumberedEvent}
 use Rattle.tracer_state.specs.declared.resolve.Found.{Found}
 
 -- an event that was found, with its id

@@ -2,7 +2,7 @@
 
 ghost use Rattle.std.specs.Prelude.{◌≡◌, ◌≤◌, List};
 ghost use Rattle.trace_command.specs.Requests.{Request, Emission, request_of};
-ghost use Rattle.trace_history.specs.Settings.{declared_events, ticks};
+ghost use Rattle.tracer_specification.specs.Settings.{declared_events, ticks};
 ghost use Rattle.tracer_state.specs.ValueEmissions.{values_emission};
 ghost use Rattle.tracer_without_history.specs.Lives.{IsLive, IsCall, IsCallWithin, most_done};
 

@@ -2,7 +2,7 @@ use Rattle.std.proofs.Common.{sym, ap, ◌∙◌, arith}
 use Rattle.std.specs.Option.{option_map}
 use Rattle.trace_command.specs.FileNames.{bytes_now}
 use Rattle.library_tracer.proofs.ListedLemmas.{all_added, no_more, one_more, with_fields}
-use Rattle.trace_history.specs.Settings.{instance_names}
+use Rattle.tracer_specification.specs.Settings.{instance_names}
 use Rattle.library_tracer.proofs.files.add_instances.Goals as goal
 
 pub returns-in_default : goal.returns-in_default

@@ -1,6 +1,6 @@
 use Rattle.std.proofs.Common.{◌≡◌, ◌++◌, List, drop}
 use Rattle.trace_command.specs.Requests.{Request}
-use Rattle.trace_history.specs.Settings.{instance_names}
+use Rattle.tracer_specification.specs.Settings.{instance_names}
 use Rattle.tracer_without_history.specs.Lives.{IsLive}
 use Rattle.library_tracer.proofs.files.add_instances.Given as goal
 

@@ -1,5 +1,5 @@
 use Rattle.std.proofs.Common.{◌≡◌, rules}
-use Rattle.trace_history.proofs.SaidHists.{said-spec}
+use Rattle.tracer_specification.proofs.SaidHists.{said-spec}
 use Rattle.trace_instance.proofs.LateTexts.{hist-begins, hist-text}
 use Rattle.trace_instance.proofs.attach.made.Goals as goal
 

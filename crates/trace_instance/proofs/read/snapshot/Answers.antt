@@ -1,5 +1,5 @@
 use Rattle.std.proofs.Common.{refl}
-use Rattle.trace_history.specs.FileTexts.{shown_snapshot}
+use Rattle.tracer_specification.specs.FileTexts.{shown_snapshot}
 use Rattle.trace_instance.specs.Instances.{side_families}
 use Rattle.trace_instance.proofs.EventReads.{spare-shape}
 use Rattle.trace_instance.proofs.read.snapshot.Goals as goal

@@ -1,6 +1,6 @@
 use Rattle.std.proofs.Common.{◌≡◌, List, [], ℕ, IfOk, None, get_or, option_copied, ap, ◌∙◌, subst, rules}
 use Rattle.trace_format.specs.Definitions.{Definition}
-use Rattle.trace_history.specs.FileTexts.{flag_text}
+use Rattle.tracer_specification.specs.FileTexts.{flag_text}
 use Rattle.trace_instance.specs.private.Commands.{shown_filter}
 use Rattle.trace_instance.proofs.EventReads.{enabled-at_place, filter-at_place, format-at_place, hists-at_place, triggers-at_place}
 use Rattle.trace_instance.proofs.read.text_of_event.Goals as goal

@@ -1,6 +1,6 @@
 use Rattle.std.proofs.Common.{◌≡◌, ◌<◌, length, get_or, Ok, Err, rules}
 use Rattle.trace_command.specs.declared.refusal.Refusal.TheVariants.{BadValue}
-use Rattle.trace_history.specs.Settings.{declared_events, written_flag}
+use Rattle.tracer_specification.specs.Settings.{declared_events, written_flag}
 use Rattle.trace_instance.specs.private.Commands.{needed_flag}
 use Rattle.trace_instance.proofs.Writes.{no-switch, switches-one, sets-one, refuses-one}
 use Rattle.trace_instance.proofs.Triggering.{kept-at, trigger-refused, trigger-written}

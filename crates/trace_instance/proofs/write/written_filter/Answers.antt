@@ -1,6 +1,6 @@
 use Rattle.std.proofs.Common.{◌≡◌, false, Err, sym, ◌∙◌, rules}
 use Rattle.trace_command.specs.Refusals.{refusal_of_filter}
-use Rattle.trace_history.specs.Settings.{clears_filter}
+use Rattle.tracer_specification.specs.Settings.{clears_filter}
 use Rattle.trace_instance.proofs.Filtering.{filter-clears, filter-reads, filter-refuses}
 use Rattle.trace_instance.proofs.write.written_filter.Goals as goal
 

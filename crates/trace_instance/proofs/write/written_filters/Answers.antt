@@ -1,6 +1,6 @@
 use Rattle.std.proofs.Common.{◌≡◌, true, false, Ok, Err, sym, ◌∙◌, rules}
-use Rattle.trace_history.specs.History.{filter_of_all_answer}
-use Rattle.trace_history.specs.Settings.{clears_filter, declared_events}
+use Rattle.tracer_specification.specs.History.{filter_of_all_answer}
+use Rattle.tracer_specification.specs.Settings.{clears_filter, declared_events}
 use Rattle.trace_command.specs.declared.command.Reply.TheVariants.{Done}
 use Rattle.trace_command.specs.declared.refusal.Refusal.TheVariants.{Memory}
 use Rattle.trace_instance.proofs.Writes.{refuses-all, memory-for-all, clears-all, sets-all}

@@ -3,7 +3,7 @@ use Rattle.std.specs.declared.alloc.Global.{Global}
 use Rattle.ticket_lock.specs.Calls.{view_of}
 use Rattle.trace_command.specs.declared.command.Command.{Command}
 use Rattle.script_reader.specs.PartReads.{commands_in}
-use Rattle.thread_output.specs.ThreadTexts.{told_if}
+use Rattle.parallel_output.specs.ThreadTexts.{told_if}
 use Rattle.trace_session.specs.PartTexts.{items_in, numbered_threads, outcomes_of_threads, replies_in}
 use Rattle.trace_workers.specs.Gates.{LetsAllPass}
 use Rattle.trace_session.proofs.PartRunning.{numbers_of_lines, of_threads, block_numbered, may_give}

@@ -2,7 +2,7 @@ use Rattle.std.proofs.Common.{◌≡◌, ◌<◌, length, arith, rules, All, ap,
 use Rattle.std.proofs.lemmas.Grind.{common_steps}
 use Rattle.std.specs.List.{list_any}
 use Rattle.trace_session.specs.PartTexts.{replies_in}
-use Rattle.trace_history.specs.Blocks.{IsUnworn}
+use Rattle.tracer_specification.specs.Blocks.{IsUnworn}
 use Rattle.trace_session.proofs.PartWriting.{status_is, numbered_later, text_later, outcomes_later, refused_later, unworn_later}
 use Rattle.trace_session.proofs.part_text.write_threads.Goals as goal
 

@@ -1,7 +1,7 @@
 use Rattle.std.proofs.Common.{◌≡◌, ◌+◌, ◌||◌, ◌++◌, All, drop, is_err, length}
 use Rattle.std.specs.List.{list_any}
-use Rattle.trace_history.specs.Blocks.{IsUnworn}
-use Rattle.thread_output.specs.ThreadTexts.{told_if}
+use Rattle.tracer_specification.specs.Blocks.{IsUnworn}
+use Rattle.parallel_output.specs.ThreadTexts.{told_if}
 use Rattle.trace_session.specs.PartTexts.{numbered_threads, outcomes_of_threads, replies_in, items_in, AreNumbered}
 use Rattle.trace_session.proofs.part_text.write_threads.Given as goal
 

@@ -4,7 +4,7 @@ use Rattle.ticket_lock.specs.Calls.{view_of}
 use Rattle.shared_book.specs.Bases.{numbers_of}
 use Rattle.trace_command.specs.declared.command.Config.{Config}
 use Rattle.trace_command.specs.declared.command.Entry.{Entry}
-use Rattle.trace_history.specs.History.{IsLegal}
+use Rattle.tracer_specification.specs.History.{IsLegal}
 use Rattle.trace_session.proofs.session.new_book.Goals as goal
 
 -- a history without entries is legal

@@ -7,8 +7,8 @@ use Rattle.script_reader.specs.ScriptLines.{lines_of}
 use Rattle.script_reader.specs.declared.part.Numbered.{Numbered}
 use Rattle.script_reader.specs.declared.stop.Stop.{Stop}
 use Rattle.script_reader.specs.declared.stop.Stop.TheVariants.{Device, Stopped}
-use Rattle.thread_output.specs.ThreadTexts.{told_if}
-use Rattle.thread_output.specs.declared.outcome_at.OutcomeAt.{OutcomeAt}
+use Rattle.parallel_output.specs.ThreadTexts.{told_if}
+use Rattle.parallel_output.specs.declared.outcome_at.OutcomeAt.{OutcomeAt}
 use Rattle.trace_session.specs.Devices.{AppendsFront, Passes}
 use Rattle.trace_session.specs.private.StepFronts.{AppendsItem}
 use Rattle.trace_session.specs.Heard.{Heard, Hears, IsWrittenFirst, heard_lines, numbers_in}

@@ -3,7 +3,7 @@ use Rattle.std.specs.Option.{option_copied}
 use Rattle.script_reader.specs.ScriptLines.{lines_of, lines_left}
 use Rattle.trace_session.specs.Heard.{Heard, line_at}
 use Rattle.trace_session.specs.private.HeardItems.{heard_each}
-use Rattle.thread_output.specs.declared.outcome_at.OutcomeAt.{OutcomeAt}
+use Rattle.parallel_output.specs.declared.outcome_at.OutcomeAt.{OutcomeAt}
 use Rattle.trace_session.proofs.Hearing.{HearsOn, LeftInOrder, hears_next, next_is_left, same_line, left_after}
 use Rattle.trace_session.proofs.told.hear_each.Goals as goal
 

@@ -2,7 +2,7 @@ use Rattle.std.proofs.Common.{◌≡◌, map}
 use Rattle.std.specs.Option.{option_copied}
 use Rattle.script_reader.specs.ScriptLines.{lines_of, lines_left}
 use Rattle.trace_session.specs.private.HeardItems.{heard_each}
-use Rattle.thread_output.specs.declared.outcome_at.OutcomeAt.{OutcomeAt}
+use Rattle.parallel_output.specs.declared.outcome_at.OutcomeAt.{OutcomeAt}
 use Rattle.trace_session.proofs.Hearing.{HearsOn, LeftInOrder}
 use Rattle.trace_session.proofs.told.hear_each.Given as goal
 

@@ -4,7 +4,7 @@ use Rattle.ticket_lock.specs.Calls.{view_of}
 use Rattle.trace_command.specs.declared.command.Command.{Command}
 use Rattle.trace_workers.specs.BlockRuns.{trails_of, Begins, IsAfterBlock}
 use Rattle.trace_workers.specs.Gates.{LetsAllPass, LetsBegunPass, StopsOne}
-use Rattle.trace_history.specs.Blocks.{Trail}
+use Rattle.tracer_specification.specs.Blocks.{Trail}
 use Rattle.trace_workers.specs.Ends.{EndAs, reported}
 use Rattle.trace_workers.specs.declared.fault.BlockFault.{BlockFault}
 use Rattle.trace_workers.specs.declared.fault.BlockFault.TheVariants.{Stopped}

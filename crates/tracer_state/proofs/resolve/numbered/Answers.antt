@@ -1,6 +1,6 @@
 use Rattle.std.proofs.Common.{◌≡◌, Some, sym}
 use Rattle.trace_format.specs.Catalogs.{event_of}
-use Rattle.trace_history.proofs.Events.{index_of_id}
+use Rattle.tracer_specification.proofs.Events.{index_of_id}
 use Rattle.tracer_state.proofs.resolve.numbered.Goals as goal
 
 pub returns-clause-index : goal.returns-clause-index

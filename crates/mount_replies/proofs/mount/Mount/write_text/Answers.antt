@@ -1,5 +1,5 @@
 use Rattle.std.proofs.Common.{Err}
-use Rattle.trace_history.specs.Settings.{now_of}
+use Rattle.tracer_specification.specs.Settings.{now_of}
 use Rattle.mount_tree.specs.declared.node.Node.TheVariants as nodes
 use Rattle.mount_replies.specs.Mounted.{IsAsked}
 use Rattle.mount_replies.specs.Served.{write_of}

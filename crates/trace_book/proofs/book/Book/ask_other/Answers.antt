@@ -2,7 +2,7 @@ use Rattle.std.proofs.Common.{◌≡◌, Ok, Err, arith, rules, refl, ap}
 use Rattle.trace_command.specs.declared.refusal.Refusal.TheVariants.{Memory}
 use Rattle.trace_command.specs.Requests.{request_of}
 use Rattle.trace_command.specs.declared.command.Config.{Config}
-use Rattle.trace_history.specs.History.{past_of}
+use Rattle.tracer_specification.specs.History.{past_of}
 use Rattle.tracer_state.proofs.Histories.{past_of-push}
 use Rattle.trace_book.specs.Books.{seen}
 use Rattle.trace_book.specs.private.BookCalls.{IsBookCall}

@@ -1,6 +1,6 @@
 use Rattle.std.proofs.Common.{refl}
 use Rattle.trace_command.specs.Requests.{Request, Emission}
-use Rattle.trace_history.specs.History.{past_of}
+use Rattle.tracer_specification.specs.History.{past_of}
 use Rattle.tracer_without_history.proofs.Limits.{limited-refusal}
 use Rattle.trace_book.specs.Books.{seen}
 use Rattle.trace_book.proofs.BookCalls.{refused-call}

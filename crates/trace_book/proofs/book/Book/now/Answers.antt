@@ -1,4 +1,4 @@
-use Rattle.trace_history.specs.History.{past_of}
+use Rattle.tracer_specification.specs.History.{past_of}
 use Rattle.trace_book.proofs.book.Book.now.Goals as goal
 
 pub returns : goal.returns

@@ -4,7 +4,7 @@ use Rattle.trace_command.specs.declared.refusal.Refusal.TheVariants.{Memory}
 use Rattle.trace_command.specs.Requests.{request_of}
 use Rattle.trace_command.specs.declared.command.Config.{Config}
 use Rattle.trace_command.specs.declared.command.Reply.TheVariants.{Done}
-use Rattle.trace_history.specs.History.{past_of}
+use Rattle.tracer_specification.specs.History.{past_of}
 use Rattle.tracer_state.specs.States.{IsPreparedEmission}
 use Rattle.tracer_state.proofs.Histories.{past_of-push}
 use Rattle.trace_book.specs.Books.{seen}

@@ -4,7 +4,7 @@ use Rattle.trace_format.specs.Definitions.{Definition}
 use Rattle.trace_command.specs.Paths as paths
 use Rattle.trace_command.specs.Requests.{Request, MakeInstance}
 use Rattle.trace_command.specs.declared.refusal.Refusal.TheVariants.{Memory}
-use Rattle.trace_history.specs.Settings.{declared_events}
+use Rattle.tracer_specification.specs.Settings.{declared_events}
 use Rattle.trace_instance.specs.Instances.{InstanceStandsFor}
 use Rattle.tracer_state.specs.States.{StandsFor}
 use Rattle.tracer_state.specs.declared.state.Named.{Named}

@@ -1,7 +1,7 @@
 use Rattle.std.proofs.Common.{◌≡◌, List, Ok, Err, refl, rules}
 use Rattle.trace_command.specs.Paths as paths
 use Rattle.trace_command.specs.Requests.{Request}
-use Rattle.trace_history.specs.History.{read_answer}
+use Rattle.tracer_specification.specs.History.{read_answer}
 use Rattle.tracer_state.specs.States.{StandsFor}
 use Rattle.tracer_state.specs.private.Files.{IsResolved}
 use Rattle.tracer_state.specs.declared.resolve.Target.TheVariants.{Declarations, Of}

@@ -2,7 +2,7 @@ use Rattle.std.proofs.Common.{◌≡◌, ◌<◌, Err, arith, rules, sym, to_z, 
 use Rattle.std.proofs.lemmas.Int.{to_z-of_z}
 use Rattle.trace_format.specs.Catalogs.{event_of}
 use Rattle.trace_format.specs.Values.{pairs_given}
-use Rattle.trace_history.specs.Settings.{declared_events}
+use Rattle.tracer_specification.specs.Settings.{declared_events}
 use Rattle.tracer_state.specs.private.Found.{numbered}
 use Rattle.trace_command.specs.Refusals.{refusal_of_row}
 use Rattle.trace_command.specs.declared.refusal.Refusal.TheVariants.{Memory}

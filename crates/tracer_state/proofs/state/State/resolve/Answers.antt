@@ -3,7 +3,7 @@ use Rattle.trace_command.specs.Paths as paths
 use Rattle.trace_command.specs.Paths.{Address}
 use Rattle.trace_command.specs.FileNames.{file_at}
 use Rattle.trace_command.specs.Requests.{Request}
-use Rattle.trace_history.specs.Settings.{is_there}
+use Rattle.tracer_specification.specs.Settings.{is_there}
 use Rattle.tracer_state.specs.States.{StandsFor}
 use Rattle.tracer_state.specs.private.Files.{IsAt, IsFound}
 use Rattle.tracer_state.proofs.Resolving.{found-there, lost-there, no-instance, no-file, missing-file}

@@ -2,7 +2,7 @@ use Rattle.std.proofs.Common.{◌≡◌, ◌<◌, length, arith, rules, to_z, of
 use Rattle.std.proofs.lemmas.Int.{to_z-of_z}
 use Rattle.trace_command.specs.Refusals.{IsRefusal}
 use Rattle.trace_command.specs.declared.command.Reply.TheVariants.{Done}
-use Rattle.trace_history.specs.Settings.{declared_events}
+use Rattle.tracer_specification.specs.Settings.{declared_events}
 use Rattle.tracer_state.specs.States.{IsPreparedEmission}
 use Rattle.tracer_state.specs.ValueEmissions.{values_emission}
 use Rattle.tracer_state.proofs.NumberedEvents.{not-late}

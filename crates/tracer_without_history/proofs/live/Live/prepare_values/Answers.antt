@@ -1,6 +1,6 @@
 use Rattle.std.proofs.Common.{◌≡◌, refl, arith, rules, to_z, of_z, w32, Err}
 use Rattle.std.proofs.lemmas.Int.{to_z-of_z}
-use Rattle.trace_history.specs.Settings.{declared_events}
+use Rattle.tracer_specification.specs.Settings.{declared_events}
 use Rattle.tracer_state.specs.ValueEmissions.{values_emission}
 use Rattle.tracer_without_history.specs.LiveFields.{seen}
 use Rattle.tracer_without_history.proofs.Limits.{full-refusal, limited-refusal}

@@ -1,5 +1,0 @@
-use Rattle.trace_history.proofs.Unworn.{memory_is_no_answer}
-use Rattle.trace_history.proofs.laws.memory_is_no_answer.Goals as goal
-
-pub returns : goal.returns
-returns c = memory_is_no_answer

@@ -1,5 +1,0 @@
-use Rattle.trace_history.proofs.Trailing.{trails_hold_done_calls_once}
-use Rattle.trace_history.proofs.laws.trails_hold_done_calls_once.Goals as goal
-
-pub returns : goal.returns
-returns c = trails_hold_done_calls_once
