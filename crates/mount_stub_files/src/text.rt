@@ -172,7 +172,7 @@ fn text_there(
     }
 }
 
-/// What a file of an instance shows; `None`, if it is none of these or is not there. The instance is given if it is there.
+/// What a file of an instance shows; `None`, if it is none of these or is not there. `instance` is the owner's, or `None` if that isn't there.
 pub fn text_of(
     alloc: Global,
     config: &Config,

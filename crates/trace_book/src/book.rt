@@ -147,8 +147,7 @@ impl Book {
         self.run_emission(ticket, by, emission)
     }
 
-    // As `ask_emission`, whose clauses are here in one word. It is inlined, so that an emission's parts and its
-    // answer are not moved.
+    // As `ask_emission`, whose clauses are here in one word. It is inlined, so that an emission's parts and its answer are not moved.
     #[inline(always)]
     pub(crate) fn run_emission(
         &mut self,

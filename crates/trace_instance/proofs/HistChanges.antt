@@ -8,7 +8,7 @@ use Rattle.trace_command.specs.declared.command.Config.{Config}
 use Rattle.trace_trigger.specs.declared.spec.Action.{Action}
 use Rattle.trace_hist.specs.Hists.{Seen}
 use Rattle.trace_snapshot.specs.Sides.{HasShapeOf, IsSpareOf, SideFamilies, SidesSeen, StandsFor, with_spare}
-use Rattle.trace_instance.specs.Changes.{IsApplied, IsPossible, hists_changed, sides_changed, table_changed, trigger_changed, triggers_after}
+use Rattle.trace_instance.specs.Changes.{IsApplied, hists_changed, sides_changed, table_changed, trigger_changed, triggers_after}
 use Rattle.trace_instance.specs.Instances.{InstanceSeen, IsAlike, IsShaped, WereOffered}
 use Rattle.trace_instance.specs.KeptHists.{AreHit, KeptTable, asked, asked_if, is_used, kept_at, kept_table}
 use Rattle.trace_instance.specs.Deliveries.{IsOffered, row_of}
@@ -24,7 +24,7 @@ use Rattle.trace_instance.specs.declared.hists.AttachedHist.{AttachedHist}
 use Rattle.trace_instance.specs.declared.instance.Instance.TheInside.{Inside}
 use Rattle.trace_instance.specs.declared.tables.Table.{Table}
 use Rattle.trace_instance.specs.declared.trigger.Trigger.{Trigger}
-use Rattle.trace_instance.proofs.EachEvent.{hists_in, inside_of, read, seen, still, view_of}
+use Rattle.trace_instance.proofs.EachEvent.{hists_in, read, seen, still, view_of}
 use Rattle.trace_instance.proofs.LiveSide.{armed_offered, armed_shaped}
 use Rattle.trace_instance.proofs.Lookups.{kept-still, none-kept}
 
@@ -109,16 +109,6 @@ left-now : (append : Bool) (at : ℕ) (value : InstanceSeen) (old : Inside) (one
     → one ≡ get_or old.events.items at one → (if append then one.triggers.hists else []) ≡ (if append then get_or (all_hists old.events.items) at [] else [])
 left-now true at value old one view within is = hists_in value old at one view within is
 left-now false at value old one view within is = refl
-
--- what can be made of an instance can be made of the event
-pub possible-here : (at : ℕ) (append : Bool) (change : TriggerChange) (value : InstanceSeen) (old : Inside) (one : InstanceEvent) → view_of old ≡ value
-    → at < length value.hists → one ≡ get_or old.events.items at one
-    → IsPossible change (get_or value.triggers at None) (if append then get_or value.hists at [] else [])
-    → IsPossible change one.triggers.snapshot (if append then one.triggers.hists else [])
-possible-here at append change value old one view within is possible =
-    let snapshot : one.triggers.snapshot ≡ get_or (all_triggers old.events.items) at None =
-    read (λ (e : InstanceEvent). e.triggers.snapshot) old.events.items at one None is (inside_of value old at view within) in
-    rw (snapshot, left-now append at value old one view within is) (rw (← view) at possible)
 
 pub are_set : (at : ℕ) (append : Bool) (change : TriggerChange) (value : InstanceSeen) (old : Inside) (one : InstanceEvent) (new : TriggersSeen)
     (tables : List Table) (sides : SidesSeen) → view_of old ≡ value → at < length value.hists → one ≡ get_or old.events.items at one

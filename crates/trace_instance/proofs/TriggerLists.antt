@@ -246,6 +246,10 @@ many-there list is = ap length is ∙ by (snapshot_in list) (hists_in list)
         let both = length-filter_both older newer (λ a. refl) hists in
         omega (arith, all, both, many-hists (filter older hists), many-hists (filter newer hists))
 
+pub hist-only : (t : EventTrigger) → not (is_snapshot t) ≡ is_hist (λ a. true) t
+hist-only (Snapshot t) = refl
+hist-only (Hist a) = refl
+
 -- ---- one after the other
 
 -- a loop over a list is at an index: what is left of its hist triggers is what is left of these, from another index on

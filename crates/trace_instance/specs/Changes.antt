@@ -133,7 +133,7 @@ sides_changed cpus pages page_bytes FreeSpare f = without_spare f
 sides_changed cpus pages page_bytes ClearSpare f = spare_cleared f
 sides_changed cpus pages page_bytes change f = record { live = rings_changed pages page_bytes change f.live; spare = f.spare }
 
--- a trigger with this number can be attached where these are left: there is room for it, and they were attached before
+-- a trigger with this number can be attached where these are left: there is room, and each of these was attached before it
 pub record IsNewest (number : ℕ) (trigger : Option Trigger) (hists : List AttachedHist) : Type 0 where
   pub few : length hists + (if is_some trigger then 1 else 0) < 4
   pub after_snapshot : IfSome trigger (λ t. t.number < number)
@@ -146,7 +146,7 @@ IsPossible (AttachHist attached) trigger hists = IsNewest attached.value.number 
 IsPossible (MakeHist made) trigger hists = IsNewest made.value.attached.number trigger hists
 IsPossible change trigger hists = ⊤
 
--- a change can be made: what it names is there
+-- a change can be made: what it names is there, and a trigger that it attaches has room and is the newest
 abbrev pub IsLawful : InstanceSeen → InstanceChange → Type 0
 IsLawful i (Switch index flag) = index < length i.enabled
 IsLawful i (SetFilter index new) = index < length i.filters

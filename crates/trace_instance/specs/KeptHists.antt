@@ -22,7 +22,7 @@ use Rattle.trace_instance.specs.declared.tables.Table.{Table}
 abbrev pub says_same : SpecSeen → AttachedHist → Bool
 says_same spec attached = is_same spec attached.spec
 
--- those of them that say something else
+-- an event's hist triggers without those that say the same
 abbrev pub without_same : SpecSeen → List AttachedHist → List AttachedHist
 without_same spec hists = filter (λ (a : AttachedHist). not (says_same spec a)) hists
 

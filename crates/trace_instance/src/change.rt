@@ -62,7 +62,7 @@ pub enum TriggerChange {
     AttachHist(Box<AttachedHist>),
     /// Attaches a hist trigger with a table of its own.
     MakeHist(Box<NewHist>),
-    /// Removes the hist trigger that matches.
+    /// Removes the hist trigger that matches this, if there is one.
     DetachHist(HistSpec),
     /// Applies an action to the table with this number, that of the matching hist trigger.
     AskTable(u64, Action),

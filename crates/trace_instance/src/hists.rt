@@ -15,7 +15,7 @@ use trace_text::Shown;
 /// The most triggers, of all kinds, that an event may have in an instance.
 pub const MOST_TRIGGERS: usize = 4;
 
-/// Whether an emission passes each hist trigger's filter, by index; `false` beyond the last one.
+/// Whether an emission passes each hist trigger's filter, by its index among the hist triggers; `false` beyond the last one.
 pub type Passed = [bool; MOST_TRIGGERS];
 
 /// An attached hist trigger.

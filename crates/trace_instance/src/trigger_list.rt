@@ -55,7 +55,7 @@ impl TriggerList {
     pub(crate) fn has_hists(&self) -> bool
         ensures { result ≡ not (length self.now.hists == 0) }
     {
-        self.count(true) > self.snapshot().is_some() as usize
+        self.triggers.iter().any(|trigger| !trigger.is_snapshot())
     }
 
     pub(crate) fn is_empty(&self) -> bool

@@ -102,7 +102,7 @@ pub(crate) fn give<W: Sink>(
     Ok(line_status(outcome))
 }
 
-/// Gives the outcome of a line whose command was answered so, as `give` does, or tells why the session stops. It is kept out of line, so that emissions
+/// Gives the outcome of a line whose command got this answer, as `give` does, or tells why the session stops. It is kept out of line, so that emissions
 /// that are done don't take the room of the outcome.
 #[inline(never)]
 #[tactic(auto, using(crate::proofs::Stepping::no_fault, crate::proofs::EmissionTurns::told_faultless))]

@@ -42,7 +42,7 @@ abbrev pub HasTable : List Table → EventTrigger → Type 0
 HasTable tables (Snapshot t) = ⊤
 HasTable tables (Hist a) = is_some (table_numbered a.table tables) ≡ true
 
--- a trigger for snapshots is the only one
+-- if it is for snapshots, there is none yet
 abbrev pub IsOnly : EventTrigger → Option Trigger → Type 0
 IsOnly (Snapshot t) old = old ≡ None
 IsOnly (Hist a) old = ⊤
@@ -52,7 +52,7 @@ abbrev pub with_snapshot : EventTrigger → Option Trigger → Option Trigger
 with_snapshot (Snapshot t) old = Some t
 with_snapshot (Hist a) old = old
 
--- one for snapshots that acted acts once less
+-- a snapshot trigger that acted acts once less
 abbrev pub counted : EventTrigger → EventTrigger
 counted (Snapshot t) = Snapshot (acted_once t)
 counted (Hist a) = Hist a
