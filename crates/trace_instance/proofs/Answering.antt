@@ -2,6 +2,7 @@
 use Rattle.std.proofs.Common.{◌≡◌, ℕ, ◌+◌, ◌<◌, ◌≤◌, nat_lt, Bool, true, false, not, ◌||◌, if◌then◌else◌, List, [], ◌∷◌, length, All, IfSome, is_some, option_map, Option, None, Some, Result, Ok, Err, refl, sym, ap, ◌∙◌, subst, arith, lt-ltb, ltb-true}
 use Rattle.std.specs.List.{find, list_any}
 use Rattle.std.proofs.lemmas.List.{get_or-map, length-map}
+use Rattle.trace_lex.proofs.Options.{none_is}
 use Rattle.trace_format.specs.Definitions.{Definition}
 use Rattle.trace_trigger.specs.HistSpecs.{SpecSeen}
 use Rattle.trace_trigger.specs.declared.spec.Action.{Action}
@@ -41,7 +42,7 @@ use Rattle.tracer_specification.proofs.NamedTables.{fit-fewer}
 use Rattle.trace_instance.proofs.FittingTables.{fit-tables, left-fit}
 use Rattle.trace_instance.proofs.EachEvent.{any-map}
 use Rattle.trace_instance.proofs.OneSays.{some-found}
-use Rattle.trace_instance.proofs.Snapshotting.{none-is, refused, some-mapped, there-is}
+use Rattle.trace_instance.proofs.Snapshotting.{refused, some-mapped, there-is}
 
 -- ---- what the requests say of what is kept
 
@@ -233,7 +234,7 @@ some-snapshot name past event kept are some = there-is (trigger_of name event pa
 
 no-snapshot : (name : Option (List ℕ)) (past : List Request) (event : Definition) (kept : EventTriggers) → AreKept name past event kept
     → is_some kept.own.now.triggers.snapshot ≡ false → trigger_of name event past ≡ None
-no-snapshot name past event kept are none = none-is (trigger_of name event past) (has-snapshot name past event kept are ∙ none)
+no-snapshot name past event kept are none = none_is (trigger_of name event past) (has-snapshot name past event kept are ∙ none)
 
 pub attach-exists : (trigger : SnapshotTrigger) (kept : EventTriggers) (written : WrittenText) → is_some kept.own.now.triggers.snapshot ≡ true
     → IsAttached trigger kept written (Err refusal.TriggerExists)
@@ -274,7 +275,7 @@ attach-done trigger kept written none few = λ event name past number are is.
             ∙ ap (λ (n : ℕ). (let t : Option Trigger = Some (record { number = n; left = trigger.count; filter = trigger.filter }) in t)) number;
         hists = hists-stay name past event are.id written.append written.text.now are.named (Ok (said.Attach trigger)) is refl;
         possible = (
-          sym are.snapshot ∙ none-is kept.own.now.triggers.snapshot none,
+          sym are.snapshot ∙ none_is kept.own.now.triggers.snapshot none,
           rw (← number) (newest-left name past event kept written.append are few),
         );
         tables = λ table. tables-stay name past event are.id written.append written.text.now are.named (Ok (said.Attach trigger)) table is refl;

@@ -1,5 +1,5 @@
 -- Filters that are written: of one event, and of all.
-use Rattle.std.proofs.Common.{◌≡◌, ◌≢◌, ℕ, ◌+◌, ◌<◌, Bool, true, false, ◌||◌, cond, List, [], ◌∷◌, ◌++◌, length, map, drop, get_or, append_assoc, Option, Some, None, Result, Ok, Err, refl, sym, ap, ◌∙◌, subst, arith}
+use Rattle.std.proofs.Common.{◌≡◌, ◌≢◌, ℕ, ◌+◌, ◌<◌, Bool, true, false, ◌||◌, List, [], ◌∷◌, ◌++◌, length, map, drop, get_or, append_assoc, Option, Some, None, Result, Ok, Err, refl, sym, ap, ◌∙◌, subst, arith}
 use Rattle.std.proofs.lemmas.List.{at_drop_more}
 use Rattle.std.specs.List.{list_any}
 use Rattle.trace_filter.specs.declared.fault.FilterFault.{FilterFault}
@@ -9,7 +9,6 @@ use Rattle.trace_format.specs.Definitions.{Definition}
 use Rattle.tracer_specification.specs.History.{filter_answer, filter_of_all_answer}
 use Rattle.trace_command.specs.Refusals.{refusal_of_filter, IsFoundEarly, IsRefusal}
 use Rattle.tracer_specification.specs.Settings.{clears_filter, can_take}
-use Rattle.trace_command.specs.declared.command.Reply.{Reply}
 use Rattle.trace_command.specs.declared.command.Reply.TheVariants as reply
 use Rattle.trace_command.specs.declared.refusal.Refusal.{Refusal}
 use Rattle.trace_command.specs.declared.refusal.Refusal.TheVariants as refusal
@@ -17,6 +16,7 @@ use Rattle.trace_instance.specs.Changes.{change_of, changed_filter, changed_filt
 use Rattle.trace_instance.specs.private.Commands.{IsWrittenFilter}
 use Rattle.trace_instance.specs.declared.change.FilterChange.{FilterChange}
 use Rattle.trace_instance.specs.declared.change.FilterChange.TheVariants as change
+use Rattle.trace_instance.proofs.Calm.{either-same}
 
 -- ---- one filter
 
@@ -76,14 +76,10 @@ some-can : (text : List ℕ) (events : List Definition)
     → list_any (λ (event : Definition). is_set (change_of text event)) events ≡ list_any (can_take text) events
 some-can text events = λ i. list_any (λ (event : Definition). set-can text event i) events
 
-done-either : (some : Bool) → cond some (let r : Result Reply Refusal = Ok reply.Done in r) (Ok reply.Done) ≡ Ok reply.Done
-done-either true = refl
-done-either false = refl
-
 pub all-done : (text : List ℕ) (event : Definition) (events : List Definition) → filter_answer text event ≡ Ok reply.Done
     → filter_of_all_answer text (event ∷ events) ≡ Ok reply.Done
 unfolding filter_of_all_answer
-all-done text event events done = rw done (done-either (list_any (can_take text) (event ∷ events)))
+all-done text event events done = rw done (either-same (list_any (can_take text) (event ∷ events)) (Ok reply.Done))
 
 -- none of its refusals is found early, where there is an event
 pub all-late : (text : List ℕ) (event : Definition) (events : List Definition) → IsFoundEarly (filter_of_all_answer text (event ∷ events)) → ⊥

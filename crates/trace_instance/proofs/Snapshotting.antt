@@ -45,10 +45,6 @@ pub there-is : {A : Type 0} (o : Option A) → is_some o ≡ true → (x : A) ×
 there-is None is = absurd (cc)
 there-is (Some x) is = (x, refl)
 
-pub none-is : {A : Type 0} (o : Option A) → is_some o ≡ false → o ≡ None
-none-is None is = refl
-none-is (Some x) is = absurd (cc)
-
 -- ---- which triggers there are
 
 any-kept : (name : Option (List ℕ)) (past : List Request) (events : List Definition)
