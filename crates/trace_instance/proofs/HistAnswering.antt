@@ -1,5 +1,6 @@
 -- What a text that says something of a hist trigger answers, and that the change made of it is the one that the definitions say.
 use Rattle.std.proofs.Common.{◌≡◌, ℕ, ◌<◌, ◌≤◌, length, Bool, true, false, not, ◌&&◌, ◌||◌, if◌then◌else◌, List, ◌∷◌, is_some, Option, None, Some, Result, Ok, Err, refl, sym, ap, ◌∙◌, subst, arith}
+use Rattle.std.specs.Global.{Box}
 use Rattle.std.specs.List.{list_any}
 use Rattle.trace_format.specs.Definitions.{Definition}
 use Rattle.trace_trigger.specs.HistSpecs.{SpecSeen}
@@ -29,7 +30,7 @@ use Rattle.trace_instance.proofs.Attached.{IsNamed, all-are, all_left, hists-ask
 use Rattle.tracer_specification.proofs.NamedTables.{fit-fewer}
 use Rattle.trace_instance.proofs.FittingTables.{fit-tables, left-fit}
 use Rattle.trace_instance.proofs.Snapshotting.{refused}
-use Rattle.trace_instance.proofs.Answering.{answered, count-left, fit-stays, found-left, has-same, has-same_left, room-full, room-had}
+use Rattle.trace_instance.proofs.Answering.{answered, count-left, done-late, fit-stays, found-left, has-same, has-same_left, room-full, room-had}
 
 -- ---- what is asked of one that is attached
 
@@ -182,14 +183,14 @@ fit-removed name past event id append text spec named is fit =
     (λ t there. (in-filter t (λ (u : HistTrigger). not (is_of event u && says_same_as spec u)) left (subst (IsIn t) fewer there)).0)
     (left-fit name past event append fit))
 
-pub remove-done : (spec : SpecSeen) (kept : EventTriggers) (written : WrittenText) → may_remove spec kept written.append ≡ true
-    → IsRemovedHist spec kept written (Ok (DetachHist spec))
-remove-done spec kept written may = λ event name past number are is. (
+pub remove-done : (spec : SpecSeen) (boxed : Box SpecSeen) (kept : EventTriggers) (written : WrittenText) → boxed.value ≡ spec
+    → may_remove spec kept written.append ≡ true → IsRemovedHist spec kept written (Ok (DetachHist boxed))
+remove-done spec boxed kept written same may = λ event name past number are is. (
   removed-answer event kept written spec name past are is
       ∙ ap (λ (b : Bool). (let a : Result Reply Refusal = if b then Ok Done else Err refusal.NoSuchTrigger in a)) may,
   record {
     snapshot = snapshot-stays name past event written.append written.text.now (Ok (said.RemoveHist spec)) is refl;
-    hists = hists-removed name past event are.id written.append written.text.now are.named spec is;
+    hists = rw same (hists-removed name past event are.id written.append written.text.now are.named spec is);
     possible = tt;
     tables = λ table. tables-stay name past event are.id written.append written.text.now are.named (Ok (said.RemoveHist spec)) table is refl;
     joined = tt;
@@ -197,6 +198,12 @@ remove-done spec kept written may = λ event name past number are is. (
     spare = rw is refl;
   },
 )
+
+pub remove-late : (spec : SpecSeen) (kept : EventTriggers) (written : WrittenText) → may_remove spec kept written.append ≡ true
+    → IsRemovedHist spec kept written (Err refusal.Memory)
+remove-late spec kept written may = λ event name past number are is. done-late (trigger_answer name past written.append written.text.now event)
+    (removed-answer event kept written spec name past are is
+    ∙ ap (λ (b : Bool). (let a : Result Reply Refusal = if b then Ok Done else Err refusal.NoSuchTrigger in a)) may)
 
 pub remove-lacks : (spec : SpecSeen) (kept : EventTriggers) (written : WrittenText) → may_remove spec kept written.append ≡ false
     → IsRemovedHist spec kept written (Err refusal.NoSuchTrigger)

@@ -98,7 +98,7 @@ changed-all : (P : AttachedHist → Type 0) (change : TriggerChange) (hists : Li
     → All P (hists_changed change hists)
 changed-all P (AttachHist attached) hists all new = All-push P hists attached.value all new
 changed-all P (MakeHist made) hists all new = All-push P hists made.value.attached all new
-changed-all P (DetachHist spec) hists all new = All-filter (λ (a : AttachedHist). not (says_same spec a)) P hists all
+changed-all P (DetachHist spec) hists all new = All-filter (λ (a : AttachedHist). not (says_same spec.value a)) P hists all
 changed-all P change hists all new = all
 
 -- each is one of those before, or the one that the change attaches

@@ -1,5 +1,5 @@
 -- For which trigger texts no memory is taken.
-use Rattle.std.proofs.Common.{◌≡◌, ◌≢◌, ℕ, Bool, true, false, ◌||◌, inl, inr, codes, if◌then◌else◌, is_some, List, length, take, drop, Option, Some, None, Ok, bytes_eq, refl}
+use Rattle.std.proofs.Common.{◌≡◌, ◌≢◌, ℕ, Bool, true, false, ◌||◌, inl, inr, codes, if◌then◌else◌, is_some, List, length, take, drop, Option, Some, None, Result, Ok, Err, bytes_eq, refl}
 use Rattle.std.proofs.lemmas.Slice.Eq.{bytes_eq-Decides}
 use Rattle.std.specs.List.{list_all}
 use Rattle.trace_lex.specs.Blanks.{is_blank}
@@ -7,9 +7,10 @@ use Rattle.trace_format.specs.Definitions.{Definition}
 use Rattle.trace_trigger.specs.HistSpecs.{SpecSeen}
 use Rattle.trace_trigger.specs.HistTexts.{IsHistText, spec_of}
 use Rattle.trace_trigger.specs.TriggerAnswers.{◌>>=◌}
-use Rattle.trace_trigger.specs.TriggerTexts.{begins, is_hist_text, said_of, snapshot_said}
+use Rattle.trace_trigger.specs.TriggerTexts.{after, begins, is_hist_text, said_after, said_of, snapshot_said, trigger_of}
 use Rattle.trace_trigger.specs.declared.fault.TriggerFault.{TriggerFault}
 use Rattle.trace_trigger.specs.declared.fault.TriggerFault.TheVariants as fault
+use Rattle.trace_trigger.specs.declared.trigger.SnapshotTrigger.{SnapshotTrigger}
 use Rattle.trace_trigger.specs.declared.trigger.TriggerText.TheVariants as said
 use Rattle.trace_command.specs.Refusals.{refusal_of_trigger}
 use Rattle.trace_command.specs.declared.refusal.Refusal.TheVariants.{Memory}
@@ -34,6 +35,30 @@ hist-begins definition text spec e =
     blank false true is two also h = rw is refl
     blank false false is true also h = rw (is, also) refl
     blank false false is false also h = absurd (snapshot-no_hist definition text spec h)
+
+-- so does one that removes a hist trigger
+pub removed-begins : (definition : Definition) (text : List ℕ) (spec : SpecSeen) → said_of definition text ≡ Ok (said.RemoveHist spec) → is_hist_text text ≡ true
+unfolding said_of snapshot_said
+removed-begins definition text spec e =
+    blank (list_all is_blank text) (begins (codes "hist:") text) refl (begins (codes "!hist:") text) refl (after (codes "!") text) e
+  where
+    attached : (read : Result SnapshotTrigger TriggerFault) → (read >>= λ t. Ok (said.Attach t)) ≡ Ok (said.RemoveHist spec) → ⊥
+    attached (Ok t) h = cc
+    attached (Err f) h = cc
+
+    removed : (read : Result SnapshotTrigger TriggerFault) → (read >>= λ t. Ok said.Remove) ≡ Ok (said.RemoveHist spec) → ⊥
+    removed (Ok t) h = cc
+    removed (Err f) h = cc
+
+    blank : (nothing one : Bool) → begins (codes "hist:") text ≡ one → (two : Bool) → begins (codes "!hist:") text ≡ two → (body : Option (List ℕ))
+        → (if nothing then Ok said.Nothing
+        else if one then (spec_of definition text >>= λ s. Ok (said.Hist s)) else if two then (spec_of definition text >>= λ s. Ok (said.RemoveHist s)) else said_after definition text body) ≡ Ok (said.RemoveHist spec)
+        → is_hist_text text ≡ true
+    blank true one is two also body h = absurd (cc)
+    blank false true is two also body h = rw is refl
+    blank false false is true also body h = rw (is, also) refl
+    blank false false is false also None h = absurd (attached (trigger_of definition text text) h)
+    blank false false is false also (Some body) h = absurd (removed (trigger_of definition text body) h)
 
 -- a string that begins so begins with these bytes
 begun : (beginning text : List ℕ) → begins beginning text ≡ true → take (length beginning) text ≡ beginning

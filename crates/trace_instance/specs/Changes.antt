@@ -75,7 +75,7 @@ triggers_after change triggers = triggers
 abbrev pub hists_changed : TriggerChange → List AttachedHist → List AttachedHist
 hists_changed (AttachHist attached) hists = hists ++ attached.value ∷ []
 hists_changed (MakeHist made) hists = hists ++ made.value.attached ∷ []
-hists_changed (DetachHist spec) hists = without_same spec hists
+hists_changed (DetachHist spec) hists = without_same spec.value hists
 hists_changed change hists = hists
 
 -- those of each event

@@ -64,7 +64,7 @@ impl<'a> EventTriggers<'a> {
             ),
             TriggerText::Remove => Err(Refusal::NoSuchTrigger),
             TriggerText::Hist(spec) => self.asked(alloc, event, written, spec),
-            TriggerText::RemoveHist(spec) => self.removed(written, spec),
+            TriggerText::RemoveHist(spec) => self.removed(alloc, written, spec),
         }
     }
 
@@ -124,14 +124,18 @@ impl<'a> EventTriggers<'a> {
     }
 
     // Removes the matching hist trigger. With `>` there may be none, since that removes all of the event's hist triggers.
-    fn removed(self, written: WrittenText<'_>, spec: HistSpec) -> Result<TriggerChange, Refusal>
-        ensures change { attaching.IsRemovedHist spec self.entry written.entry result }
-        ensures memory { IfErr result (λ r. r ≢ Refusal.Memory) }
+    fn removed(
+        self,
+        alloc: Global,
+        written: WrittenText<'_>,
+        spec: HistSpec,
+    ) -> Result<TriggerChange, Refusal>
+        ensures { attaching.IsRemovedHist spec self.entry written.entry result }
     {
         if written.append && self.own.triggers.matching(&spec).is_none() {
             return Err(Refusal::NoSuchTrigger);
         }
-        Ok(TriggerChange::DetachHist(spec))
+        Ok(TriggerChange::DetachHist(Box::new(alloc, spec)?))
     }
 
     // The matching hist trigger, among those that remain.

@@ -63,7 +63,7 @@ pub enum TriggerChange {
     /// Attaches a hist trigger with a table of its own.
     MakeHist(Box<NewHist>),
     /// Removes the hist trigger that matches this, if there is one.
-    DetachHist(HistSpec),
+    DetachHist(Box<HistSpec>),
     /// Applies an action to the table with this number, that of the matching hist trigger.
     AskTable(u64, Action),
 }

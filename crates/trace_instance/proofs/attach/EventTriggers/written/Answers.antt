@@ -4,7 +4,7 @@ use Rattle.trace_trigger.specs.TriggerTexts.{HasFilter, is_hist_text, said_of}
 use Rattle.trace_trigger.specs.declared.fault.TriggerFault.TheVariants as fault
 use Rattle.trace_trigger.specs.declared.trigger.TriggerText.TheVariants as said
 use Rattle.trace_instance.proofs.Answering.{text-detaches, text-lacks, text-nothing, text-refused}
-use Rattle.trace_instance.proofs.LateTexts.{hist-begins, other-fault}
+use Rattle.trace_instance.proofs.LateTexts.{hist-begins, other-fault, removed-begins}
 use Rattle.trace_instance.proofs.attach.EventTriggers.written.Goals as goal
 
 pub returns-in_err-parse-clause-change : goal.returns-in_err-parse-clause-change
@@ -44,7 +44,7 @@ returns-in-Hist-clause-change c = λ name past number are.
 pub returns-in-RemoveHist-clause-change : goal.returns-in-RemoveHist-clause-change
 returns-in-RemoveHist-clause-change c = λ name past number are.
     let read : said_of c.args.event.now c.args.written.text.now ≡ Ok (said.RemoveHist c.in-RemoveHist.spec) = c.in_ok-parse.ensures.exact ∙ ap Ok c.in-RemoveHist.is in
-    c.removed.ensures.change c.args.event.now name past number are read
+    c.removed.ensures c.args.event.now name past number are read
 
 pub returns-in_err-parse-clause-memory : goal.returns-in_err-parse-clause-memory
 returns-in_err-parse-clause-memory c = λ unfiltered plain.
@@ -57,6 +57,12 @@ returns-in_err-parse-clause-memory c = λ unfiltered plain.
     ] in
     let out : c.from_residual.result ≡ Err (refusal_of_trigger faulty) = search rules in
     rw out (other-fault faulty (λ is. neither (taken is)))
+
+pub returns-in-RemoveHist-clause-memory : goal.returns-in-RemoveHist-clause-memory
+returns-in-RemoveHist-clause-memory c = λ unfiltered plain.
+    let read : said_of c.args.event.now c.args.written.text.now ≡ Ok (said.RemoveHist c.in-RemoveHist.spec) = c.in_ok-parse.ensures.exact ∙ ap Ok c.in-RemoveHist.is in
+    let hist : is_hist_text c.args.written.text.now ≡ true = removed-begins c.args.event.now c.args.written.text.now c.in-RemoveHist.spec read in
+    absurd (cc (hist, plain))
 
 pub returns-in-Hist-clause-memory : goal.returns-in-Hist-clause-memory
 returns-in-Hist-clause-memory c = λ unfiltered plain.

@@ -17,7 +17,7 @@ pub returns-in-DetachHist-clause-applied : goal.returns-in-DetachHist-clause-app
 returns-in-DetachHist-clause-applied c =
     rw c.in-DetachHist.is (are_set c.args.event c.args.append _ c.args.self.now c.self-in-DetachHist.inside c.index_mut-in-DetachHist.result.now _ _ _
     c.self-in-DetachHist.view_is c.requires.hists c.index_mut-in-DetachHist.ensures.value
-    (record { snapshot = c.detach_hist.ensures.snapshot; hists = c.detach_hist.ensures.hists }) (λ n. unasked _) (same_sides _ _ _ _ (λ f. refl)))
+    (record { snapshot = c.detach_hist.ensures.snapshot; hists = rw c.deref.ensures at c.detach_hist.ensures.hists }) (λ n. unasked _) (same_sides _ _ _ _ (λ f. refl)))
 
 pub returns-in-AskTable-clause-applied : goal.returns-in-AskTable-clause-applied
 returns-in-AskTable-clause-applied c =
