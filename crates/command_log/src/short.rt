@@ -73,8 +73,8 @@ fn put_long(out: &mut [u8], at: usize, text: &[u8])
     put_piece(out, at, text);
 }
 
-// Writes eight bytes or more at an offset.
-#[inline(always)]
+// Writes eight bytes or more at an offset. It is kept out of line, so that all else that an emission takes is one function.
+#[inline(never)]
 fn put_many(out: &mut [u8], at: usize, text: &[u8])
     requires room { at + length text.now ≤ length out.old }
     requires many { 8 ≤ length text.now }
