@@ -46,23 +46,12 @@ use trace_format::{Emission, Row};
 use trace_trigger::{Action, HistSpec};
 
 /// The histogram of a trigger: an entry for each key, with a count and sums.
+#[derive(Drop)]
 pub struct Hist {
     alloc: Global,
     spec: HistSpec,
     paused: bool,
     counts: Counts,
-}
-
-impl Drop for Hist {
-    // Not derived, so that no crate above proves the drops of its parts.
-    fn drop(self) {
-        let Hist {
-            alloc: _,
-            spec: _,
-            paused: _,
-            counts: _,
-        } = self;
-    }
 }
 
 impl Model for Hist {

@@ -22,6 +22,7 @@ use std::mem;
 use trace_buffer::Buffer;
 
 /// The rings of an instance: a live side, which is written to and read, and perhaps a spare one, which a snapshot shows.
+#[derive(Drop)]
 pub struct Sides {
     alloc: Global,
     cpus: u32,
@@ -29,20 +30,6 @@ pub struct Sides {
     page_bytes: u32,
     live: Buffer,
     spare: Option<Buffer>,
-}
-
-impl Drop for Sides {
-    // Not derived, so that no crate above proves the drops of its parts.
-    fn drop(self) {
-        let Sides {
-            alloc: _,
-            cpus: _,
-            pages: _,
-            page_bytes: _,
-            live: _,
-            spare: _,
-        } = self;
-    }
 }
 
 impl Model for Sides {
