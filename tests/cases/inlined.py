@@ -23,7 +23,10 @@ def are_inlined(program):
     for sources in sorted((TOP / "crates").glob("*/src")):
         hints.update(hints_of(sources.parent.name, sources))
     always = {name for name, words in hints.items() if "alwaysinline" in words}
-    left = [name for name in sorted(names_in(program)) if name in always or "::".join([name.split("::")[0], *name.split("::")[-2:]]) in always]
+    names = names_in(program)
+    if not any(name.startswith("trace_session::") for name in names):
+        return ["it has no table of symbols, so nothing is known"]
+    left = [name for name in sorted(names) if name in always or "::".join([name.split("::")[0], *name.split("::")[-2:]]) in always]
     return ["%s is not inlined: it has grown too large" % name for name in left]
 
 
