@@ -10,8 +10,9 @@ from cases.words import named
 CHECKED = "echo \"%s $* RT_JOBS=$RT_JOBS $TRACECTL_PROGRAM\"\necho '%d passed, %d failed'\nexit %d"
 # What is proved ahead, run by run.
 AHEAD = (
-    "trace_lex", "fuse_wire fuse_serve", "trace_snapshot", "hist_entries", "record_text", "trace_filter", "trace_trigger", "trace_hist", "trace_text", "tracer_specification", "trace_book",
-    "trace_command", "command_log script_reader parallel_output program_arguments ticket_lock", "trace_hist trace_snapshot", "trace_session", "tracectl_mount", "tracectl",
+    "trace_lex", "fuse_wire fuse_serve", "ticket_lock trace_snapshot", "trace_snapshot", "hist_entries", "record_text", "trace_filter", "trace_trigger", "trace_hist", "trace_text",
+    "tracer_specification", "trace_instance", "trace_book", "trace_command", "refusal_explanations error_log command_log script_reader parallel_output program_arguments",
+    "trace_session", "tracectl_mount", "tracectl",
 )
 CRATES = [*dict.fromkeys(" ".join(AHEAD).split()), "session_laws"]
 CHECK_USAGE = b"usage: ./check [--quick | --planted [CRATE..] | --help]\n"
