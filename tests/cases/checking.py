@@ -11,8 +11,8 @@ CHECKED = "echo \"%s $* RT_JOBS=$RT_JOBS $TRACECTL_PROGRAM\"\necho '%d passed, %
 # What is proved ahead, run by run.
 AHEAD = (
     "trace_lex", "fuse_wire fuse_serve", "ticket_lock trace_snapshot", "trace_snapshot", "hist_entries", "record_text", "trace_filter", "trace_trigger", "trace_hist", "trace_text",
-    "tracer_specification", "trace_instance", "trace_book", "trace_command", "refusal_explanations error_log command_log script_reader parallel_output program_arguments",
-    "trace_session", "tracectl_mount", "tracectl",
+    "tracer_specification", "trace_instance", "trace_book", "refusal_explanations file_list command_log script_reader parallel_output program_arguments", "trace_session error_log",
+    "tracectl_mount", "tracectl",
 )
 CRATES = [*dict.fromkeys(" ".join(AHEAD).split()), "session_laws"]
 CHECK_USAGE = b"usage: ./check [--quick | --planted [CRATE..] | --help]\n"
@@ -44,12 +44,13 @@ def check_cases():
     tests = {name: CHECKED % (name, count, 0, 0) for name, count in counts.items()}
     whole = dict(tests, rt=CHECKED % ("rt", 100, 0, 0))
 
-    def case(name, words, commands, parts, status, settings=(), by=None, stderr=b"", last=None):
+    def case(name, words, commands, parts, status, settings=(), by=None, stderr=b"", last=None, lacks=None):
         def right(_):
             got = checked(words, commands, settings, by)
             found = differences(got._replace(stdout=b"", stderr=b""), Outcome(status, b"", b""))
             found += [] if stderr is None or got.stderr == stderr else ["standard error is %s" % got.stderr]
             found += ["standard output lacks %s: %s" % (part, got.stdout) for part in parts if part.encode() not in got.stdout]
+            found += ["standard output has %s: %s" % (lacks, got.stdout)] if lacks and lacks.encode() in got.stdout else []
             return found + ([] if last is None or got.stdout.endswith(last) else ["standard output is %s" % got.stdout])
 
         return Case("./check: " + name, right)
@@ -71,7 +72,8 @@ def check_cases():
         case("all of it, and rt shares the processors", [], whole, ["rt ci RT_JOBS= "], 0, last=b"\n199 passed, 0 failed\n"),
         case("all of it, and the chain is proved ahead", [], dict(tests, rt=keeping, awk="echo 20000000"), ahead, 0, last=b"\n199 passed, 0 failed\n"),
         case("all of it, and what is proved ahead is not kept", [], dict(tests, rt=forgetting, awk="echo 20000000"), [ahead[0], ahead[-1]], 0, last=b"\n199 passed, 0 failed\n"),
-        case("all of it, and little of its memory is free", [], dict(tests, rt=keeping, awk="echo 9000000"), ahead[-1:], 0, last=b"\n199 passed, 0 failed\n"),
+        case("all of it, and little of its memory is free", [], dict(tests, rt=keeping, awk="echo 9000000"), ahead[-1:], 0, last=b"\n199 passed, 0 failed\n", lacks=ahead[0]),
+        case("all of it, by RT_JOBS, which proves nothing ahead", [], dict(tests, rt=keeping, awk="echo 20000000"), ahead[-1:], 0, jobs, last=b"\n199 passed, 0 failed\n", lacks=ahead[0]),
         case("by a link, with a CDPATH and a TMPDIR that isn't there", [], whole, each, 0, elsewhere, "link", last=b"\n199 passed, 0 failed\n"),
         case("by a relative path, likewise", [], whole, each, 0, elsewhere, "relative", last=b"\n199 passed, 0 failed\n"),
         case("a test that fails", [], dict(whole, **{"tests/threads": CHECKED % ("", 2, 1, 1)}), [], 1, jobs, last=b"\n198 passed, 1 failed\n"),
