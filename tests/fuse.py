@@ -18,6 +18,11 @@ DIRENT = struct.Struct("<QQII")  # fuse_dirent but for its name
 ROOT = 1
 SECONDS = 20
 
+FOPEN_DIRECT_IO, FOPEN_NONSEEKABLE, FOPEN_STREAM, FOPEN_NOFLUSH = 1, 4, 16, 32
+READ_LOCKOWNER, WRITE_LOCKOWNER = 2, 2  # what a call of a process sets, and a page that sendfile wants does not
+POLL_SCHEDULE_NOTIFY = 1
+POLL_MESSAGE = 1  # in the place of the error: FUSE_NOTIFY_POLL
+
 
 def request(opcode, unique, node, body=b"", pid=7, uid=0, gid=0):
     """The bytes of a request."""
@@ -111,19 +116,41 @@ class Server:
         got = self.ask(GETATTR, node, bytes(16))
         return ATTR.unpack_from(got, 16)
 
+    def size_told(self, path):
+        """The size that LOOKUP tells of a path."""
+        folder, _, name = path.rpartition("/")
+        got = self.ask(LOOKUP, self.lookup(folder), name.encode() + b"\0")
+        return ATTR.unpack_from(got, ENTRY.size)[1]
+
+    def open_told(self, node, flags):
+        """The number of an open file, and the flags that the server gives it."""
+        return struct.unpack_from("<QI", self.ask(OPEN, node, struct.pack("<II", flags, 0)))
+
     def open(self, node, flags):
-        return struct.unpack_from("<Q", self.ask(OPEN, node, struct.pack("<II", flags, 0)))[0]
+        return self.open_told(node, flags)[0]
 
     def read_at(self, node, handle, offset, size, flags=0):
-        return self.ask(READ, node, struct.pack("<QQIIQII", handle, offset, size, 0, 0, flags, 0))
+        return self.ask(READ, node, struct.pack("<QQIIQII", handle, offset, size, READ_LOCKOWNER, 0, flags, 0))
 
-    def write_at(self, node, handle, offset, data, pid=None):
-        body = struct.pack("<QQIIQII", handle, offset, len(data), 0, 0, 0, 0) + data
+    def read_page(self, node, handle, offset, size=4096):
+        """A read of a page, as `sendfile` and `splice` make them."""
+        return self.ask(READ, node, struct.pack("<QQIIQII", handle, offset, size, 0, 0, 0, 0))
+
+    def write_at(self, node, handle, offset, data, pid=None, owner=0):
+        body = struct.pack("<QQIIQII", handle, offset, len(data), WRITE_LOCKOWNER, owner, 0, 0) + data
         return struct.unpack_from("<I", self.ask(WRITE, node, body, pid))[0]
 
-    def close(self, node, handle):
-        self.ask(FLUSH, node, struct.pack("<QIIQ", handle, 0, 0, 0))
+    def flush(self, node, handle, owner=0, pid=None):
+        """What each close of a descriptor asks, perhaps one of another process."""
+        self.ask(FLUSH, node, struct.pack("<QIIQ", handle, 0, 0, owner), pid)
+
+    def release(self, node, handle):
+        """What the last close asks."""
         self.ask(RELEASE, node, struct.pack("<QIIQ", handle, 0, 0, 0))
+
+    def close(self, node, handle):
+        self.flush(node, handle)
+        self.release(node, handle)
 
     def cat(self, path, size=65536):
         """The text of a file, read in pieces of this size to its end, or of a pipe until nothing waits."""
@@ -143,7 +170,7 @@ class Server:
     def park(self, node, handle, size=65536):
         """The number of a read that is to wait: its reply comes after that of a later request."""
         self.unique += 2
-        self.send(request(READ, self.unique, node, struct.pack("<QQIIQII", handle, 0, size, 0, 0, 0, 0)))
+        self.send(request(READ, self.unique, node, struct.pack("<QQIIQII", handle, 0, size, READ_LOCKOWNER, 0, 0, 0)))
         return self.unique
 
     def interrupt(self, unique):
@@ -153,6 +180,12 @@ class Server:
     def poll(self, node, handle, number=1, flags=1):
         """The events that a POLL tells. By flags of 1 a message is wanted, with this number, once there are some."""
         return struct.unpack_from("<I", self.ask(POLL, node, struct.pack("<QQII", handle, number, flags, 0x41)))[0]
+
+    def message(self):
+        """The number of a poll that is told that it is ready, in a message, which must be next."""
+        unique, kind, body = self.reply()
+        assert (unique, kind) == (0, POLL_MESSAGE), "a reply to %d, and no message" % unique
+        return struct.unpack("<Q", body)[0]
 
     def echo(self, text, path, append=False, pid=None):
         """`echo TEXT > PATH`, or with `>>`. As in a shell, what a write left is written again."""

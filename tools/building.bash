@@ -208,3 +208,14 @@ choose_program() {
   ahead=$(dated_sources -newermt now)
   [ -z "$ahead" ] || say "${ahead%% *} is dated in the future; ${program#"$top/"} was made from it as it is"
 }
+
+# Prints the version of a crate's program as its sources have it, whether the program that would be run is proved, and the commit, if this is a checkout.
+print_version() {
+  local version commit kind=unproved
+  version=$(sed -n 's/^const VERSION: &str = "\(.*\)";$/\1/p' "$top/crates/program_arguments/src/program.rt")
+  find_sources "$1"
+  ! is_current "$top/crates/$1/out/$1" || kind=proved
+  commit=
+  [ ! -e "$top/.git" ] || commit=$(git -C "$top" describe --always --dirty --abbrev=12 --exclude '*' 2> /dev/null) || commit=
+  echo "$tool $version, $kind${commit:+, commit $commit}"
+}

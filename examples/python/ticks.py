@@ -13,6 +13,6 @@ with Tracer(pages=2, page_bytes=64) as tracer:
     try:
         tracer.write("events/synthetic/tick/filter", "n > and")
     except Refused as refused:
-        print("refused: status %d at %d" % (refused.status, refused.offset))
+        print("refused: %s at %d" % (refused.name, refused.offset))
     print(tracer.read("per_cpu/cpu0/stats").decode(), end="")
     print("entries: %d" % tracer.entries())

@@ -1,11 +1,66 @@
-"""tracectl by ctypes: a tracer whose calls are methods. TRACECTL_LIBRARY names the shared object, which examples/c/build makes."""
+"""tracectl by ctypes: a tracer whose calls are methods. TRACECTL_LIBRARY names the shared object, which examples/c/build makes.
+
+Every argument is checked before anything is called. A string is `str`, which is given as UTF-8, or `bytes`, without a byte 0. A number is an `int`,
+not a `bool`, that fits the C type which takes it. All else is a TypeError or a ValueError, and nothing was done. Python 3.8 or later.
+"""
+from __future__ import annotations
+
 import os
+from collections.abc import Mapping
 from contextlib import AbstractContextManager
 from ctypes import CDLL, Structure, byref, c_char_p, c_int32, c_size_t, c_uint32, c_uint64, create_string_buffer
-from functools import partialmethod
+from threading import current_thread
+from typing import Any, Union
+
+Text = Union[str, bytes]
+FieldValue = Union[Text, int]
 
 NO_OFFSET = c_size_t(-1).value
 UNSIGNED, SIGNED, BYTES = range(3)  # kinds of values
+U32, S32, U64, NUMBER = (0, 2**32 - 1), (-(2**31), 2**31 - 1), (0, 2**64 - 1), (-(2**63), 2**64 - 1)  # the least number and the greatest
+
+# The names of statuses (docs/REFUSALS.md): refusals from 1, faults of lines from 101.
+REFUSALS = """NoSuchFile NotReadable NotWritable BadValue NoSuchEvent EventExists BadDefinition TooBig FilterSyntax NoSuchField WrongOperator
+    HistSyntax BadSize TriggerExists NoSuchTrigger TooMany InstanceExists NoSuchInstance Busy NoSuchCpu BadRow HistoryFull Memory Worn"""
+FAULTS = "LineTooLong BadByte UnclosedQuote UnknownCommand WrongWords BadNumber BlockOutOfPlace TooManyThreads"
+NAMES = {**dict(enumerate(REFUSALS.split(), 1)), **dict(enumerate(FAULTS.split(), 101)), 200: "NotOpen", 201: "AlreadyOpen"}
+
+
+def string(what: str, value: Text) -> bytes:
+    """The bytes of a string. No method of a subclass is asked for them."""
+    if not isinstance(value, (str, bytes)):
+        raise TypeError("%s is str or bytes, not %s" % (what, type(value).__name__))
+    given = str.encode(value) if isinstance(value, str) else b"".join([value])
+    if 0 in given:
+        raise ValueError("%s has no byte 0" % what)
+    return given
+
+
+def number(what: str, value: int, bounds: tuple[int, int]) -> int:
+    """A number within bounds. No method of a subclass is asked for it."""
+    if isinstance(value, bool) or not isinstance(value, int):
+        raise TypeError("%s is int, not %s" % (what, type(value).__name__))
+    given = int.__index__(value)
+    if not bounds[0] <= given <= bounds[1]:
+        raise ValueError("%s is from %d to %d" % (what, *bounds))
+    return given
+
+
+def field_value(value: FieldValue) -> bytes | int:
+    """The value of a field: its bytes, or a number of 64 bits with or without a sign."""
+    if isinstance(value, (str, bytes)):
+        return string("a value", value)
+    if isinstance(value, int):
+        return number("a value", value, NUMBER)
+    raise TypeError("a value is str, bytes or int, not %s" % type(value).__name__)
+
+
+def pair(name: Text, value: FieldValue) -> bytes:
+    """A field as `tracectl_emit` takes it."""
+    given, written = string("a field's name", name), field_value(value)
+    if b"=" in given:
+        raise ValueError("a field's name has no =")
+    return given + b"=" + (written if isinstance(written, bytes) else b"%d" % written)
 
 
 class Settings(Structure):
@@ -13,85 +68,141 @@ class Settings(Structure):
 
 
 class Value(Structure):
-    """A value of a field."""
+    """A value of a field, as `tracectl_emit_values` takes it."""
 
     _fields_ = [("kind", c_uint32), ("number", c_uint64), ("bytes", c_char_p), ("bytes_length", c_size_t)]
 
     @classmethod
-    def of(cls, value):
-        """A number, if 64 bits hold it, or anything else as its bytes."""
-        if isinstance(value, int) and -(2**63) <= value < 2**64:
-            return cls(SIGNED if value < 0 else UNSIGNED, value % 2**64, b"", 0)
-        text = value if isinstance(value, bytes) else str(value).encode()
-        return cls(BYTES, 0, text, len(text))
+    def of(cls, value: FieldValue) -> Value:
+        given = field_value(value)
+        if isinstance(given, bytes):
+            return cls(BYTES, 0, given, len(given))
+        return cls(SIGNED if given < 0 else UNSIGNED, given % 2**64, b"", 0)
 
 
 class Refused(Exception):
-    """A command was refused: its status, the offset of what is wrong if there is one, and the reply."""
+    """A call was refused: its status, the name of that, the offset of what is wrong if there is one, and the reply, for BadRow the field's name."""
 
-    def __init__(self, status, offset, reply):
-        self.status, self.offset, self.reply = status, None if offset == NO_OFFSET else offset, reply
-        super().__init__("status %d, offset %s, reply %r" % (status, self.offset, reply))
+    def __init__(self, status: int, offset: int, reply: bytes) -> None:
+        super().__init__(status, offset, reply)
+        self.status, self.name = status, NAMES.get(status, "Unknown")
+        self.offset = None if offset == NO_OFFSET else offset
+        self.reply = reply
 
-
-def words_of(values):
-    """Values as a call takes them: a string as its bytes and how many they are."""
-    for value in values:
-        value = value.encode() if isinstance(value, str) else value
-        yield value
-        if isinstance(value, bytes):
-            yield c_size_t(len(value))
+    def __str__(self) -> str:
+        at = "" if self.offset is None else " at %d" % self.offset
+        field = " " + self.reply.decode(errors="backslashreplace") if self.reply else ""
+        return "%s%s%s (status %d)" % (self.name, at, field, self.status)
 
 
 class Tracer(AbstractContextManager):
-    """A tracer, to be used in a `with` or closed. Each call is made by the thread that opened it. A limit of 0 on the number of commands is none."""
+    """A tracer, to be used in a `with` or closed. A limit of 0 on the number of commands is none.
 
-    def __init__(self, cpus=1, pages=16, page_bytes=4080, history_limit=0, library=None):
-        self._library = CDLL(library or os.environ["TRACECTL_LIBRARY"])
+    Each call is made by the thread that opened the tracer: by another it is a RuntimeError, and nothing was done. A handler of a signal makes no call
+    of a tracer that it may have interrupted, since that would take its reply away.
+    """
+
+    def __init__(
+        self,
+        cpus: int = 1,
+        pages: int = 16,
+        page_bytes: int = 4080,
+        history_limit: int = 0,
+        library: Text | os.PathLike[str] | None = None,
+    ) -> None:
+        sizes = [number(what, value, U32) for what, value in (("cpus", cpus), ("pages", pages), ("page_bytes", page_bytes))]
+        settings = Settings(*sizes, number("history_limit", history_limit, U64))
+        path = os.environ.get("TRACECTL_LIBRARY", "") if library is None else os.fsdecode(library)
+        if not path:
+            raise ValueError("neither `library` nor TRACECTL_LIBRARY names the shared object")
+        self._library = CDLL(path)
+        self._thread = current_thread()
         self._handle = (c_uint64 * 2)()  # its two words are 0 while it is closed
-        self._ask("open", byref(Settings(cpus, pages, page_bytes, history_limit)))
+        self._ask("open", byref(settings))
 
-    def __exit__(self, *error):
+    def __exit__(self, *error: object) -> None:
         self.close()
 
-    def _call(self, name, *values, result=c_uint32):
+    def _call(self, name: str, *given: Any, result: Any = c_uint32) -> int:
+        """Calls a function of the library. What is given was checked: values of C types, and bytes, of which C takes a pointer and a length."""
+        if current_thread() is not self._thread:
+            raise RuntimeError("a tracer is used by the thread that opened it, and by no other")
         function = getattr(self._library, "tracectl_" + name)
         function.restype = result
-        return function(self._handle, *values)
+        words: list[Any] = []
+        for each in given:
+            words += (each, c_size_t(len(each))) if isinstance(each, bytes) else (each,)
+        return function(self._handle, *words)
 
-    def _ask(self, name, *values):
+    def _ask(self, name: str, *given: Any) -> bytes:
         """Makes a call, and gives its reply."""
-        status = self._call(name, *words_of(values))
-        room = create_string_buffer(self._call("reply_length", result=c_size_t) + 1)
-        count = self._call("reply", c_size_t(0), room, c_size_t(len(room)), result=c_size_t)
+        status = self._call(name, *given)
+        reply = self._reply(self._call("reply_length", result=c_size_t))
         if status:
-            raise Refused(status, self._call("offset", result=c_size_t), room.raw[:count])
+            raise Refused(status, self._call("offset", result=c_size_t), reply)
+        return reply
+
+    def _reply(self, length: int) -> bytes:
+        if not length:
+            return b""
+        room = create_string_buffer(length)
+        count = self._call("reply", c_size_t(0), room, c_size_t(length), result=c_size_t)
         return room.raw[:count]
 
-    def emit(self, event, cpu=0, process=0, **fields):
-        self._ask("emit", event, c_uint32(cpu), c_int32(process), "\0".join("%s=%s" % field for field in fields.items()))
+    def close(self) -> None:
+        """Closes it. Once it is closed, this does nothing, and commands are refused."""
+        self._call("close")
 
-    def number_of(self, event):
+    def line(self, line: Text) -> bytes:
+        """Does a line of a script, and gives what it prints."""
+        return self._ask("line", string("a line", line))
+
+    def emit(self, event: Text, fields: Mapping[Text, FieldValue] = {}, /, *, cpu: int = 0, process: int = 0, **more: FieldValue) -> None:
+        """An event happens, on a CPU and in a process. A field is given by keyword, or in the mapping, as one named `cpu` or `process` is."""
+        if not isinstance(fields, Mapping):
+            raise TypeError("the fields are a mapping, not %s" % type(fields).__name__)
+        pairs = [pair(name, value) for each in (fields, more) for name, value in each.items()]
+        place = c_uint32(number("cpu", cpu, U32)), c_int32(number("process", process, S32))
+        self._ask("emit", string("an event", event), *place, b"\0".join(pairs))
+
+    def number_of(self, event: Text) -> int:
         """The number of an event, by which `emit_values` names it: the ID in its format. This is a read."""
-        lines = self.read("events/synthetic/%s/format" % event).split(b"\n")
+        lines = self.read(b"events/synthetic/%s/format" % string("an event", event)).split(b"\n")
         return int(next(line[4:] for line in lines if line.startswith(b"ID: ")))
 
-    def emit_values(self, number, *values, cpu=0, process=0):
-        """As `emit`, of the event of this number and with the values of its fields in order of declaration, numbers or strings."""
+    def emit_values(self, event: int, /, *values: FieldValue, cpu: int = 0, process: int = 0) -> None:
+        """As `emit`, of the event of this number and with the values of its fields in order of declaration."""
         given = (Value * len(values))(*map(Value.of, values))
-        self._ask("emit_values", c_uint32(number), c_uint32(cpu), c_int32(process), given, c_size_t(len(values)))
+        place = c_uint32(number("cpu", cpu, U32)), c_int32(number("process", process, S32))
+        self._ask("emit_values", c_uint32(number("an event's number", event, U32)), *place, given, c_size_t(len(values)))
 
-    def take(self, path, limit):
-        return self._ask("take", path, c_uint64(limit))
+    def write(self, path: Text, text: Text) -> None:
+        """Writes a string to a file, as `echo TEXT > PATH` does."""
+        self._ask("write", string("a path", path), string("a text", text))
 
-    def waiting(self, path):
+    def append(self, path: Text, text: Text) -> None:
+        """Appends a string to a file, as `echo TEXT >> PATH` does."""
+        self._ask("append", string("a path", path), string("a text", text))
+
+    def read(self, path: Text) -> bytes:
+        """Reads a file to its end."""
+        return self._ask("read", string("a path", path))
+
+    def take(self, path: Text, limit: int) -> bytes:
+        """Reads at most so many records of a pipe."""
+        return self._ask("take", string("a path", path), c_uint64(number("a limit", limit, U64)))
+
+    def waiting(self, path: Text) -> bool:
         """Whether a record waits to be read in a pipe. It is refused as `take` is, but has no reply, and leaves that of the last call."""
-        waits = self._call("waiting", *words_of([path]), result=c_int32)
+        waits = self._call("waiting", string("a path", path), result=c_int32)
         if waits < 0:
             raise Refused(-waits, NO_OFFSET, b"")
         return waits == 1
 
-    line, write, append = partialmethod(_ask, "line"), partialmethod(_ask, "write"), partialmethod(_ask, "append")  # line(text), write(path, text)
-    read, files = partialmethod(_ask, "read"), partialmethod(_ask, "files")  # read(path), files()
-    entries = partialmethod(_call, "entries", result=c_uint64)
-    close = partialmethod(_call, "close")
+    def files(self) -> bytes:
+        """Lists the files that there are, as `tracectl --list` does."""
+        return self._ask("files")
+
+    def entries(self) -> int:
+        """How many commands were done."""
+        return self._call("entries", result=c_uint64)

@@ -83,13 +83,14 @@ class File:
 
     def read_specs(self):
         held, comment, name, start = [], [], None, 0
-        for number, line in enumerate([*self.text.splitlines(), "use"]):
+        lines = [*self.text.splitlines(), "use"]
+        for number, line in enumerate(lines):
             head = HEAD.match(line)
-            ends = head or line.startswith(("--", "use ", "use", "pub mod"))
+            ends = head or line.startswith(("use ", "use", "pub mod")) or (line.startswith("--") and not goes_on(lines[number:], name))
             if name and ends:
                 self.found[name] = Definition(self, name, "\n".join(held).rstrip(), start)
                 held, name = [], None
-            if line.startswith("--"):
+            if line.startswith("--") and not name:
                 comment = [] if line.startswith("-- ----") else [*comment, line]
             elif head and not line.startswith("pub mod"):
                 name, held, comment, start = head.group(1), [*comment, line], [], number
@@ -119,6 +120,11 @@ class File:
         if found and key not in self.found:
             self.found[key] = Definition(self, key, found.group().rstrip(), self.text[: found.start()].count("\n"))
         return self.found.get(key)
+
+
+def goes_on(lines, name):
+    """Whether an equation of this definition follows these comments."""
+    return next(line for line in lines if not line.startswith("--")).startswith("%s " % name)
 
 
 def imports_of(text):

@@ -1,5 +1,5 @@
-"""The library for C and Python: its examples, and scripts of tests/rows done by it line by line, with the list of files after them; also with the
-emissions by values in which each pair gives the field in its place its value."""
+"""The library for C and Python: its examples, calls of the Python module, and scripts of tests/rows done by it line by line, with the list of files
+after them; also with the emissions by values in which each pair gives the field in its place its value."""
 import atexit
 import os
 import re
@@ -9,6 +9,7 @@ import sys
 import tempfile
 from pathlib import Path
 
+from cases.python_calls import python_cases
 from cases.running import TOP, Case, Outcome, differences, run, text_differences
 from cases.scripts import scripts_of, wanted, words_of
 
@@ -97,7 +98,7 @@ def example_case(name, command, folder, stdout):
 def calling_cases():
     reason = unusable()
     if reason:
-        print("the library for C and Python was skipped: %s" % reason, flush=True)
+        print("skipped: the library for C and Python, as %s" % reason, flush=True)
         return []
     folder = built()
     sys.path.insert(0, str(PYTHON))
@@ -119,4 +120,4 @@ def calling_cases():
         example_case("tests/calling/limits.c", [folder / "limits"], folder, CALLING / "limits.stdout"),
         example_case("tests/calling/values.c", [folder / "values"], folder, CALLING / "values.stdout"),
         example_case("examples/python/ticks.py", [sys.executable, PYTHON / "ticks.py"], folder, PYTHON / "ticks.stdout"),
-    ] + list(map(script_case, scripts)) + [values_case(script) for script in scripts if b"\nemit " in script.read_bytes()]
+    ] + python_cases(folder / "libtracectl.so") + list(map(script_case, scripts)) + [values_case(script) for script in scripts if b"\nemit " in script.read_bytes()]

@@ -39,8 +39,41 @@ def checked(words, commands, settings=(), by=None):
         return run(["env", "-u", "RT_JOBS", "-u", "TRACECTL_PROGRAM", "PATH=" + path] + list(settings) + command + words)
 
 
+def gate(user, has, status=0):
+    """What .ci/run calls apt-get with, without its options, for this user where these commands are there and apt-get has this status; and its outcome."""
+    with tempfile.TemporaryDirectory() as top:
+        commands, calls = Path(top) / "commands", Path(top) / "calls"
+        for folder in (commands, Path(top) / ".ci"):
+            folder.mkdir()
+        shutil.copy(str(TOP / ".ci" / "run"), str(Path(top) / ".ci"))
+        for name in ("bash", "env", "timeout", "dirname"):
+            (commands / name).symlink_to(shutil.which(name))
+        lines = {"commands/id": "echo %d" % user, "commands/apt-get": "echo \"$*\" >> '%s'; exit %d" % (calls, status), "check": "echo checked"}
+        for name, text in dict(lines, **{"commands/%s" % name: "exit 0" for name in has}).items():
+            (Path(top) / name).write_text("#!/bin/bash\n%s\n" % text)
+            (Path(top) / name).chmod(0o755)
+        got = run(["env", "PATH=%s" % commands, Path(top) / ".ci" / "run"])
+        called = [line.split() for line in (calls.read_text().splitlines() if calls.exists() else [])]
+        return sorted(words[-1] for words in called), got
+
+
+def installs(_):
+    """.ci/run installs what the tests want and what is missing, if it is root's, and checks in any case."""
+    every = ["busybox", "cc", "fusermount3", "groff", "pkg-config", "python3", "strace", "trace-cmd"]
+    packages = ["busybox-static", "fuse3", "gcc", "groff-base", "libc6-dev", "libtracefs-dev", "pkg-config", "python3", "strace", "trace-cmd"]
+    wanted = (
+        (gate(0, []), packages + ["update"]),
+        (gate(0, every), []),
+        (gate(0, [name for name in every if name != "strace"]), ["strace", "update"]),
+        (gate(0, [], 100), ["update"]),
+        (gate(1000, []), []),
+    )
+    found = [difference for (_, got), _ in wanted for difference in differences(got, Outcome(0, b"checked\n", b""))]
+    return found + ["apt-get is called with %s, expected %s" % (called, want) for (called, _), want in wanted if called != sorted(want)]
+
+
 def check_cases():
-    counts = {"tests/program": 20, "tests/threads": 3, "tests/allocations": 10, "tests/tried": 29, "tests/planted": 5, "tests/archive": 1, "tests/unproved": 7, "tests/library": 4, "tests/mount": 2, "tests/mounted": 6, "tests/clients": 8, "tests/watch": 9}
+    counts = {"tests/program": 20, "tests/threads": 3, "tests/allocations": 10, "tests/tried": 29, "tests/planted": 5, "tests/archive": 1, "tests/unproved": 7, "tests/library": 4, "tests/mount": 2, "tests/mounted": 6, "tests/streams": 5, "tests/clients": 8, "tests/watch": 9}
     tests = {name: CHECKED % (name, count, 0, 0) for name, count in counts.items()}
     whole = dict(tests, rt=CHECKED % ("rt", 100, 0, 0))
 
@@ -68,25 +101,27 @@ def check_cases():
     keeping, forgetting = telling % "done in this run: 1 of the 1 proofs\n", telling % ""
     ahead = [" min: %s proved\n" % crates for crates in (*AHEAD, " ".join(CRATES))]
     return [
-        case("all of it", [], whole, each, 0, jobs, last=b"\n199 passed, 0 failed\n"),
-        case("all of it, and rt shares the processors", [], whole, ["rt ci RT_JOBS= "], 0, last=b"\n199 passed, 0 failed\n"),
-        case("all of it, and the chain is proved ahead", [], dict(tests, rt=keeping, awk="echo 20000000"), ahead, 0, last=b"\n199 passed, 0 failed\n"),
-        case("all of it, and what is proved ahead is not kept", [], dict(tests, rt=forgetting, awk="echo 20000000"), [ahead[0], ahead[-1]], 0, last=b"\n199 passed, 0 failed\n"),
-        case("all of it, and little of its memory is free", [], dict(tests, rt=keeping, awk="echo 9000000"), ahead[-1:], 0, last=b"\n199 passed, 0 failed\n", lacks=ahead[0]),
-        case("all of it, by RT_JOBS, which proves nothing ahead", [], dict(tests, rt=keeping, awk="echo 20000000"), ahead[-1:], 0, jobs, last=b"\n199 passed, 0 failed\n", lacks=ahead[0]),
-        case("by a link, with a CDPATH and a TMPDIR that isn't there", [], whole, each, 0, elsewhere, "link", last=b"\n199 passed, 0 failed\n"),
-        case("by a relative path, likewise", [], whole, each, 0, elsewhere, "relative", last=b"\n199 passed, 0 failed\n"),
-        case("a test that fails", [], dict(whole, **{"tests/threads": CHECKED % ("", 2, 1, 1)}), [], 1, jobs, last=b"\n198 passed, 1 failed\n"),
-        case("a gate that fails by its status alone", [], dict(whole, rt=CHECKED % ("rt", 100, 0, 1)), [], 1, jobs, last=b"\n199 passed, 1 failed\n"),
-        case("a test that prints no counts", [], dict(whole, **{"tests/program": "echo nothing"}), [], 1, jobs, last=b"\n179 passed, 1 failed\n"),
-        case("quickly, with a proved program", ["--quick"], proved, ["/crates/tracectl/out/tracectl\n"], 0, last=b"\n62 passed, 0 failed (the programs are proved)\n"),
-        case("quickly, with an unproved program", ["--quick"], compiled, ["/tracectl-unproved\n"], 0, stderr=None, last=b"\n62 passed, 0 failed " + unproved.encode()),
-        case("quickly, with one proved program", ["--quick"], half, ["/out/tracectl\n"], 0, stderr=None, last=b"\n62 passed, 0 failed (one of the two programs is not proved)\n"),
+        case("all of it", [], whole, each, 0, jobs, last=b"\n204 passed, 0 failed\n"),
+        case("all of it, and rt shares the processors", [], whole, ["rt ci RT_JOBS= "], 0, last=b"\n204 passed, 0 failed\n"),
+        case("all of it, and the chain is proved ahead", [], dict(tests, rt=keeping, awk="echo 20000000"), ahead, 0, last=b"\n204 passed, 0 failed\n"),
+        case("all of it, and what is proved ahead is not kept", [], dict(tests, rt=forgetting, awk="echo 20000000"), [ahead[0], ahead[-1]], 0, last=b"\n204 passed, 0 failed\n"),
+        case("all of it, and little of its memory is free", [], dict(tests, rt=keeping, awk="echo 9000000"), ahead[-1:], 0, last=b"\n204 passed, 0 failed\n", lacks=ahead[0]),
+        case("all of it, by RT_JOBS, which proves nothing ahead", [], dict(tests, rt=keeping, awk="echo 20000000"), ahead[-1:], 0, jobs, last=b"\n204 passed, 0 failed\n", lacks=ahead[0]),
+        case("by a link, with a CDPATH and a TMPDIR that isn't there", [], whole, each, 0, elsewhere, "link", last=b"\n204 passed, 0 failed\n"),
+        case("by a relative path, likewise", [], whole, each, 0, elsewhere, "relative", last=b"\n204 passed, 0 failed\n"),
+        case("a test that fails", [], dict(whole, **{"tests/threads": CHECKED % ("", 2, 1, 1)}), [], 1, jobs, last=b"\n203 passed, 1 failed\n"),
+        case("a gate that fails by its status alone", [], dict(whole, rt=CHECKED % ("rt", 100, 0, 1)), [], 1, jobs, last=b"\n204 passed, 1 failed\n"),
+        case("what is skipped is told at the end", [], dict(whole, **{"tests/clients": "echo 'skipped: a, as b'\n" + tests["tests/clients"], "tests/mounted": "echo 'skipped: all'\n" + tests["tests/mounted"]}), [], 0, jobs, last=b" ended\ntests/mounted skipped all\ntests/clients skipped a, as b\n204 passed, 0 failed\n"),
+        case("a test that prints no counts", [], dict(whole, **{"tests/program": "echo nothing"}), [], 1, jobs, last=b"\n184 passed, 1 failed\n"),
+        case("quickly, with a proved program", ["--quick"], proved, ["/crates/tracectl/out/tracectl\n"], 0, last=b"\n67 passed, 0 failed (the programs are proved)\n"),
+        case("quickly, with an unproved program", ["--quick"], compiled, ["/tracectl-unproved\n"], 0, stderr=None, last=b"\n67 passed, 0 failed " + unproved.encode()),
+        case("quickly, with one proved program", ["--quick"], half, ["/out/tracectl\n"], 0, stderr=None, last=b"\n67 passed, 0 failed (one of the two programs is not proved)\n"),
         case("quickly, and it can't be compiled", ["--quick"], dict(whole, **{"tools/unproved.py": "exit 1"}), [], 1, stderr=None, last=b"0 passed, 1 failed\n"),
         case("quickly, with nothing to compile by", ["--quick"], tests, [], 2, stderr=no_rt, last=b""),
         case("planted bugs of two crates", ["--planted", "page_ring", "trace_hist"], whole, ["tests/planted page_ring trace_hist RT_JOBS=1"], 0),
         case("help", ["--help"], {}, [CHECK_USAGE.decode(), "--quick", "--planted"], 0),
         case("little memory", [], dict(whole, awk="echo 2000000"), ["rt ci RT_JOBS= \n"], 0, stderr=little),
         case("no rt", [], tests, [], 2, stderr=no_rt, last=b""),
+        Case(".ci/run: what it installs", installs),
         case("planted bugs, and no rt", ["--planted"], tests, [], 2, stderr=no_rt, last=b""),
     ] + [case(named(words), words, whole, [], 2, stderr=CHECK_USAGE, last=b"") for words in (["--nonsense"], ["all"], [""], ["--quick", "all"], ["--help", "me"])]

@@ -1,4 +1,5 @@
 """Devices that fail, and the longest script."""
+import errno
 import os
 import resource
 import signal
@@ -6,11 +7,15 @@ import subprocess
 import tempfile
 
 from cases.emitting import REFUSALS, REFUSED, SILENT
-from cases.running import FAILED, MOST_SCRIPT_BYTES, SECONDS, TOP, Case, Outcome, case_of, differences, run
+from cases.running import FAILED, MOST_SCRIPT_BYTES, SECONDS, TOP, Case, Outcome, case_of, differences, failed_on, run
 
 
 PART = b"parallel\nthread\ncat nothing\nthread\ncat nothing\nend\n"
 LONG_PART = PART.replace(b"cat nothing\n", b"cat nothing\n" * 50_000)
+
+
+def unwritten(number):
+    return failed_on("standard output", number)
 
 
 def pipe_without_reader():
@@ -22,9 +27,9 @@ def pipe_without_reader():
 def input_cases():
     folder = os.open(str(TOP), os.O_RDONLY)
     return [
-        case_of("standard input is a folder", FAILED, stdin=folder),
-        case_of("the script is a folder", FAILED, [str(TOP)]),
-        case_of("standard input is closed", FAILED, before=lambda: os.close(0)),
+        case_of("standard input is a folder", failed_on('script "<stdin>"', errno.EISDIR), stdin=folder),
+        case_of("the script is a folder", failed_on('script "%s"' % TOP, errno.EISDIR), [str(TOP)]),
+        case_of("standard input is closed", failed_on('script "<stdin>"', errno.EBADF), before=lambda: os.close(0)),
         case_of("standard input is empty", Outcome(0, b"", b"")),
         case_of("standard input has no end", FAILED, stdin=os.open("/dev/zero", os.O_RDONLY)),
         case_of("the script has no end", FAILED, ["/dev/zero"]),
@@ -46,14 +51,14 @@ def output_cases():
         return lambda: signal.signal(signal.SIGPIPE, handler)
 
     return [
-        case_of("standard output is a full device", FAILED, script=REFUSED, stdout=full),
-        case_of("standard output is a full device, in a part", FAILED, script=PART, stdout=full),
+        case_of("standard output is a full device", unwritten(errno.ENOSPC), script=REFUSED, stdout=full),
+        case_of("standard output is a full device, in a part", unwritten(errno.ENOSPC), script=PART, stdout=full),
         case_of("a full device, and nothing to write", done, script=SILENT, stdout=full),
-        case_of("standard output is closed", FAILED, script=REFUSED, before=lambda: os.close(1)),
-        case_of("standard output is closed, in a part", FAILED, script=PART, before=lambda: os.close(1)),
+        case_of("standard output is closed", unwritten(errno.EBADF), script=REFUSED, before=lambda: os.close(1)),
+        case_of("standard output is closed, in a part", unwritten(errno.EBADF), script=PART, before=lambda: os.close(1)),
         case_of("standard output is closed, and nothing to write", done, script=SILENT, before=lambda: os.close(1)),
-        case_of("nobody reads the pipe", FAILED, script=REFUSED, stdout=pipe, before=with_pipe_signal(signal.SIG_DFL)),
-        case_of("nobody reads the pipe, and its signal is ignored", FAILED, script=REFUSED, stdout=pipe, before=with_pipe_signal(signal.SIG_IGN)),
+        case_of("nobody reads the pipe", unwritten(errno.EPIPE), script=REFUSED, stdout=pipe, before=with_pipe_signal(signal.SIG_DFL)),
+        case_of("nobody reads the pipe, and its signal is ignored", unwritten(errno.EPIPE), script=REFUSED, stdout=pipe, before=with_pipe_signal(signal.SIG_IGN)),
         Case("a file that may not grow", file_that_may_not_grow),
         Case("a reader that leaves after a line", reader_that_leaves(b"cat nothing\n" * 100_000, b"! 1: N1 NoSuchFile\n")),
         Case("a reader that leaves after a line of a part", reader_that_leaves(LONG_PART, b"-- thread 0\n")),
@@ -70,7 +75,7 @@ def file_that_may_not_grow(program):
     with tempfile.TemporaryFile() as file:
         got = run([program, "-"], script=REFUSED, stdout=file, before=limit_file)
         file.seek(0)
-        return differences(got._replace(stdout=file.read()), FAILED._replace(stdout=REFUSALS[:30]))
+        return differences(got._replace(stdout=file.read()), unwritten(errno.EFBIG)._replace(stdout=REFUSALS[:30]))
 
 
 def reader_that_leaves(lines, first):
@@ -85,7 +90,7 @@ def reader_that_leaves(lines, first):
             session.stdout.close()
             complaint = session.stderr.read()
             session.stderr.close()
-            return differences(Outcome(session.wait(timeout=SECONDS), line, complaint), FAILED._replace(stdout=first))
+            return differences(Outcome(session.wait(timeout=SECONDS), line, complaint), unwritten(errno.EPIPE)._replace(stdout=first))
 
     return leaves
 

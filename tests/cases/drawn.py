@@ -1,9 +1,10 @@
 """Histograms that are drawn as bars."""
+import errno
 import os
 import re
 import subprocess
 
-from cases.running import FAILED, SECONDS, TOP, Case, Outcome, case_of, differences, quoted, run
+from cases.running import SECONDS, TOP, Case, Outcome, case_of, differences, failed_on, quoted, run
 from cases.scripts import scripts_of, wanted, words_of
 
 TRIGGER = "events/synthetic/tick/trigger"
@@ -111,7 +112,7 @@ def drawn_cases():
             case_of("--bars alone explains nothing", refused, ["--bars", "-"], script=b"cat nothing\n" + script),
             case_of("--bars after the lines", DRAWN, ["-c"] + LINES + ["--bars"]),
             case_of("--bars, and standard error is closed", undrawn, ["--bars", "-"], script=script, before=lambda: os.close(2)),
-            case_of("--bars, and standard output is a full device", FAILED, ["--bars", "-"], script=script, stdout=full),
+            case_of("--bars, and standard output is a full device", failed_on("standard output", errno.ENOSPC), ["--bars", "-"], script=script, stdout=full),
         ]
         + [drawn_script(script) for script in scripts_of(TOP / "examples") + scripts_of(TOP / "tests" / "rows")]
     )

@@ -1,10 +1,11 @@
 """What is explained, and lines that have a fault."""
+import errno
 import os
 import re
 import subprocess
 
 from cases.emitting import REFUSED
-from cases.running import FAILED, SECONDS, TOP, Case, Outcome, case_of, differences, quoted, run
+from cases.running import SECONDS, TOP, Case, Outcome, case_of, differences, failed_on, quoted, run
 from cases.scripts import scripts_of, wanted, words_of
 
 WRITTEN = "echo 'n == 1 || z == 2' > events/synthetic/tick/filter"
@@ -171,11 +172,11 @@ def explained_cases():
         case_of("--explain", explained, ["--explain", "-"], script=script),
         case_of("nothing is explained without --explain", unheard, ["-"], script=script),
         case_of("--explain, and standard error is closed", unheard, ["--explain", "-"], script=script, before=lambda: os.close(2)),
-        case_of("--explain, and standard output is a full device", FAILED, ["--explain", "-"], script=REFUSED, stdout=os.open("/dev/full", os.O_WRONLY)),
+        case_of("--explain, and standard output is a full device", failed_on("standard output", errno.ENOSPC), ["--explain", "-"], script=REFUSED, stdout=os.open("/dev/full", os.O_WRONLY)),
         both_in_one("--explain, and both go one way", script, Outcome(2, mingled_of(EXPLAINED), b"")),
         case_of("--explain, and a part", part, ["--explain", "-"], script=script_of(EXPLAINED_PART)),
         both_in_one("--explain and a part, and both go one way", script_of(EXPLAINED_PART), Outcome(1, mingled_part(BEFORE_PART, PART, AFTER_PART), b"")),
-        case_of("--explain, a part, and standard output is a full device", FAILED, ["--explain", "-"], script=script_of(EXPLAINED_PART), stdout=os.open("/dev/full", os.O_WRONLY)),
+        case_of("--explain, a part, and standard output is a full device", failed_on("standard output", errno.ENOSPC), ["--explain", "-"], script=script_of(EXPLAINED_PART), stdout=os.open("/dev/full", os.O_WRONLY)),
         case_of("--explain, and what a part declares", declaring, ["--explain", "-"], script=script_of(DECLARING_PART)),
         case_of("--explain, and 1,200 lines", Outcome(1, replies_of(MANY), explanations_of(MANY)), ["--explain", "-"], script=script_of(MANY)),
         both_in_one("--explain and 1,200 lines, and both go one way", script_of(MANY), Outcome(1, mingled_of(MANY), b"")),

@@ -125,6 +125,7 @@ def is_as_made(file):
 def man_page_is_set(_):
     """It is formatted without a warning, where the machine can."""
     if not shutil.which("groff"):
+        print("skipped: docs/tracectl.1 is formatted, as there is no groff", flush=True)
         return []
     ended = subprocess.run(["groff", "-man", "-Tascii", "-ww", str(MAN_PAGE)], stdout=subprocess.PIPE, stderr=subprocess.PIPE, timeout=SECONDS)
     return [ended.stderr.decode()] if ended.returncode or ended.stderr else []

@@ -1,10 +1,11 @@
 """The files that are listed after a script."""
+import errno
 import os
 import re
 
 from cases.drawn import DRAWN, LINES
 from cases.emitting import REFUSED
-from cases.running import FAILED, TOP, Case, Outcome, case_of, differences, quoted, run, text_differences
+from cases.running import TOP, Case, Outcome, case_of, differences, failed_on, quoted, run, text_differences
 from cases.scripts import scripts_of, wanted, words_of
 
 OWN = ["rw snapshot", "rw tracing_on", "rw trace", "r trace_pipe", "rw options/overwrite", "rw trace_options"]
@@ -119,6 +120,6 @@ def listed_cases():
         Case("--list after a part that makes and removes one instance", list_after_race),
         Case("--list: each file is there, and is used as it says", used),
         case_of("--list, --explain and --bars", all_of_it, both, script=text_of(LINES + ["cat nothing"])),
-        case_of("--list to a full device", FAILED, ["--list", "-"], script=b"", stdout=os.open("/dev/full", os.O_WRONLY)),
-        case_of("--list of a session that could not be written", FAILED, ["--list", "-"], script=REFUSED, stdout=os.open("/dev/full", os.O_WRONLY)),
+        case_of("--list to a full device", failed_on("standard output", errno.ENOSPC), ["--list", "-"], script=b"", stdout=os.open("/dev/full", os.O_WRONLY)),
+        case_of("--list of a session that could not be written", failed_on("standard output", errno.ENOSPC), ["--list", "-"], script=REFUSED, stdout=os.open("/dev/full", os.O_WRONLY)),
     ] + [listed_script(script) for script in scripts_of(TOP / "examples") + scripts_of(TOP / "tests" / "rows")]

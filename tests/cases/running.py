@@ -77,3 +77,8 @@ def case_of(name, want, words=SMALL, **how):
 
 
 FAILED = Outcome(4, b"", DEVICE_FAILED)
+
+
+def failed_on(name, number):
+    """What is told where something can't be opened, read or written, and the system says why by this number of an error."""
+    return FAILED._replace(stderr=DEVICE_FAILED + ("tracectl: %s: %s (os error %d)\n" % (name, os.strerror(number), number)).encode())

@@ -1,4 +1,5 @@
 """The starter."""
+import errno
 import os
 import resource
 import shutil
@@ -10,7 +11,7 @@ from contextlib import contextmanager
 from pathlib import Path
 
 from cases.emitting import REFUSALS, REFUSED
-from cases.running import FAILED, SECONDS, SMALL, TOP, Case, Outcome, differences, quoted, run
+from cases.running import SECONDS, SMALL, TOP, Case, Outcome, differences, failed_on, quoted, run
 from cases.scripts import wanted
 from cases.words import word_cases
 
@@ -42,11 +43,12 @@ class Starter:
         for place in (self.proved.parent, self.source.parent, self.top / "commands", self.top / "tools"):
             place.mkdir(parents=True)
         self.source.write_text("// a source\n")
-        (self.top / "crates.txt").write_text("program_arguments: clap\ntracectl may_wait=4: program_arguments\n")
-        for name in ("tracectl", "HANDLES", "tools/building.bash"):
+        self.source.with_name("program.rt").write_text('const VERSION: &str = "%s";\n' % run([program, "--version"]).stdout.decode().split()[1])
+        (self.top / "crates.txt").write_text("program_arguments: clap\ntracectl may_wait=4: program_arguments\ntracectl_mount: program_arguments\n")
+        for name in ("tracectl", "tracectl-mount", "HANDLES", "tools/building.bash"):
             shutil.copy(str(TOP / name), str(self.top / name))
         old = time.time() - 100
-        for path in (self.source, self.source.parent, self.top / "crates.txt"):
+        for path in (self.source, self.source.with_name("program.rt"), self.source.parent, self.top / "crates.txt"):
             os.utime(str(path), (old, old))
         shutil.copy(str(program), str(self.proved if is_built else self.top / "kept"))
         self.place("rt", rt)
@@ -222,6 +224,51 @@ def what_is_lacking(program):
         return found + telling(one.start(), wanted(SCRIPT), little, COMPILING, UNPROVED)
 
 
+def commit_all(folder):
+    """Makes a checkout of a folder. Has the commit."""
+    git = ["git", "-C", str(folder), "-c", "user.name=nobody", "-c", "user.email=nobody@localhost"]
+    for words in (["init", "-q"], ["add", "-A"], ["commit", "-q", "-m", "All of it"]):
+        subprocess.run(git + words, check=True)
+    return subprocess.run(git + ["rev-parse", "--short=12", "HEAD"], stdout=subprocess.PIPE, check=True).stdout.decode().strip()
+
+
+def told_versions(program):
+    """--version and -V say whether the program is proved, and which commit it is of, if it is a checkout. Nothing is compiled for it."""
+    found = []
+
+    def tells(one, tool, told, words=("--version",)):
+        wanted = "%s %s, %s\n" % (tool, run([program, "--version"]).stdout.decode().split()[1], told)
+        got = one.start(list(words), command=one.top / tool)
+        found.extend("%s: %s" % (told, difference) for difference in differences(got, Outcome(0, wanted.encode(), b"")))
+
+    with starter(program) as one:
+        for tool in ("tracectl", "tracectl-mount"):
+            tells(one, tool, "unproved")
+            tells(one, tool, "unproved", ["-V"])
+    with starter(program, is_built=True) as one:
+        tells(one, "tracectl", "proved")
+        tells(one, "tracectl-mount", "unproved", ["--cpus", "2", "-V"])
+        if shutil.which("git"):
+            commit = commit_all(one.top)
+            tells(one, "tracectl", "proved, commit %s" % commit)
+            (one.top / "tracectl-mount").write_text((one.top / "tracectl-mount").read_text() + "\n")
+            tells(one, "tracectl-mount", "unproved, commit %s-dirty" % commit)
+    return found
+
+
+def mount_helps(program):
+    """./tracectl-mount --help shows each of its options, with its range, and compiles nothing."""
+    parts = ["--cpus N ", " 1 to 8 [", "--pages N ", " 2 to 1024 [", "--page-bytes N ", " 64 to 4080, a multiple of 8 [", "--allow-other ", "--mode MODE ", " 0 to 0777 ["]
+    parts += ["--uid N ", "--gid N ", "-f ", "--help ", "--version ", "-- COMMAND [ARG ..]", "Exit status:"]
+    found = []
+    with starter(program) as one:
+        for words in (["--help"], ["-h"], ["--help", "DIR"], ["--cpus", "2", "--help"]):
+            got = one.start(words, command=one.top / "tracectl-mount")
+            found += differences(got._replace(stdout=b""), Outcome(0, b"", b""))
+            found += ["help lacks %s" % quoted(part) for part in parts if part not in got.stdout.decode()]
+    return found
+
+
 def where_it_is_started(program):
     """It does the same from another folder, by a link, with a CDPATH, and with a TMPDIR that isn't there."""
     found = []
@@ -245,7 +292,7 @@ def file_that_may_not_grow(program):
     with starter(program, is_built=True) as one, tempfile.TemporaryFile() as file:
         got = one.start(SMALL, script=REFUSED, stdout=file, before=limit_file)
         file.seek(0)
-        return differences(got._replace(stdout=file.read()), FAILED._replace(stdout=REFUSALS[:30]))
+        return differences(got._replace(stdout=file.read()), failed_on("standard output", errno.EFBIG)._replace(stdout=REFUSALS[:30]))
 
 
 def compiler_of_another_kit(_):
@@ -273,6 +320,8 @@ def starter_cases():
         Case("./tracectl: a source that is dated in the future", source_of_the_future),
         Case("./tracectl: what is lacking", what_is_lacking),
         Case("./tracectl: where it is started", where_it_is_started),
+        Case("./tracectl and ./tracectl-mount: --version", told_versions),
+        Case("./tracectl-mount: --help", mount_helps),
         Case("./tracectl: into a file that may not grow", file_that_may_not_grow),
         Case("tools/unproved.py: another kit", compiler_of_another_kit),
     ]

@@ -1,9 +1,10 @@
 """The command line."""
+import errno
 import os
 import subprocess
 
 from cases.emitting import EMISSION, SETUP, STATS, stats_text
-from cases.running import BAD_VALUE, FAILED, SECONDS, SMALL, TOP, Case, Outcome, case_of, differences, quoted, run, text_differences
+from cases.running import BAD_VALUE, SECONDS, SMALL, TOP, Case, Outcome, case_of, differences, failed_on, quoted, run, text_differences
 from cases.scripts import wanted
 
 RECORDS_OF_PAGE = 4080 // 24
@@ -80,15 +81,28 @@ def wrong_words():
     ]
 
 
+RANGES = {"--cpus": "1 to 8", "--pages": "2 to 1024", "--page-bytes": "64 to 4080, a multiple of 8"}
+
+
+def out_of_range(option, number):
+    """What is told of an option whose number is out of range: always the same line, and a second one that says which."""
+    return Outcome(2, b"", BAD_VALUE + ("tracectl: %s %s: expected %s\n" % (option, number, RANGES[option])).encode())
+
+
 def bad_configurations():
+    """Words with a number that is out of range, and what comes of them: of several the first in the order of help is told."""
     numbers = [("--cpus", "0"), ("--cpus", "9"), ("--pages", "0"), ("--pages", "1"), ("--pages", "1025"), ("--page-bytes", "56")]
     numbers += [("--page-bytes", "65"), ("--page-bytes", "4081"), ("--page-bytes", "4088"), ("--cpus", "4294967295")]
-    return [[option, number, "-"] for option, number in numbers] + [["--pages=1", "missing"], ["--pages", "1", str(TOP)]]
+    few = out_of_range("--pages", 1)
+    each = [([option, number, "-"], out_of_range(option, number)) for option, number in numbers]
+    return each + [(["--pages=1", "missing"], few), (["--pages", "1", str(TOP)], few), (["--page-bytes", "7", "--pages", "1", "-"], few)]
 
 
 def unopened_scripts():
     missing = str(TOP / "tests" / "no-such-script")
-    return [[missing], [""], [str(TOP)], ["--", missing], ["--", "-odd"], ["--pages", "2", missing]]
+    named = [([missing], missing), ([""], ""), (["--", missing], missing), (["--", "-odd"], "-odd"), (["--pages", "2", missing], missing)]
+    named += [(["a\nb"], r"a\nb")]
+    return [(words, failed_on('script "%s"' % name, errno.ENOENT)) for words, name in named] + [([str(TOP)], failed_on('script "%s"' % TOP, errno.EISDIR))]
 
 
 def line_words():
@@ -106,8 +120,8 @@ def line_words():
         (["-c"] + faulty, Outcome(2, b"1\n! 2: script UnknownCommand\n", b"")),
         (["-c", "-"], Outcome(2, b"! 1: script UnknownCommand\n", b"")),
         (["-c", "cat \u00e9"], Outcome(2, b"! 1: script BadByte\n", b"")),
-        (["--pages", "1", "-c", "ls"], Outcome(2, b"", BAD_VALUE)),
-        (["--pages", "1", "--explain", "-c", "ls"], Outcome(2, b"", BAD_VALUE)),
+        (["--pages", "1", "-c", "ls"], out_of_range("--pages", 1)),
+        (["--pages", "1", "--explain", "-c", "ls"], out_of_range("--pages", 1)),
         (["-c", "cat nothing", "--explain"], Outcome(1, b"! 1: N1 NoSuchFile\n", b"-c:1:5: NoSuchFile: no file has this path\n  cat nothing\n      ^\n")),
     ]
 
@@ -125,9 +139,7 @@ def word_cases(start=lambda program, words, **how: run([program] + words, **how)
     script = TOP / "examples" / "first-session"
     small, text, want = SMALL[:-1], script.read_bytes(), wanted(script)
     two_cpus = b"cat per_cpu/cpu%d/stats\n"
-    cases = [case(words, Outcome(2, b"", BAD_VALUE)) for words in bad_configurations()]
-    cases += [case(words, FAILED) for words in unopened_scripts()]
-    cases += [case(words, want) for words, want in line_words()]
+    cases = [case(words, want) for words, want in bad_configurations() + unopened_scripts() + line_words()]
     cases += [
         Case("%s %s" % (starter, named(words)), lambda program, words=words, part=part: refusing(start(program, words), part))
         for words, part in wrong_words()
@@ -136,7 +148,6 @@ def word_cases(start=lambda program, words, **how: run([program] + words, **how)
         Case("%s %s" % (starter, word), lambda program, word=word: helping(start(program, [word]), program)) for word in ("--help", "-h")
     ]
     return cases + [
-        Case("%s --version" % starter, lambda program: versioned(start(program, ["--version"]))),
         case(small + [str(script)], want),
         case([str(script)] + small, want),
         case(["--pages=2", "--page-bytes=64", str(script)], want),
@@ -150,7 +161,8 @@ def word_cases(start=lambda program, words, **how: run([program] + words, **how)
     ]
 
 
-def versioned(got):
+def tells_version(program):
+    got = run([program, "--version"])
     found = differences(got._replace(stdout=b""), Outcome(0, b"", b""))
     words = got.stdout.decode().split()
     return found + ([] if words[:1] == ["tracectl"] and len(words) == 2 or words[2:] == ["unproved"] else ["no version but %s" % quoted(got.stdout)])
@@ -161,10 +173,17 @@ def other_word_cases():
     return [
         Case("the default ring", fills_the_default_ring),
         Case("a word that is no UTF-8", lambda program: refusing(run_bytes([os.fsencode(program), b"\xff"]), "invalid UTF-8")),
-        case_of("--help to a full device", FAILED, ["--help"], stdout=full),
-        case_of("--version to a full device", FAILED, ["--version"], stdout=full),
-        case_of("a bad value, and a folder as standard input", Outcome(2, b"", BAD_VALUE), ["--pages", "1", "-"], stdin=os.open(str(TOP), os.O_RDONLY)),
+        Case("--version", tells_version),
+        Case("--help has each range that is told", tells_ranges),
+        case_of("--help to a full device", failed_on("standard output", errno.ENOSPC), ["--help"], stdout=full),
+        case_of("--version to a full device", failed_on("standard output", errno.ENOSPC), ["--version"], stdout=full),
+        case_of("a bad value, and a folder as standard input", out_of_range("--pages", 1), ["--pages", "1", "-"], stdin=os.open(str(TOP), os.O_RDONLY)),
     ]
+
+
+def tells_ranges(program):
+    told = run([program, "--help"]).stdout.decode()
+    return ["help lacks %s" % text for text in RANGES.values() if ", %s [" % text not in told]
 
 
 def run_bytes(words):

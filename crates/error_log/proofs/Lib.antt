@@ -1,3 +1,4 @@
 pub mod Ends
+pub mod LineLemmas
 pub mod Lines
 pub mod LogLemmas

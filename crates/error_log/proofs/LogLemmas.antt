@@ -1,15 +1,15 @@
 -- What is kept of the errors of an instance.
-use Rattle.std.proofs.Common.{◌≡◌, ◌≤◌, ◌<◌, ℕ, suc, ◌+◌, ◌-◌, nat_lt, Bool, true, false, not, cond, if◌then◌else◌, List, [], ◌∷◌, ◌++◌, length, take, drop, map, codes, refl, sym, ap, subst, ◌∙◌, arith}
+use Rattle.std.proofs.Common.{◌≡◌, ◌≤◌, ◌<◌, ℕ, suc, ◌+◌, ◌-◌, nat_lt, Bool, true, false, not, cond, if◌then◌else◌, List, [], ◌∷◌, ◌++◌, length, take, drop, refl, sym, ap, subst, ◌∙◌, arith}
 use Rattle.std.specs.List.{after_first, before_first, count_by, filter, position_or_len}
 use Rattle.std.proofs.lemmas.List.Sums.{length-filter}
 use Rattle.std.proofs.lemmas.List.Elements.{filter-append}
 use Rattle.std.proofs.lemmas.Bool.{eqb-true, le-ltb, lt-ltb, ltb-false, ltb-true}
-use Rattle.std.proofs.lemmas.List.{append-nil, drop-append-le, drop-drop, length-append, length-drop, length-map, length-take-le}
+use Rattle.std.proofs.lemmas.List.{append-nil, drop-append-le, drop-drop, length-append, length-drop}
 use Rattle.mount_tree.specs.declared.node.Owner.{Owner}
 use Rattle.mount_tree.specs.declared.node.Owner.TheVariants.{Top, Made}
-use Rattle.error_log.specs.Errors.{ErrorSeen, pad_byte}
+use Rattle.error_log.specs.Errors.{ErrorSeen}
 use Rattle.error_log.specs.Logs.{cleared, errors_of, is_of, is_same, noted, trimmed, without_first}
-use Rattle.error_log.specs.LogLaws.{CaretStandsUnder, Noted, Cleared, KeepsLastEight, errors_after, last_eight, noted_since}
+use Rattle.error_log.specs.LogLaws.{Noted, Cleared, KeepsLastEight, errors_after, last_eight, noted_since}
 
 -- ---- lists
 
@@ -163,10 +163,3 @@ pub keeps_last_eight : KeepsLastEight
 keeps_last_eight owner [] = refl
 keeps_last_eight owner (Noted error ∷ changes) = kept-noted owner error (errors_after changes) (noted_since owner changes) (keeps_last_eight owner changes)
 keeps_last_eight owner (Cleared other ∷ changes) = kept-cleared owner other (errors_after changes) (noted_since owner changes) (keeps_last_eight owner changes)
-
--- ---- the caret
-
-pub caret_stands_under : CaretStandsUnder
-caret_stands_under e within =
-    length-append (codes "           ") (map pad_byte (take e.at e.written))
-    ∙ ap (λ (n : ℕ). 11 + n) (length-map (take e.at e.written) pad_byte ∙ length-take-le e.at e.written within)

@@ -1,5 +1,5 @@
 -- Writes that were refused, as `error_log` shows them (ftrace.rst, "The File System": error_log).
-use Rattle.std.specs.Prelude.{ℕ, ◌-◌, ◌==◌, ◌&&◌, nat_lt, Bool, not, List, [], ◌++◌, length, map, take, Option, Some, codes, if◌then◌else◌}
+use Rattle.std.specs.Prelude.{ℕ, ◌-◌, ◌==◌, ◌&&◌, nat_lt, Bool, not, List, [], ◌++◌, length, map, take, drop, reverse, Option, Some, codes, if◌then◌else◌}
 use Rattle.std.specs.Fmt.{decimal}
 use Rattle.std.specs.List.{prefix_len}
 use Rattle.trace_command.specs.Paths.{File, OfInstance, OfEvent, address_of}
@@ -7,8 +7,8 @@ use Rattle.trace_command.specs.declared.file_name.EventFile.TheVariants as per_e
 use Rattle.trace_command.specs.declared.file_name.TopFile.TheVariants as top
 use Rattle.mount_tree.specs.declared.node.Owner.{Owner}
 
--- A write that was refused: the instance whose file was written, when, what the file is called, the first line of what was written, one sentence of what
--- is wrong, and the offset of the byte that is to blame; 0, if none is.
+-- A write that was refused: the instance whose file was written, when, what the file is called, what is kept of the line to blame, one sentence of what
+-- is wrong, and where in what is kept the byte is that is to blame.
 pub record ErrorSeen : Type 0 where
   pub owner : Owner
   pub time : ℕ
@@ -29,21 +29,46 @@ name_of_file path _ = path
 abbrev pub name_at : List ℕ → List ℕ
 name_at path = name_of_file path (address_of path).file
 
--- the first line of it, of which at most 256 bytes are kept
+-- a write whose refusal isn't known yet
+abbrev pub begun : Owner → ℕ → List ℕ → ErrorSeen
+begun owner time path = record { owner = owner; time = time; name = name_at path; written = []; sentence = []; at = 0 }
+
+-- any byte but a newline (10)
 abbrev pub is_in_line : ℕ → Bool
 is_in_line byte = not (byte == 10)
 
-abbrev pub kept_of : List ℕ → List ℕ
-kept_of text = take 256 (take (prefix_len is_in_line text) text)
+-- what follows the last newline of a text
+abbrev pub last_line : List ℕ → List ℕ
+last_line text = drop (length text - prefix_len is_in_line (reverse text)) text
 
--- a write whose refusal isn't known yet
-abbrev pub begun : Owner → ℕ → List ℕ → List ℕ → ErrorSeen
-begun owner time path text =
-    record { owner = owner; time = time; name = name_at path; written = kept_of text; sentence = []; at = 0 }
+-- what comes before the first
+abbrev pub first_line : List ℕ → List ℕ
+first_line text = take (prefix_len is_in_line text) text
 
--- and one that was refused
-abbrev pub refused : ErrorSeen → List ℕ → ℕ → ErrorSeen
-refused error sentence at = record error { sentence = sentence; at = at }
+-- the line of a text that has the byte at an offset: what comes before the byte after the last newline, and what follows up to the next
+abbrev pub line_at : List ℕ → ℕ → List ℕ
+line_at text offset = last_line (take offset text) ++ first_line (drop offset text)
+
+-- the byte's column in it, from 0
+abbrev pub column_at : List ℕ → ℕ → ℕ
+column_at text offset = length (last_line (take offset text))
+
+-- how many bytes are left out before a column, so that it is among the 256 that are kept
+abbrev pub shift_of : ℕ → ℕ
+shift_of column = column - 255
+
+-- what is kept of a line, which is all of it if it has at most 256 bytes
+abbrev pub window : List ℕ → ℕ → List ℕ
+window line column = take 256 (drop (shift_of column) line)
+
+-- where the column is in that
+abbrev pub caret_of : ℕ → ℕ
+caret_of column = column - shift_of column
+
+-- a write of this text that was refused, with this sentence, at this offset
+abbrev pub refused : ErrorSeen → List ℕ → List ℕ → ℕ → ErrorSeen
+refused error text sentence offset =
+    record error { written = window (line_at text offset) (column_at text offset); sentence = sentence; at = caret_of (column_at text offset) }
 
 -- ---- what is shown of it
 

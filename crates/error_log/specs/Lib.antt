@@ -1,3 +1,4 @@
 pub mod Errors
 pub mod Logs
 pub mod LogLaws
+pub mod ErrorExamples

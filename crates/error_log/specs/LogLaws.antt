@@ -1,7 +1,7 @@
 -- What is kept: of each instance the last eight errors since its log was cleared, whatever becomes of the others; and where the caret stands.
-use Rattle.std.specs.Prelude.{◌≡◌, ◌≤◌, ◌+◌, ◌-◌, List, [], ◌∷◌, ◌++◌, length, drop, codes, if◌then◌else◌}
+use Rattle.std.specs.Prelude.{◌≡◌, ◌≢◌, ◌≤◌, ◌<◌, ℕ, ◌+◌, ◌-◌, List, [], ◌∷◌, ◌++◌, length, drop, slice_index, codes, if◌then◌else◌}
 use Rattle.mount_tree.specs.declared.node.Owner.{Owner}
-use Rattle.error_log.specs.Errors.{ErrorSeen, before_caret}
+use Rattle.error_log.specs.Errors.{ErrorSeen, before_caret, begun, command, refused, shown_byte}
 use Rattle.error_log.specs.Logs.{cleared, errors_of, is_of, is_same, noted}
 
 -- what happens to the logs
@@ -27,7 +27,13 @@ last_eight errors = drop (length errors - 8) errors
 abbrev pub KeepsLastEight : Type 0
 KeepsLastEight = (owner : Owner) (changes : List Change) → errors_of owner (errors_after changes) ≡ last_eight (noted_since owner changes)
 
--- as many bytes stand before the caret as before the byte that is to blame
+-- a write of this text that was refused at this offset, as it is shown: at most 256 bytes of it, and the caret under one of these, or after the last.
+-- That one is the byte at the offset, if the text has one there and it is no newline (10).
+pub record StandsUnder (text : List ℕ) (offset : ℕ) (e : ErrorSeen) : Type 0 where
+  pub few : length e.written ≤ 256
+  pub under : length (before_caret e) ≡ length (codes "  Command: ") + e.at
+  pub blamed : offset < length text → slice_index text offset ≢ 10 → slice_index (command e) (length (before_caret e)) ≡ shown_byte (slice_index text offset)
+
 abbrev pub CaretStandsUnder : Type 0
 CaretStandsUnder =
-    (e : ErrorSeen) → e.at ≤ length e.written → length (before_caret e) ≡ length (codes "  Command: ") + e.at
+    (owner : Owner) (time : ℕ) (path text sentence : List ℕ) (offset : ℕ) → StandsUnder text offset (refused (begun owner time path) text sentence offset)

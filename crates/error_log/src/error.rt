@@ -1,38 +1,38 @@
 //! A write that was refused.
 
-ghost use Rattle.std.specs.Prelude.{◌≡◌, ◌++◌, IfOk, codes, ◌≤◌, length, take};
-ghost use Rattle.std.specs.List.{prefix_len};
+ghost use Rattle.std.specs.Prelude.{◌≡◌, ◌++◌, IfOk, codes};
 ghost use Rattle.trace_command.specs.Paths as paths;
 ghost use Rattle.error_log.specs.Errors as errors;
 ghost use Rattle.error_log.specs.Logs as logs;
 
+use crate::blame::{MOST_BYTES, caret_of, column_at, line_at, window};
 use mount_tree::Owner;
 use std::alloc::{AllocError, Global};
 use std::marker::Model;
 use trace_command::{EventFile, FileName, TopFile, address_of};
 use trace_lex::Text;
 
-/// The most bytes that are kept of what was written.
-const MOST_BYTES: usize = 256;
-
-/// A write that was refused: whose file was written, when, what the file is called, the first line of what was written, one sentence of what is
-/// wrong, and the offset of the byte that is to blame.
+/// A write that was refused: whose file was written, when, what the file is called, what is kept of the line to blame, for which there is room from the
+/// beginning, one sentence of what is wrong, and where in what is kept the byte is that is to blame.
 #[derive(Drop)]
 pub struct NotedError {
     owner: Owner,
     time: u64,
     name: Text,
-    written: Text,
+    written: Vec<u8>,
     sentence: &'static str,
     at: usize,
 }
 
 impl Model for NotedError {
+    ghost use Rattle.std.specs.Prelude.{◌≤◌, vec_capacity};
     ghost use Rattle.error_log.specs.Errors.{ErrorSeen};
 
     ghost Value = { ErrorSeen };
 
-    ghost view = { λ e. record { owner = e.owner; time = e.time; name = e.name; written = e.written; sentence = e.sentence.now; at = e.at } };
+    ghost view = { λ e. record { owner = e.owner; time = e.time; name = e.name; written = e.written.items; sentence = e.sentence.now; at = e.at } };
+
+    ghost invariant = { λ e. 256 ≤ vec_capacity e.written };
 }
 
 /// The name of a trigger file.
@@ -58,28 +58,6 @@ fn name_at(alloc: Global, path: &[u8]) -> Result<Text, AllocError>
     }
 }
 
-/// As many bytes as there are up to an offset.
-pub(crate) fn up_to(at: usize, text: &[u8]) -> &[u8]
-    ensures { result.now ≡ take at text.now }
-{
-    text.get(..at).unwrap_or(text)
-}
-
-/// How many bytes the first line has.
-fn line_len(text: &[u8]) -> usize
-    ensures value { result ≡ prefix_len errors.is_in_line text.now }
-    ensures bound { result ≤ length text.now }
-{
-    text.iter().take_while(|byte| **byte != b'\n').count()
-}
-
-/// What is kept of a text that was written.
-fn kept_of(text: &[u8]) -> &[u8]
-    ensures { result.now ≡ errors.kept_of text.now }
-{
-    up_to(MOST_BYTES, up_to(line_len(text), text))
-}
-
 /// Whether two instances are one.
 fn is_same(one: Owner, other: Owner) -> bool
     ensures { result ≡ logs.is_same one other }
@@ -92,18 +70,17 @@ fn is_same(one: Owner, other: Owner) -> bool
 }
 
 impl NotedError {
-    /// A write of this text to the file of this path of an instance, whose refusal isn't known yet.
+    /// A write to the file of this path of an instance, whose refusal isn't known yet.
     pub(crate) fn begin(
         alloc: Global,
         owner: Owner,
         time: u64,
         path: &[u8],
-        text: &[u8],
     ) -> Result<NotedError, AllocError>
-        ensures { IfOk result (λ error. error ≡ errors.begun owner time path.now text.now) }
+        ensures { IfOk result (λ error. error ≡ errors.begun owner time path.now) }
     {
         let name = name_at(alloc, path)?;
-        let written = Text::from_slice(alloc, kept_of(text))?;
+        let written = Vec::with_capacity(alloc, MOST_BYTES)?;
         Ok(NotedError {
             owner,
             time,
@@ -114,26 +91,16 @@ impl NotedError {
         })
     }
 
-    /// It was refused.
-    pub(crate) fn refuse(self, sentence: &'static str, at: usize) -> NotedError
-        ensures { result ≡ errors.refused self sentence.now at }
+    /// It was one of this text, and was refused: this is wrong, at this offset.
+    pub(crate) fn refuse(&mut self, text: &[u8], sentence: &'static str, offset: usize)
+        ensures { self.new ≡ errors.refused self.old text.now sentence.now offset }
     {
-        let NotedError {
-            owner,
-            time,
-            name,
-            written,
-            sentence: _,
-            at: _,
-        } = self;
-        NotedError {
-            owner,
-            time,
-            name,
-            written,
-            sentence,
-            at,
-        }
+        let column = column_at(text, offset);
+        let kept = window(line_at(text, offset), column);
+        self.written.clear();
+        self.written.extend_from_slice(kept).unwrap();
+        self.sentence = sentence;
+        self.at = caret_of(column);
     }
 
     /// Whether it is this instance's.
@@ -164,11 +131,11 @@ impl NotedError {
         self.name.as_bytes()
     }
 
-    /// What was written.
+    /// What is kept of the line to blame.
     pub(crate) fn written(&self) -> &[u8]
         ensures { result.now ≡ self.now.written }
     {
-        self.written.as_bytes()
+        self.written.as_slice()
     }
 
     /// What is wrong.
@@ -178,7 +145,7 @@ impl NotedError {
         self.sentence
     }
 
-    /// The offset of the byte that is to blame.
+    /// Where in that the byte is that is to blame.
     pub(crate) fn at(&self) -> usize
         ensures { result ≡ self.now.at }
     {

@@ -16,8 +16,8 @@ use trace_lex::Text;
 /// How many errors of an instance are kept.
 const MOST_ERRORS: usize = 8;
 
-/// The errors of all instances, oldest first. A write that may be refused is noted before it is asked, which takes memory, and the note is taken back if
-/// it was done (`begin`, then `finish` or `take_back`).
+/// The errors of all instances, oldest first. A write that may be refused is noted before it is asked, which takes all memory, and the note is taken
+/// back if it was done (`begin`, then `finish` or `take_back`).
 #[derive(Drop)]
 pub struct ErrorLog {
     alloc: Global,
@@ -107,18 +107,12 @@ impl ErrorLog {
         }
     }
 
-    /// Notes a write of this text to the file of this path of an instance, which may be refused. Out of memory all is as before.
-    pub fn begin(
-        &mut self,
-        owner: Owner,
-        time: u64,
-        path: &[u8],
-        text: &[u8],
-    ) -> Result<(), AllocError>
-        ensures ok { OnOk result (self.new ≡ self.old ++ errors.begun owner time path.now text.now ∷ []) }
+    /// Notes a write to the file of this path of an instance, which may be refused. Out of memory all is as before.
+    pub fn begin(&mut self, owner: Owner, time: u64, path: &[u8]) -> Result<(), AllocError>
+        ensures ok { OnOk result (self.new ≡ self.old ++ errors.begun owner time path.now ∷ []) }
         ensures err { OnErr result (self.new ≡ self.old) }
     {
-        let error = NotedError::begin(self.alloc, owner, time, path, text)?;
+        let error = NotedError::begin(self.alloc, owner, time, path)?;
         self.errors.push(error)?;
         Ok(())
     }
@@ -130,17 +124,17 @@ impl ErrorLog {
         drop(self.errors.pop());
     }
 
-    /// The write that was noted last was refused: this is wrong, at this offset. The oldest of more than eight is dropped.
-    pub fn finish(&mut self, sentence: &'static str, at: usize)
+    /// The write that was noted last was one of this text, and was refused: this is wrong, at this offset. The oldest of more than eight is dropped.
+    pub fn finish(&mut self, text: &[u8], sentence: &'static str, at: usize)
         ensures { (before : List ErrorSeen) (error : ErrorSeen) → self.old ≡ before ++ error ∷ []
-            → self.new ≡ logs.noted (errors.refused error sentence.now at) before }
+            → self.new ≡ logs.noted (errors.refused error text.now sentence.now at) before }
     {
-        let Some(error) = self.errors.pop() else {
+        let Some(mut error) = self.errors.pop() else {
             return;
         };
         let owner = error.owner();
-        let refused = error.refuse(sentence, at);
-        match self.errors.push(refused) {
+        error.refuse(text, sentence, at);
+        match self.errors.push(error) {
             Ok(()) => trim(&mut self.errors, owner),
             Err(_) => unreachable!(),
         }

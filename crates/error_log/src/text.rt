@@ -3,7 +3,8 @@
 ghost use Rattle.std.specs.Prelude.{◌≡◌, ◌++◌, OnOk, map, take};
 ghost use Rattle.error_log.specs.Errors as errors;
 
-use crate::error::{NotedError, up_to};
+use crate::blame::up_to;
+use crate::error::NotedError;
 use itoa::Buffer;
 use std::alloc::AllocError;
 

@@ -58,7 +58,7 @@ read =
       gid = (lit< tt, refl);
       pid = (lit< tt, refl);
     })
-    (record { opcode_is = refl; own_opcode = tt; parts = part_at (U64 _) _ rest 0 8 8 refl (lit< tt, refl) (part_at (U64 _) _ rest 8 8 16 refl (lit< tt, refl) (part_at (U32 _) _ rest 16 4 20 refl (lit< tt, refl) (ignored_at 12 _ rest 20 32 refl (lit≤ tt) (part_at (U32 _) _ rest 32 4 36 refl (lit< tt, refl) (ignored_at 4 _ rest 36 40 refl (lit≤ tt) (end_at rest 40 (lit≤ tt))))))) })
+    (record { opcode_is = refl; own_opcode = tt; parts = part_at (U64 _) _ rest 0 8 8 refl (lit< tt, refl) (part_at (U64 _) _ rest 8 8 16 refl (lit< tt, refl) (part_at (U32 _) _ rest 16 4 20 refl (lit< tt, refl) (part_at (U32 _) _ rest 20 4 24 refl (lit< tt, refl) (ignored_at 8 _ rest 24 32 refl (lit≤ tt) (part_at (U32 _) _ rest 32 4 36 refl (lit< tt, refl) (ignored_at 4 _ rest 36 40 refl (lit≤ tt) (end_at rest 40 (lit≤ tt)))))))) })
 
 write : IsRequest write_bytes write_request
 unfolding number_bytes
@@ -74,7 +74,7 @@ write =
       gid = (lit< tt, refl);
       pid = (lit< tt, refl);
     })
-    (record { opcode_is = refl; own_opcode = tt; parts = part_at (U64 _) _ rest 0 8 8 refl (lit< tt, refl) (part_at (U64 _) _ rest 8 8 16 refl (lit< tt, refl) (part_at (U32 _) _ rest 16 4 20 refl (lit< tt, refl) (ignored_at 20 _ rest 20 40 refl (lit≤ tt) (alone (Bytes (codes "hello world" ++ 10 ∷ [])) (drop 40 rest) refl)))) })
+    (record { opcode_is = refl; own_opcode = tt; parts = part_at (U64 _) _ rest 0 8 8 refl (lit< tt, refl) (part_at (U64 _) _ rest 8 8 16 refl (lit< tt, refl) (part_at (U32 _) _ rest 16 4 20 refl (lit< tt, refl) (ignored_at 4 _ rest 20 24 refl (lit≤ tt) (part_at (U64 _) _ rest 24 8 32 refl (lit< tt, refl) (ignored_at 8 _ rest 32 40 refl (lit≤ tt) (alone (Bytes (codes "hello world" ++ 10 ∷ [])) (drop 40 rest) refl)))))) })
 
 truncate : IsRequest truncate_bytes truncate_request
 unfolding number_bytes

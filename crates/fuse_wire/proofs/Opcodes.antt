@@ -31,14 +31,14 @@ known_at opcode bytes =
     else if opcode == 9 then MkDir (name_of (drop 8 bytes))
     else if opcode == 11 then RmDir (name_of bytes)
     else if opcode == 14 then Open (first_32 bytes)
-    else if opcode == 15 then Read (first_64 bytes) (first_64 (drop 8 bytes)) (first_32 (drop 16 bytes)) (first_32 (drop 32 bytes))
-    else if opcode == 16 then Write (first_64 bytes) (first_64 (drop 8 bytes)) (drop 40 bytes)
+    else if opcode == 15 then Read (first_64 bytes) (first_64 (drop 8 bytes)) (first_32 (drop 16 bytes)) (first_32 (drop 20 bytes)) (first_32 (drop 32 bytes))
+    else if opcode == 16 then Write (first_64 bytes) (first_64 (drop 8 bytes)) (first_64 (drop 24 bytes)) (drop 40 bytes)
     else if opcode == 17 then StatFs
     else if opcode == 18 then Release (first_64 bytes)
     else if opcode == 20 then Fsync
     else if opcode == 22 then GetXAttr (name_of (drop 8 bytes))
     else if opcode == 23 then ListXAttr
-    else if opcode == 25 then Flush (first_64 bytes)
+    else if opcode == 25 then Flush (first_64 bytes) (first_64 (drop 16 bytes))
     else if opcode == 26 then Init (first_32 bytes) (first_32 (drop 4 bytes)) (first_32 (drop 8 bytes)) (first_32 (drop 12 bytes))
     else if opcode == 27 then OpenDir
     else if opcode == 28 then ReadDir (first_64 bytes) (first_64 (drop 8 bytes)) (first_32 (drop 16 bytes))
@@ -86,26 +86,33 @@ operation_is (SetAttr valid size) bytes own are =
 operation_is (MkDir name) bytes own are = ap MkDir (name_is name (drop 8 bytes) (after_ignored 8 _ bytes 0 8 refl are))
 operation_is (RmDir name) bytes own are = ap RmDir (name_is name bytes are)
 operation_is (Open flags) bytes own are = ap Open (number_at flags _ bytes 0 4 refl are).0
-operation_is (Read handle offset size flags) bytes own are =
+operation_is (Read handle offset size read_flags flags) bytes own are =
     let a = long_at handle _ bytes 0 8 refl are in
     let b = long_at offset _ bytes 8 16 refl a.1 in
     let c = number_at size _ bytes 16 20 refl b.1 in
-    let d = after_ignored 12 _ bytes 20 32 refl c.1 in
-    let e = number_at flags _ bytes 32 36 refl d in
-    cc (a.0, b.0, c.0, e.0)
-operation_is (Write handle offset written) bytes own are =
+    let d = number_at read_flags _ bytes 20 24 refl c.1 in
+    let e = after_ignored 8 _ bytes 24 32 refl d.1 in
+    let f = number_at flags _ bytes 32 36 refl e in
+    cc (a.0, b.0, c.0, d.0, f.0)
+operation_is (Write handle offset lock_owner written) bytes own are =
     let a = long_at handle _ bytes 0 8 refl are in
     let b = long_at offset _ bytes 8 16 refl a.1 in
     let c = number_at (length written) _ bytes 16 20 refl b.1 in
-    let d = after_ignored 20 _ bytes 20 40 refl c.1 in
-    let e = only_part (Bytes written) (drop 40 bytes) d in
-    cc (a.0, b.0, e)
+    let d = after_ignored 4 _ bytes 20 24 refl c.1 in
+    let e = long_at lock_owner _ bytes 24 32 refl d in
+    let f = after_ignored 8 _ bytes 32 40 refl e.1 in
+    let g = only_part (Bytes written) (drop 40 bytes) f in
+    cc (a.0, b.0, e.0, g)
 operation_is StatFs bytes own are = refl
 operation_is (Release handle) bytes own are = ap Release (long_at handle _ bytes 0 8 refl are).0
 operation_is Fsync bytes own are = refl
 operation_is (GetXAttr name) bytes own are = ap GetXAttr (name_is name (drop 8 bytes) (after_ignored 8 _ bytes 0 8 refl are))
 operation_is ListXAttr bytes own are = refl
-operation_is (Flush handle) bytes own are = ap Flush (long_at handle _ bytes 0 8 refl are).0
+operation_is (Flush handle lock_owner) bytes own are =
+    let a = long_at handle _ bytes 0 8 refl are in
+    let b = after_ignored 8 _ bytes 8 16 refl a.1 in
+    let c = long_at lock_owner _ bytes 16 24 refl b in
+    cc (a.0, c.0)
 operation_is (Init major minor max_readahead flags) bytes own are =
     let a = number_at major _ bytes 0 4 refl are in
     let b = number_at minor _ bytes 4 8 refl a.1 in

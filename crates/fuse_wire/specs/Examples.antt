@@ -61,7 +61,7 @@ read_bytes =
     ∷ 0 ∷ 128 ∷ 0 ∷ 0 ∷ 0 ∷ 0 ∷ 0 ∷ 0 ∷ []
 
 abbrev pub read_request : Request
-read_request = record { unique = 22; node = 2; uid = 0; gid = 0; pid = 6123; operation = Read 5 0 131072 32768 }
+read_request = record { unique = 22; node = 2; uid = 0; gid = 0; pid = 6123; operation = Read 5 0 131072 2 32768 }
 
 -- WRITE, by `echo hello world > trace`
 abbrev pub write_bytes : List ℕ
@@ -80,7 +80,7 @@ write_bytes =
     ∷ 114 ∷ 108 ∷ 100 ∷ 10 ∷ []
 
 abbrev pub write_request : Request
-write_request = record { unique = 40; node = 2; uid = 0; gid = 0; pid = 6073; operation = Write 5 0 (codes "hello world" ++ 10 ∷ []) }
+write_request = record { unique = 40; node = 2; uid = 0; gid = 0; pid = 6073; operation = Write 5 0 16745403321545008842 (codes "hello world" ++ 10 ∷ []) }
 
 -- SETATTR, by `truncate -s 0 trace`: its size, with a handle and a lock owner
 abbrev pub truncate_bytes : List ℕ

@@ -18,14 +18,14 @@ opcode_of (SetAttr valid size) = 4
 opcode_of (MkDir name) = 9
 opcode_of (RmDir name) = 11
 opcode_of (Open flags) = 14
-opcode_of (Read handle offset size flags) = 15
-opcode_of (Write handle offset bytes) = 16
+opcode_of (Read handle offset size read_flags flags) = 15
+opcode_of (Write handle offset lock_owner bytes) = 16
 opcode_of StatFs = 17
 opcode_of (Release handle) = 18
 opcode_of Fsync = 20
 opcode_of (GetXAttr name) = 22
 opcode_of ListXAttr = 23
-opcode_of (Flush handle) = 25
+opcode_of (Flush handle lock_owner) = 25
 opcode_of (Init major minor max_readahead flags) = 26
 opcode_of OpenDir = 27
 opcode_of (ReadDir handle offset size) = 28
@@ -67,10 +67,10 @@ body (MkDir name) = Ignored 8 ∷ Name name ∷ []
 body (RmDir name) = Name name ∷ []
 -- fuse_open_in: flags; open_flags
 body (Open flags) = U32 flags ∷ Ignored 4 ∷ []
--- fuse_read_in: fh, offset, size; read_flags, lock_owner; flags; padding
-body (Read handle offset size flags) = U64 handle ∷ U64 offset ∷ U32 size ∷ Ignored 12 ∷ U32 flags ∷ Ignored 4 ∷ []
--- fuse_write_in: fh, offset, size; write_flags, lock_owner, flags, padding
-body (Write handle offset bytes) = U64 handle ∷ U64 offset ∷ U32 (length bytes) ∷ Ignored 20 ∷ Bytes bytes ∷ []
+-- fuse_read_in: fh, offset, size, read_flags; lock_owner; flags; padding
+body (Read handle offset size read_flags flags) = U64 handle ∷ U64 offset ∷ U32 size ∷ U32 read_flags ∷ Ignored 8 ∷ U32 flags ∷ Ignored 4 ∷ []
+-- fuse_write_in: fh, offset, size; write_flags; lock_owner; flags, padding
+body (Write handle offset lock_owner bytes) = U64 handle ∷ U64 offset ∷ U32 (length bytes) ∷ Ignored 4 ∷ U64 lock_owner ∷ Ignored 8 ∷ Bytes bytes ∷ []
 body StatFs = []
 -- fuse_release_in: fh; flags, release_flags, lock_owner
 body (Release handle) = U64 handle ∷ Ignored 16 ∷ []
@@ -79,8 +79,8 @@ body Fsync = Ignored 16 ∷ []
 -- fuse_getxattr_in: size, padding
 body (GetXAttr name) = Ignored 8 ∷ Name name ∷ []
 body ListXAttr = Ignored 8 ∷ []
--- fuse_flush_in: fh; unused, padding, lock_owner
-body (Flush handle) = U64 handle ∷ Ignored 16 ∷ []
+-- fuse_flush_in: fh; unused, padding; lock_owner
+body (Flush handle lock_owner) = U64 handle ∷ Ignored 8 ∷ U64 lock_owner ∷ []
 -- fuse_init_in: major, minor, max_readahead, flags; from minor 36 on also flags2 and unused
 body (Init major minor max_readahead flags) = U32 major ∷ U32 minor ∷ U32 max_readahead ∷ U32 flags ∷ Anything ∷ []
 -- fuse_open_in

@@ -96,6 +96,7 @@ fn read(body: &[u8]) -> Option<Operation<'_>>
         handle: u64_at(body, 0),
         offset: u64_at(body, 8),
         size: u32_at(body, 16),
+        read_flags: u32_at(body, 20),
         flags: u32_at(body, 32),
     })
 }
@@ -114,6 +115,7 @@ fn write(body: &[u8]) -> Option<Operation<'_>>
     Some(Operation::Write {
         handle: u64_at(body, 0),
         offset: u64_at(body, 8),
+        lock_owner: u64_at(body, 24),
         bytes: Bytes::new(bytes),
     })
 }
@@ -176,6 +178,7 @@ fn flush(body: &[u8]) -> Option<Operation<'_>>
     }
     Some(Operation::Flush {
         handle: u64_at(body, 0),
+        lock_owner: u64_at(body, 16),
     })
 }
 

@@ -40,16 +40,19 @@ pub enum Operation<'a> {
     Open {
         flags: u32,
     },
-    /// The flags are the open file's as they are now: fcntl(2) may have changed `O_NONBLOCK`.
+    /// `read_flags` are FUSE's own (`FUSE_READ_..`). `flags` are the open file's as they are now: fcntl(2) may have changed `O_NONBLOCK`.
     Read {
         handle: u64,
         offset: u64,
         size: u32,
+        read_flags: u32,
         flags: u32,
     },
+    /// `lock_owner` stands for the file descriptors of the process that writes; so does a `Flush`'s for those of the one that closes.
     Write {
         handle: u64,
         offset: u64,
+        lock_owner: u64,
         bytes: Bytes<'a>,
     },
     StatFs,
@@ -63,6 +66,7 @@ pub enum Operation<'a> {
     ListXAttr,
     Flush {
         handle: u64,
+        lock_owner: u64,
     },
     Init {
         major: u32,

@@ -13,11 +13,12 @@ use Rattle.tracer_specification.specs.Pasts.{AreDone}
 use Rattle.tracer_specification.specs.Settings.{declared_events, declares}
 use Rattle.tracer_without_history.specs.Lives.{limited_answer, live_answer, most_done}
 use Rattle.mount_replies.proofs.NewEvents.{declared-new}
-use Rattle.mount_replies.specs.Mounted.{AreServed, Right, Wrong, Unframed, Does, IsAnswered, IsExchanged, Serves, TellsOwed, past_after}
+use Rattle.mount_replies.proofs.RunLemmas.{any-lines, lines-keep}
+use Rattle.mount_replies.specs.Mounted.{AreServed, Does, IsAnswered, IsExchanged, Right, Serves, TellsOwed, Unframed, Wrong, past_after}
 use Rattle.mount_replies.specs.Owed.{Owed, ReplyAt, WakeupAt, owed}
-use Rattle.mount_replies.specs.Served.{Step, Plain, Takes, Asks, AsksNoting, Clears, Parks, Interrupts}
-use Rattle.mount_replies.specs.Services.{Service, Terms}
 use Rattle.mount_replies.specs.PastLaws.{PastsAreDone, WasDone}
+use Rattle.mount_replies.specs.Services.{Service, Terms}
+use Rattle.mount_replies.specs.Steps.{Asks, AsksLines, AsksNoting, Counts, Interrupts, Parks, Plain, Step, Takes, Tells}
 
 -- ---- answers
 
@@ -57,8 +58,14 @@ does-done g before (Parks read) reply after was (inr does) = subst (WasDone g) (
 does-done g before (Interrupts unique) reply after was does = subst (WasDone g) (sym (ap (λ (s : Service). s.past) does.1)) was
 does-done g before (AsksNoting request outcome noting) reply after was (answer, answered, told, is) =
     subst (WasDone g) (sym (ap (λ (s : Service). s.past) is)) (one-more g before.past request answer was answered)
-does-done g before (Clears owner takes outcome) reply after was (inl does) = subst (WasDone g) (sym (ap (λ (s : Service). s.past) does.1)) was
-does-done g before (Clears owner takes outcome) reply after was (inr (may, told, same)) = subst (WasDone g) (sym (ap (λ (s : Service). s.past) same)) was
+does-done g before (Tells noting takes outcome) reply after was (inl does) = subst (WasDone g) (sym (ap (λ (s : Service). s.past) does.1)) was
+does-done g before (Tells noting takes outcome) reply after was (inr (may, told, same)) = subst (WasDone g) (sym (ap (λ (s : Service). s.past) same)) was
+does-done g before (AsksLines lines outcome noting) reply after was (ran, runs, told, is) =
+    subst (WasDone g) (sym (ap (λ (s : Service). s.past) is))
+    (lines-keep g (WasDone g) (λ request. Unit {0}) (λ now request answer done any answered. one-more g now request (Ok answer) done answered) before.past lines ran
+    (any-lines lines) was runs)
+does-done g before (Counts count outcome) reply after was (inl does) = subst (WasDone g) (sym (ap (λ (s : Service). s.past) does.1)) was
+does-done g before (Counts count outcome) reply after was (inr does) = subst (WasDone g) (sym (ap (λ (s : Service). s.past) does.1)) was
 
 owed-done : (g : Terms) (before : Service) (what : Option Owed) (bytes : List ℕ) (after : Service) → WasDone g before.past → TellsOwed g before what bytes after
     → WasDone g after.past
@@ -72,7 +79,7 @@ served-done g before asked bytes after was (Right request is served) = does-done
 served-done g before asked bytes after was (Wrong opcode unique framed none told same) = subst (WasDone g) (sym (ap (λ (s : Service). s.past) same)) was
 served-done g before asked bytes after was (Unframed none told same) = subst (WasDone g) (sym (ap (λ (s : Service). s.past) same)) was
 
-exchange-done : (g : Terms) (before : Service) (asked bytes : List ℕ) (after : Service) → WasDone g before.past → IsExchanged g before asked bytes after
+pub exchange-done : (g : Terms) (before : Service) (asked bytes : List ℕ) (after : Service) → WasDone g before.past → IsExchanged g before asked bytes after
     → WasDone g after.past
 exchange-done g before [] bytes after was is = owed-done g before (owed g before) bytes after was is
 exchange-done g before (byte ∷ asked) bytes after was is = served-done g before (byte ∷ asked) bytes after was is.1

@@ -5,7 +5,7 @@ use Rattle.std.proofs.lemmas.Bool.{lt-ltb}
 use Rattle.std.proofs.lemmas.List.{set-get_or, set-set}
 use Rattle.std.proofs.lemmas.List.Quantifiers.{position-Some}
 use Rattle.std.specs.Option.{option_and_then, option_map}
-use Rattle.mount_replies.specs.Services.{OpenSeen, file_at, free_handle, has_wakeup, text_at, with_change, with_file, with_records, without_file}
+use Rattle.mount_replies.specs.Services.{OpenSeen, after_reading, armed, file_at, free_handle, has_wakeup, is_read_out, text_at, with_change, with_file, with_reading, with_records, without_file}
 
 -- a file is taken out, changed and put back
 pub changed : (change : OpenSeen → OpenSeen) (files now after : List (Option OpenSeen)) (handle : ℕ) (file other : OpenSeen)
@@ -17,15 +17,37 @@ changed change files now after handle file other found taken is put =
 
 -- a part of the text of a file was given
 pub given-text : (files : List (Option OpenSeen)) (handle count : ℕ) (text : List ℕ) → text_at handle files ≡ Some text
-    → with_change (λ (file : OpenSeen). record file { text = option_map (drop count) file.text; has_read = true }) handle files
+    → with_change (λ (file : OpenSeen). record file { text = option_map (drop count) file.text; has_read = true; polls = armed false file.polls }) handle files
     ≡ with_records (drop count text) handle files
 given-text files handle count text has = ap (λ (o : Option OpenSeen). set files handle o) (by (file_at handle files) has)
   where
     by : (o : Option OpenSeen) → option_and_then (λ (file : OpenSeen). file.text) o ≡ Some text
-        → option_map (λ (file : OpenSeen). record file { text = option_map (drop count) file.text; has_read = true }) o
-        ≡ option_map (λ (file : OpenSeen). record file { text = Some (drop count text); has_read = true }) o
+        → option_map (λ (file : OpenSeen). record file { text = option_map (drop count) file.text; has_read = true; polls = armed false file.polls }) o
+        ≡ option_map (λ (file : OpenSeen). record file { text = Some (drop count text); has_read = true; polls = armed false file.polls }) o
     by None h = refl
-    by (Some file) h = ap (λ (t : Option (List ℕ)). Some (record file { text = option_map (drop count) t; has_read = true })) h
+    by (Some file) h =
+        ap (λ (t : Option (List ℕ)). Some (record file { text = option_map (drop count) t; has_read = true; polls = armed false file.polls })) h
+
+-- a text that was read to its end is given back
+pub given-back : (files now after : List (Option OpenSeen)) (handle offset size : ℕ) (text : List ℕ) (file other : OpenSeen)
+    → Some file ≡ file_at handle files → now ≡ without_file handle files
+    → ((t : List ℕ) → file.text ≡ Some t → other ≡ record file { text = None; ended = Some (length t) })
+    → after ≡ set now handle (Some other) → text_at handle files ≡ Some text → is_read_out offset size text ≡ true
+    → after ≡ with_reading offset size text handle files
+given-back files now after handle offset size text file other found taken is put has out =
+    let own : file.text ≡ Some text = ap (λ (o : Option OpenSeen). option_and_then (λ (f : OpenSeen). f.text) o) found ∙ has in
+    let read : other ≡ after_reading offset size text file = is text own ∙ by (is_read_out offset size text) out in
+    changed (after_reading offset size text) files now after handle file other found taken read put
+  where
+    by : (t : Bool) → t ≡ true
+        → record file { text = None; ended = Some (length text) }
+        ≡ (if t then record file { text = None; ended = Some (length text) } else record file { text = Some text; ended = None })
+    by true e = refl
+    by false e = absurd (cc)
+
+-- the file of a handle is one
+pub same-file : (o : Option OpenSeen) (file other : OpenSeen) → Some file ≡ o → o ≡ Some other → file ≡ other
+same-file o file other one two = let same : Some file ≡ Some other = one ∙ two in cc
 
 -- ---- polls that are to be told
 
@@ -47,7 +69,7 @@ none-more p (first ∷ files) slot none is =
     grind (arith, none, more)
 
 -- a file that was just opened
-pub none-opened : (files : List (Option OpenSeen)) (handle : ℕ) (file : OpenSeen) → list_any has_wakeup files ≡ false → file.wakeup ≡ None
+pub none-opened : (files : List (Option OpenSeen)) (handle : ℕ) (file : OpenSeen) → list_any has_wakeup files ≡ false → file.polls.wakeup ≡ None
     → list_any has_wakeup (with_file handle file files) ≡ false
 none-opened files handle file none is = by (nat_lt handle (length files))
   where

@@ -18,3 +18,17 @@ pub mod AnsweredOnce
 pub mod WaitLaws
 pub mod RecordsKept
 pub mod ToolLemmas
+pub mod PieceLemmas
+pub mod StreamLemmas
+pub mod StreamLaws
+pub mod CommandLemmas
+pub mod StreamSteps
+pub mod QuietLemmas
+pub mod SizeLemmas
+pub mod RunLemmas
+pub mod AskedSteps
+pub mod ErrorOwners
+pub mod CountedLemmas
+pub mod KeptTexts
+pub mod OtherSteps
+pub mod ArmedLemmas

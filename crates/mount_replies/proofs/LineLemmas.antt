@@ -1,49 +1,23 @@
 -- Lines of `inject`, and fields that are left out.
-use Rattle.std.proofs.Common.{◌≡◌, ℕ, ◌<◌, ◌≤◌, ◌+◌, suc, Bool, true, false, cond, nat_lt, List, [], ◌∷◌, ◌++◌, length, take, drop, get_or, Some, None, Ok, Err, codes, refl, sym, ap, ◌∙◌, arith, add-one, append-nil, append_assoc, drop-cons, length-append}
-use Rattle.std.proofs.lemmas.Bool.Decides.{nat_tests}
-use Rattle.std.proofs.lemmas.List.{drop_all, take-append-le, take_all}
-use Rattle.std.specs.List.{before_first, list_all, list_any, position, position_or_len}
+use Rattle.std.proofs.Common.{◌≡◌, ℕ, ◌<◌, ◌≤◌, ◌+◌, suc, Bool, true, false, cond, List, [], ◌∷◌, ◌++◌, length, take, drop, get_or, None, Ok, Err, codes, refl, sym, ap, ◌∙◌, arith, add-one, append-nil, append_assoc, drop-cons, length-append}
+use Rattle.std.proofs.lemmas.List.{drop_all, take-append-le}
+use Rattle.std.specs.List.{list_any}
 use Rattle.std.specs.Str.{bytes_eq}
 use Rattle.trace_format.specs.declared.event.Field.{Field}
 use Rattle.trace_format.specs.declared.pair.Pair.{Pair}
-use Rattle.trace_lex.specs.Blanks.{is_blank}
 use Rattle.trace_script.specs.Lines.{line_of}
 use Rattle.trace_script.specs.declared.line.Line.{Line}
 use Rattle.trace_script.specs.declared.fault.ScriptFault.{ScriptFault}
 use Rattle.mount_replies.specs.Injections.{default_pair, left_out, pairs_asked, pairs_of_line}
 
--- what comes before the first byte that passes
-pub found : (p : ℕ → Bool) (xs : List ℕ) (at : ℕ) → Some at ≡ position p xs → take at xs ≡ before_first p xs
-found p xs at e = by (nat_lt (position_or_len p xs) (length xs)) e
-  where
-    by : (t : Bool) → Some at ≡ cond t (Some (position_or_len p xs)) None → take at xs ≡ take (position_or_len p xs) xs
-    by true h = let same : at ≡ position_or_len p xs = cc in ap (λ (n : ℕ). take n xs) same
-    by false h = absurd (cc)
-
-pub not_found : (p : ℕ → Bool) (xs : List ℕ) → None ≡ position p xs → xs ≡ before_first p xs
-not_found p xs e = by (nat_lt (position_or_len p xs) (length xs)) refl e
-  where
-    by : (t : Bool) → nat_lt (position_or_len p xs) (length xs) ≡ t → None ≡ cond t (Some (position_or_len p xs)) None
-        → xs ≡ take (position_or_len p xs) xs
-    by true is h = absurd (cc)
-    by false is h = let all : length xs ≤ position_or_len p xs = grind (arith, nat_tests) in sym (take_all (position_or_len p xs) xs all)
-
--- the pairs of a line that is not blank
-pub asked : (line text : List ℕ) (said : Line) → list_all is_blank line ≡ false → text ≡ codes "emit 0 0 e " ++ line → line_of text ≡ Ok said
-    → pairs_asked (Ok said) ≡ pairs_of_line line
+-- the pairs of a line
+pub asked : (line text : List ℕ) (said : Line) → text ≡ codes "emit 0 0 e " ++ line → line_of text ≡ Ok said → pairs_asked (Ok said) ≡ pairs_of_line line
 unfolding pairs_of_line
-asked line text said some is says =
-    rw some (ap pairs_asked (sym says ∙ ap line_of is))
+asked line text said is says = ap pairs_asked (sym says ∙ ap line_of is)
 
-pub faulty : (line text : List ℕ) (fault : ScriptFault) → list_all is_blank line ≡ false → text ≡ codes "emit 0 0 e " ++ line → line_of text ≡ Err fault
-    → None ≡ pairs_of_line line
+pub faulty : (line text : List ℕ) (fault : ScriptFault) → text ≡ codes "emit 0 0 e " ++ line → line_of text ≡ Err fault → None ≡ pairs_of_line line
 unfolding pairs_of_line
-faulty line text fault some is says =
-    rw some (ap pairs_asked (sym says ∙ ap line_of is))
-
-pub blank : (line : List ℕ) → list_all is_blank line ≡ true → Some [] ≡ pairs_of_line line
-unfolding pairs_of_line
-blank line all = rw all refl
+faulty line text fault is says = ap pairs_asked (sym says ∙ ap line_of is)
 
 -- ---- fields that are left out
 

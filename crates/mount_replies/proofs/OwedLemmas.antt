@@ -1,12 +1,13 @@
 -- What telling what is owed comes to.
-use Rattle.std.proofs.Common.{◌≡◌, ◌≢◌, inl, inr, ℕ, ◌<◌, zero, suc, Bool, true, false, not, ◌&&◌, ◌||◌, if◌then◌else◌, is_some, List, [], ◌∷◌, length, get_or, Option, Some, None, unwrap_or, Ok, Err, Result, refl, sym, ap, ◌∙◌, arith}
+use Rattle.std.proofs.Common.{◌≡◌, ◌≢◌, inl, inr, ℕ, ◌<◌, ◌==◌, zero, suc, Bool, true, false, not, ◌&&◌, ◌||◌, if◌then◌else◌, is_some, List, [], ◌∷◌, length, get_or, Option, Some, None, unwrap_or, Ok, Err, Result, refl, sym, ap, ◌∙◌, arith}
 use Rattle.std.proofs.lemmas.List.Quantifiers.{position-Some}
 use Rattle.std.specs.List.{position, remove, slice_get, slice_index_or}
 use Rattle.std.specs.Option.{option_and_then}
 use Rattle.fuse_wire.specs.Replies.{reply_bytes, wakeup_bytes}
-use Rattle.fuse_wire.specs.declared.errno.Errno.TheVariants.{EINTR}
+use Rattle.fuse_wire.specs.declared.errno.Errno.TheVariants.{EINTR, ENOENT}
 use Rattle.fuse_wire.specs.declared.reply.Reply.{Reply}
 use Rattle.fuse_wire.specs.declared.reply.Reply.TheVariants as replies
+use Rattle.mount_tree.specs.Children.{is_there}
 use Rattle.mount_tree.specs.declared.file.FileKind.{FileKind}
 use Rattle.mount_tree.specs.declared.file.FileKind.TheVariants as kinds
 use Rattle.mount_tree.specs.FileKinds.{kind_of_file}
@@ -15,11 +16,12 @@ use Rattle.trace_command.specs.declared.command.Reply.{Reply as Answer}
 use Rattle.trace_command.specs.declared.refusal.Refusal.{Refusal}
 use Rattle.error_log.specs.Logs.{log_text}
 use Rattle.mount_stub_files.specs.ToolTexts.{tool_text}
-use Rattle.mount_replies.specs.Mounted.{bytes_of_reply, Does, HasLedTo, IsMounted, IsOwedCalled, IsReplying, IsTold, IsWaking, MountSeen, service_of, terms_of}
+use Rattle.mount_replies.specs.Mounted.{Does, HasLedTo, IsMounted, IsOwedCalled, IsReplying, IsTold, IsWaking, MountSeen, bytes_of_reply, service_of, terms_of}
 use Rattle.mount_replies.specs.Owed.{first_owed, is_due, is_ready, owed, step_of_parked}
-use Rattle.mount_replies.specs.Pipes.{ends, is_dry, is_used_up, waits_at, would_wait}
-use Rattle.mount_replies.specs.Served.{Asks, Outcome, Plain, failed, given_records, given_text, given_tool, makes_text, part_of, plain, read_anew, read_dry, read_file, read_kind, read_pipe, read_records, read_shown, read_text, taken_records}
-use Rattle.mount_replies.specs.Services.{OpenSeen, Service, Terms, file_at, node_of, scene_of, wakeup_at, with_wakeup, without_read}
+use Rattle.mount_replies.specs.Pipes.{ends, has_news, is_dry, is_used_up, waits_at, would_wait}
+use Rattle.mount_replies.specs.Served.{given_counted, given_records, given_text, given_tool, goes_on_in, makes_text, read_anew, read_dry, read_file, read_kind, read_log, read_pipe, read_pipe_directly, read_records, read_shown, read_text, read_there, read_tool, taken_records, text_counted, unless_counted}
+use Rattle.mount_replies.specs.Services.{OpenSeen, Service, Terms, file_at, node_of, scene_of, wakeup_at, with_dry_read, without_read, without_wakeup}
+use Rattle.mount_replies.specs.Steps.{Asks, Outcome, Plain, Step, failed}
 use Rattle.mount_replies.specs.declared.parked.Parked.{Parked}
 
 -- ---- a read that would not wait has a reply
@@ -48,7 +50,7 @@ text-replies : (g : Terms) (s before after : Service) (read : Parked) (offset : 
 text-replies g s before after read offset file reply = by (makes_text offset file)
   where
     by : (t : Bool) → Does g before (if t then read_anew (scene_of g s) read.handle offset read.size (node_of file) s.files
-        else plain (replies.Data (part_of offset read.size (unwrap_or file.text []))) s.files) reply after → HasReply reply
+        else goes_on_in read.handle offset read.size file s.files) reply after → HasReply reply
     by true does = asks-reply g before after _ _ reply (text-always read.handle offset read.size s.files) does
     by false does = (_, does.0)
 
@@ -79,26 +81,59 @@ shown-replies : (g : Terms) (before after : Service) (read : Parked) (offset : �
 shown-replies g before after read offset file files shown reply = by (makes_text offset file)
   where
     by : (t : Bool) → Does g before (if t then given_tool read.handle offset read.size files shown
-        else plain (replies.Data (part_of offset read.size (unwrap_or file.text []))) files) reply after → HasReply reply
+        else goes_on_in read.handle offset read.size file files) reply after → HasReply reply
     by true does = given-replies g before after read.handle offset read.size files shown reply does
     by false does = (_, does.0)
 
-kind-replies : (g : Terms) (s before after : Service) (read : Parked) (offset flags : ℕ) (file : OpenSeen) (kind : FileKind) (reply : Option Reply)
-    → would_wait g s file ≡ false → Does g before (read_kind g s read offset flags file kind) reply after → HasReply reply
-kind-replies g s before after read offset flags file kinds.Pipe reply waits does = pipe-replies g s before after read flags file reply waits does
-kind-replies g s before after read offset flags file kinds.Inject reply waits does = (_, does.0)
-kind-replies g s before after read offset flags file kinds.Tool reply waits does =
-    shown-replies g before after read offset file s.files (tool_text g.config s.past file.owner file.file) reply does
-kind-replies g s before after read offset flags file kinds.ErrorLog reply waits does =
-    shown-replies g before after read offset file s.files (Some (log_text file.owner s.errors)) reply does
-kind-replies g s before after read offset flags file kinds.Text reply waits does = text-replies g s before after read offset file reply does
-kind-replies g s before after read offset flags file kinds.Trace reply waits does = text-replies g s before after read offset file reply does
+counted-replies : (g : Terms) (s before after : Service) (read : Parked) (cached : Bool) (offset : ℕ) (file : OpenSeen) (otherwise : Step)
+    (reply : Option Reply) → (Does g before otherwise reply after → HasReply reply)
+    → Does g before (unless_counted s read cached offset file otherwise) reply after → HasReply reply
+counted-replies g s before after read cached offset file otherwise reply others = by (cached && offset == 0) (text_counted file s.counted)
+  where
+    by : (t : Bool) (text : Option (List ℕ))
+        → Does g before (if t then given_counted read.handle read.size s.files otherwise text else otherwise) reply after → HasReply reply
+    by false text does = others does
+    by true None does = others does
+    by true (Some text) (inl does) = (_, does.0)
+    by true (Some text) (inr does) = (_, does.0)
 
-pub replies-now : (g : Terms) (s before after : Service) (read : Parked) (offset flags : ℕ) (slot : Option OpenSeen) (reply : Option Reply)
-    → waits_at g s slot ≡ false → Does g before (read_file g s read offset flags slot) reply after → HasReply reply
-replies-now g s before after read offset flags None reply waits does = (_, does.0)
-replies-now g s before after read offset flags (Some file) reply waits does =
-    kind-replies g s before after read offset flags file (kind_of_file file.file) reply waits does
+directly-replies : (g : Terms) (s before after : Service) (read : Parked) (cached : Bool) (flags : ℕ) (file : OpenSeen) (reply : Option Reply)
+    → would_wait g s file ≡ false → Does g before (read_pipe_directly g s read cached flags file) reply after → HasReply reply
+directly-replies g s before after read true flags file reply waits does = (_, does.0)
+directly-replies g s before after read false flags file reply waits does = pipe-replies g s before after read flags file reply waits does
+
+kind-replies : (g : Terms) (s before after : Service) (read : Parked) (offset : ℕ) (cached : Bool) (flags : ℕ) (file : OpenSeen) (kind : FileKind)
+    (reply : Option Reply) → would_wait g s file ≡ false → Does g before (read_kind g s read offset cached flags file kind) reply after → HasReply reply
+kind-replies g s before after read offset cached flags file kinds.Pipe reply waits does =
+    directly-replies g s before after read cached flags file reply waits does
+kind-replies g s before after read offset cached flags file kinds.Inject reply waits does = (_, does.0)
+kind-replies g s before after read offset cached flags file kinds.Tool reply waits does =
+    counted-replies g s before after read cached offset file (read_tool g s read.handle offset read.size file) reply
+    (λ shows. shown-replies g before after read offset file s.files (tool_text g.config s.past file.owner file.file) reply shows) does
+kind-replies g s before after read offset cached flags file kinds.ErrorLog reply waits does =
+    counted-replies g s before after read cached offset file (read_log s read.handle offset read.size file) reply
+    (λ shows. shown-replies g before after read offset file s.files (Some (log_text file.owner s.errors)) reply shows) does
+kind-replies g s before after read offset cached flags file kinds.Text reply waits does =
+    counted-replies g s before after read cached offset file (read_text (scene_of g s) read.handle offset read.size file s.files) reply
+    (λ shows. text-replies g s before after read offset file reply shows) does
+kind-replies g s before after read offset cached flags file kinds.Trace reply waits does =
+    counted-replies g s before after read cached offset file (read_text (scene_of g s) read.handle offset read.size file s.files) reply
+    (λ shows. text-replies g s before after read offset file reply shows) does
+
+there-replies : (g : Terms) (s before after : Service) (read : Parked) (offset : ℕ) (cached : Bool) (flags : ℕ) (file : OpenSeen) (reply : Option Reply)
+    → would_wait g s file ≡ false → Does g before (read_there g s read offset cached flags file) reply after → HasReply reply
+there-replies g s before after read offset cached flags file reply waits = by (is_there (scene_of g s) (node_of file))
+  where
+    by : (t : Bool) → Does g before (if t then read_kind g s read offset cached flags file (kind_of_file file.file) else failed ENOENT s.files) reply after
+        → HasReply reply
+    by true does = kind-replies g s before after read offset cached flags file (kind_of_file file.file) reply waits does
+    by false does = (_, does.0)
+
+pub replies-now : (g : Terms) (s before after : Service) (read : Parked) (offset : ℕ) (cached : Bool) (flags : ℕ) (slot : Option OpenSeen)
+    (reply : Option Reply) → waits_at g s slot ≡ false → Does g before (read_file g s read offset cached flags slot) reply after → HasReply reply
+replies-now g s before after read offset cached flags None reply waits does = (_, does.0)
+replies-now g s before after read offset cached flags (Some file) reply waits does =
+    there-replies g s before after read offset cached flags file reply waits does
 
 -- ---- a parked read gets its reply
 
@@ -114,10 +149,11 @@ first-due : (p : Parked → Bool) (reads : List Parked) (index : ℕ) (read : Pa
     → read ≡ slice_index_or reads index read → p read ≡ true
 first-due p reads index read first is = ap p is ∙ (position-Some p reads index read first).1
 
-pub interrupted-replying : (past : List Request) (old : MountSeen) (index : ℕ) (read : Parked) (now : List Parked) (bytes : List ℕ)
-    → HasLedTo past old → index < length old.parked → read ≡ slice_index_or old.parked index read → now ≡ remove old.parked index
-    → read.interrupted ≡ true → bytes ≡ reply_bytes read.unique (replies.Error EINTR) → IsReplying past old (record old { parked = now }) index bytes
-interrupted-replying past old index read now bytes mounted within is left interrupted said = record {
+pub interrupted-replying : (past : List Request) (old : MountSeen) (index : ℕ) (read : Parked) (now : List Parked)
+    (files : List (Option OpenSeen)) (bytes : List ℕ) → HasLedTo past old → index < length old.parked → read ≡ slice_index_or old.parked index read
+    → now ≡ remove old.parked index → files ≡ with_dry_read false read.handle old.files → read.interrupted ≡ true
+    → bytes ≡ reply_bytes read.unique (replies.Error EINTR) → IsReplying past old (record old { parked = now; files = files }) index bytes
+interrupted-replying past old index read now files bytes mounted within is left noted interrupted said = record {
   after = past;
   mounted = record { lives = mounted.lives; scene = mounted.scene };
   terms = refl;
@@ -125,18 +161,22 @@ interrupted-replying past old index read now bytes mounted within is left interr
     read = read;
     is = at-index old.parked index read within is;
     reply = replies.Error EINTR;
-    does = rw interrupted (refl, ap (λ (p : List Parked). record { past = past; files = old.files; parked = p; errors = old.errors }) left);
+    does = rw interrupted (
+      refl,
+      ap (λ (f : List (Option OpenSeen)). record { past = past; files = f; parked = now; errors = old.errors; counted = old.counted }) noted
+          ∙ ap (λ (p : List Parked). record { past = past; files = with_dry_read false read.handle old.files; parked = p; errors = old.errors; counted = old.counted }) left,
+    );
     told = said;
   };
 }
 
 -- the step of one that was not interrupted is that of a read
 does-read : (g : Terms) (before after s : Service) (read : Parked) (reply : Option Reply) → read.interrupted ≡ false
-    → Does g before (read_file g s read 0 0 (file_at read.handle s.files)) reply after → Does g before (step_of_parked g s read) reply after
+    → Does g before (read_file g s read 0 false 0 (file_at read.handle s.files)) reply after → Does g before (step_of_parked g s read) reply after
 does-read g before after s read reply going does = by read.interrupted going
   where
     by : (t : Bool) → t ≡ false
-        → Does g before (if t then failed EINTR s.files else read_file g s read 0 0 (file_at read.handle s.files)) reply after
+        → Does g before (if t then failed EINTR (with_dry_read false read.handle s.files) else read_file g s read 0 false 0 (file_at read.handle s.files)) reply after
     by false e = does
     by true e = absurd (cc)
 
@@ -144,16 +184,16 @@ pub read-replying : (past : List Request) (old new : MountSeen) (index : ℕ) (r
     → index < length old.parked → read ≡ slice_index_or old.parked index read → now ≡ remove old.parked index → read.interrupted ≡ false
     → position (is_due (terms_of old) (service_of past old)) old.parked ≡ Some index
     → IsTold past (record old { parked = now }) new
-    (read_file (terms_of old) (service_of past (record old { parked = now })) read 0 0 (file_at read.handle old.files)) read.unique bytes
+    (read_file (terms_of old) (service_of past (record old { parked = now })) read 0 false 0 (file_at read.handle old.files)) read.unique bytes
     → IsReplying past old new index bytes
 read-replying past old new index read now bytes within is left going first told =
     let g = terms_of old in
     let s = service_of past old in
     let due : is_due g s read ≡ true = first-due (is_due g s) old.parked index read first is in
     let waits : waits_at g s (file_at read.handle old.files) ≡ false = no-wait (waits_at g s (file_at read.handle old.files)) read.interrupted going due in
-    let does : Does g (without_read index s) (read_file g s read 0 0 (file_at read.handle old.files)) told.reply (service_of told.is.after new) =
+    let does : Does g (without_read index s) (read_file g s read 0 false 0 (file_at read.handle old.files)) told.reply (service_of told.is.after new) =
     rw left at told.is.does in
-    let has = replies-now g s (without_read index s) (service_of told.is.after new) read 0 0 (file_at read.handle old.files) told.reply waits does in
+    let has = replies-now g s (without_read index s) (service_of told.is.after new) read 0 false 0 (file_at read.handle old.files) told.reply waits does in
     record {
       after = told.is.after;
       mounted = told.is.mounted;
@@ -175,7 +215,7 @@ read-replying past old new index read now bytes within is left going first told 
 -- ---- a poll is told
 
 pub woken : (past : List Request) (old : MountSeen) (handle wakeup : ℕ) (now : List (Option OpenSeen)) (bytes : List ℕ) → HasLedTo past old
-    → Some wakeup ≡ wakeup_at handle old.files → bytes ≡ wakeup_bytes wakeup → now ≡ with_wakeup None handle old.files
+    → Some wakeup ≡ wakeup_at handle old.files → bytes ≡ wakeup_bytes wakeup → now ≡ without_wakeup handle old.files
     → IsWaking past old (record old { files = now }) handle bytes
 woken past old handle wakeup now bytes mounted is said are = record {
   mounted = record { lives = mounted.lives; scene = mounted.scene };
@@ -184,7 +224,7 @@ woken past old handle wakeup now bytes mounted is said are = record {
     wakeup = wakeup;
     is = sym is;
     told = said;
-    now = ap (λ (f : List (Option OpenSeen)). record { past = past; files = f; parked = old.parked; errors = old.errors }) are;
+    now = ap (λ (f : List (Option OpenSeen)). record { past = past; files = f; parked = old.parked; errors = old.errors; counted = old.counted }) are;
   };
 }
 
@@ -201,9 +241,9 @@ has-wakeup g s files handle first none =
     at-handle (first ∷ files) zero = refl
     at-handle (first ∷ files) (suc handle) = at-handle files handle
 
-    no-ready : (slot : Option OpenSeen) → option_and_then (λ (file : OpenSeen). file.wakeup) slot ≡ None → is_ready g s slot ≡ true → ⊥
+    no-ready : (slot : Option OpenSeen) → option_and_then (λ (file : OpenSeen). file.polls.wakeup) slot ≡ None → is_ready g s slot ≡ true → ⊥
     no-ready None none ready = let no : false ≡ true = ready in cc
-    no-ready (Some file) none ready = let no : false ≡ true = ap (λ (w : Option ℕ). is_some w && not (would_wait g s file)) (sym none) ∙ ready in cc
+    no-ready (Some file) none ready = let no : false ≡ true = ap (λ (w : Option ℕ). is_some w && has_news g s file) (sym none) ∙ ready in cc
 
 -- ---- calls
 

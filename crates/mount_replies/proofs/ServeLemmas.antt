@@ -1,5 +1,5 @@
 -- What requests come to.
-use Rattle.std.proofs.Common.{◌≡◌, ◌≢◌, ◌⊎◌, ℕ, true, false, List, [], ◌++◌, length, map, Option, Some, None, is_some, IfSome, IfNone, Ok, Err, refl, sym, ap, ◌∙◌, inl, inr}
+use Rattle.std.proofs.Common.{◌≡◌, ◌≢◌, ◌⊎◌, ℕ, Bool, true, false, List, [], ◌++◌, length, map, Option, Some, None, is_some, IfSome, IfNone, Ok, Err, refl, sym, ap, ◌∙◌, inl, inr}
 use Rattle.fuse_wire.specs.Parts.{Are}
 use Rattle.fuse_wire.proofs.PartLemmas.{first_part}
 use Rattle.fuse_wire.specs.Replies.{reply_bytes}
@@ -17,30 +17,31 @@ use Rattle.mount_tree.specs.Scenes.{SceneSeen}
 use Rattle.mount_tree.specs.declared.node.Node.{Node}
 use Rattle.mount_replies.specs.Mounted.{HasLedTo, IsCalled, IsMounted, IsNamed, IsServed, IsServedBy, IsStep, IsSteppedBy, IsTold, MountSeen, Right, Unframed, Wrong, service_of, terms_of, wrong_reply}
 use Rattle.mount_replies.specs.Owed.{Owed, owed}
-use Rattle.mount_replies.specs.Served.{plain, read_file, step_of}
+use Rattle.mount_replies.specs.Served.{is_cached, read_file, step_of}
 use Rattle.mount_replies.specs.Services.{Service, Terms, file_at, interrupted_if, read_of_pipe, scene_of}
-use Rattle.mount_replies.specs.declared.parked.Parked.{Parked}
+use Rattle.mount_replies.specs.Steps.{plain}
 use Rattle.mount_replies.specs.Told.{read_folder}
 use Rattle.mount_replies.specs.private.StillReplies.{HasFewBytes, changes, is_change, is_still, still_reply}
+use Rattle.mount_replies.specs.declared.parked.Parked.{Parked}
 
 -- what changes nothing
 still-step : (g : Terms) (s : Service) (unique pid : ℕ) (node : Option Node) (operation : Operation) → is_still operation ≡ true
     → step_of g s unique pid node operation ≡ plain (still_reply g (scene_of g s) node operation) s.files
-still-step g s unique pid target (operations.Lookup name) still = refl
+still-step g s unique pid target (operations.Lookup name) still = absurd (cc)
 still-step g s unique pid target operations.Forget still = absurd (cc)
-still-step g s unique pid target operations.GetAttr still = refl
-still-step g s unique pid target (operations.SetAttr valid size) still = refl
+still-step g s unique pid target operations.GetAttr still = absurd (cc)
+still-step g s unique pid target (operations.SetAttr valid size) still = absurd (cc)
 still-step g s unique pid target (operations.MkDir name) still = absurd (cc)
 still-step g s unique pid target (operations.RmDir name) still = absurd (cc)
 still-step g s unique pid target (operations.Open flags) still = absurd (cc)
-still-step g s unique pid target (operations.Read handle offset size flags) still = absurd (cc)
-still-step g s unique pid target (operations.Write handle offset bytes) still = absurd (cc)
+still-step g s unique pid target (operations.Read handle offset size read_flags flags) still = absurd (cc)
+still-step g s unique pid target (operations.Write handle offset lock_owner bytes) still = absurd (cc)
 still-step g s unique pid target operations.StatFs still = refl
 still-step g s unique pid target (operations.Release handle) still = absurd (cc)
 still-step g s unique pid target operations.Fsync still = refl
 still-step g s unique pid target (operations.GetXAttr name) still = refl
 still-step g s unique pid target operations.ListXAttr still = refl
-still-step g s unique pid target (operations.Flush handle) still = refl
+still-step g s unique pid target (operations.Flush handle lock_owner) still = absurd (cc)
 still-step g s unique pid target (operations.Init major minor max_readahead flags) still = refl
 still-step g s unique pid target operations.OpenDir still = refl
 still-step g s unique pid target (operations.ReadDir handle offset size) still = absurd (cc)
@@ -54,21 +55,21 @@ still-step g s unique pid target (operations.Other opcode) still = refl
 
 pub still-left : (operation : Operation) → false ≡ changes operation → ((handle offset size : ℕ) → operation ≢ operations.ReadDir handle offset size)
     → operation ≢ operations.Forget → ((count : ℕ) → operation ≢ operations.BatchForget count) → is_still operation ≡ true
-still-left (operations.Lookup name) still a b d = refl
+still-left (operations.Lookup name) still a b d = absurd (cc)
 still-left operations.Forget still a b d = absurd (b refl)
-still-left operations.GetAttr still a b d = refl
-still-left (operations.SetAttr valid size) still a b d = refl
+still-left operations.GetAttr still a b d = absurd (cc)
+still-left (operations.SetAttr valid size) still a b d = absurd (cc)
 still-left (operations.MkDir name) still a b d = absurd (cc)
 still-left (operations.RmDir name) still a b d = absurd (cc)
 still-left (operations.Open flags) still a b d = absurd (cc)
-still-left (operations.Read handle offset size flags) still a b d = absurd (cc)
-still-left (operations.Write handle offset bytes) still a b d = absurd (cc)
+still-left (operations.Read handle offset size read_flags flags) still a b d = absurd (cc)
+still-left (operations.Write handle offset lock_owner bytes) still a b d = absurd (cc)
 still-left operations.StatFs still a b d = refl
 still-left (operations.Release handle) still a b d = absurd (cc)
 still-left operations.Fsync still a b d = refl
 still-left (operations.GetXAttr name) still a b d = refl
 still-left operations.ListXAttr still a b d = refl
-still-left (operations.Flush handle) still a b d = refl
+still-left (operations.Flush handle lock_owner) still a b d = absurd (cc)
 still-left (operations.Init major minor max_readahead flags) still a b d = refl
 still-left operations.OpenDir still a b d = refl
 still-left (operations.ReadDir handle offset size) still a b d = absurd (a handle offset size refl)
@@ -81,23 +82,23 @@ still-left (operations.BatchForget count) still a b d = absurd (d count refl)
 still-left (operations.Other opcode) still a b d = refl
 
 pub change-left : (operation : Operation) → changes operation ≡ true
-    → ((handle offset size flags : ℕ) → operation ≢ operations.Read handle offset size flags) → ((unique : ℕ) → operation ≢ operations.Interrupt unique)
+    → ((handle offset size read_flags flags : ℕ) → operation ≢ operations.Read handle offset size read_flags flags) → ((unique : ℕ) → operation ≢ operations.Interrupt unique)
     → is_change operation ≡ true
-change-left (operations.Lookup name) changes a b = absurd (cc)
+change-left (operations.Lookup name) changes a b = refl
 change-left operations.Forget changes a b = absurd (cc)
-change-left operations.GetAttr changes a b = absurd (cc)
-change-left (operations.SetAttr valid size) changes a b = absurd (cc)
+change-left operations.GetAttr changes a b = refl
+change-left (operations.SetAttr valid size) changes a b = refl
 change-left (operations.MkDir name) changes a b = refl
 change-left (operations.RmDir name) changes a b = refl
 change-left (operations.Open flags) changes a b = refl
-change-left (operations.Read handle offset size flags) changes a b = absurd (a handle offset size flags refl)
-change-left (operations.Write handle offset bytes) changes a b = refl
+change-left (operations.Read handle offset size read_flags flags) changes a b = absurd (a handle offset size read_flags flags refl)
+change-left (operations.Write handle offset lock_owner bytes) changes a b = refl
 change-left operations.StatFs changes a b = absurd (cc)
 change-left (operations.Release handle) changes a b = refl
 change-left operations.Fsync changes a b = absurd (cc)
 change-left (operations.GetXAttr name) changes a b = absurd (cc)
 change-left operations.ListXAttr changes a b = absurd (cc)
-change-left (operations.Flush handle) changes a b = absurd (cc)
+change-left (operations.Flush handle lock_owner) changes a b = refl
 change-left (operations.Init major minor max_readahead flags) changes a b = absurd (cc)
 change-left operations.OpenDir changes a b = absurd (cc)
 change-left (operations.ReadDir handle offset size) changes a b = absurd (cc)
@@ -109,35 +110,38 @@ change-left (operations.Poll handle wakeup flags events) changes a b = refl
 change-left (operations.BatchForget count) changes a b = absurd (cc)
 change-left (operations.Other opcode) changes a b = absurd (cc)
 
-pub none-left : (operation : Operation) → is_change operation ≡ true → ((name : List ℕ) → operation ≢ operations.MkDir name)
-    → ((name : List ℕ) → operation ≢ operations.RmDir name) → ((flags : ℕ) → operation ≢ operations.Open flags)
-    → ((handle offset : ℕ) (bytes : List ℕ) → operation ≢ operations.Write handle offset bytes) → ((handle : ℕ) → operation ≢ operations.Release handle)
+pub none-left : (operation : Operation) → is_change operation ≡ true → ((name : List ℕ) → operation ≢ operations.Lookup name)
+    → operation ≢ operations.GetAttr → ((valid size : ℕ) → operation ≢ operations.SetAttr valid size)
+    → ((name : List ℕ) → operation ≢ operations.MkDir name) → ((name : List ℕ) → operation ≢ operations.RmDir name)
+    → ((flags : ℕ) → operation ≢ operations.Open flags)
+    → ((handle offset lock_owner : ℕ) (bytes : List ℕ) → operation ≢ operations.Write handle offset lock_owner bytes)
+    → ((handle lock_owner : ℕ) → operation ≢ operations.Flush handle lock_owner) → ((handle : ℕ) → operation ≢ operations.Release handle)
     → ((handle wakeup flags events : ℕ) → operation ≢ operations.Poll handle wakeup flags events) → ⊥
-none-left (operations.Lookup name) change a b d e f h = let no : false ≡ true = change in cc
-none-left operations.Forget change a b d e f h = let no : false ≡ true = change in cc
-none-left operations.GetAttr change a b d e f h = let no : false ≡ true = change in cc
-none-left (operations.SetAttr valid size) change a b d e f h = let no : false ≡ true = change in cc
-none-left (operations.MkDir name) change a b d e f h = a name refl
-none-left (operations.RmDir name) change a b d e f h = b name refl
-none-left (operations.Open flags) change a b d e f h = d flags refl
-none-left (operations.Read handle offset size flags) change a b d e f h = let no : false ≡ true = change in cc
-none-left (operations.Write handle offset bytes) change a b d e f h = e handle offset bytes refl
-none-left operations.StatFs change a b d e f h = let no : false ≡ true = change in cc
-none-left (operations.Release handle) change a b d e f h = f handle refl
-none-left operations.Fsync change a b d e f h = let no : false ≡ true = change in cc
-none-left (operations.GetXAttr name) change a b d e f h = let no : false ≡ true = change in cc
-none-left operations.ListXAttr change a b d e f h = let no : false ≡ true = change in cc
-none-left (operations.Flush handle) change a b d e f h = let no : false ≡ true = change in cc
-none-left (operations.Init major minor max_readahead flags) change a b d e f h = let no : false ≡ true = change in cc
-none-left operations.OpenDir change a b d e f h = let no : false ≡ true = change in cc
-none-left (operations.ReadDir handle offset size) change a b d e f h = let no : false ≡ true = change in cc
-none-left (operations.ReleaseDir handle) change a b d e f h = let no : false ≡ true = change in cc
-none-left (operations.Access mask) change a b d e f h = let no : false ≡ true = change in cc
-none-left (operations.Interrupt number) change a b d e f h = let no : false ≡ true = change in cc
-none-left operations.Destroy change a b d e f h = let no : false ≡ true = change in cc
-none-left (operations.Poll handle wakeup flags events) change a b d e f h = h handle wakeup flags events refl
-none-left (operations.BatchForget count) change a b d e f h = let no : false ≡ true = change in cc
-none-left (operations.Other opcode) change a b d e f h = let no : false ≡ true = change in cc
+none-left (operations.Lookup name) change a b d e f h i j k l = a name refl
+none-left operations.Forget change a b d e f h i j k l = let no : false ≡ true = change in cc
+none-left operations.GetAttr change a b d e f h i j k l = b refl
+none-left (operations.SetAttr valid size) change a b d e f h i j k l = d valid size refl
+none-left (operations.MkDir name) change a b d e f h i j k l = e name refl
+none-left (operations.RmDir name) change a b d e f h i j k l = f name refl
+none-left (operations.Open flags) change a b d e f h i j k l = h flags refl
+none-left (operations.Read handle offset size read_flags flags) change a b d e f h i j k l = let no : false ≡ true = change in cc
+none-left (operations.Write handle offset lock_owner bytes) change a b d e f h i j k l = i handle offset lock_owner bytes refl
+none-left operations.StatFs change a b d e f h i j k l = let no : false ≡ true = change in cc
+none-left (operations.Release handle) change a b d e f h i j k l = k handle refl
+none-left operations.Fsync change a b d e f h i j k l = let no : false ≡ true = change in cc
+none-left (operations.GetXAttr name) change a b d e f h i j k l = let no : false ≡ true = change in cc
+none-left operations.ListXAttr change a b d e f h i j k l = let no : false ≡ true = change in cc
+none-left (operations.Flush handle lock_owner) change a b d e f h i j k l = j handle lock_owner refl
+none-left (operations.Init major minor max_readahead flags) change a b d e f h i j k l = let no : false ≡ true = change in cc
+none-left operations.OpenDir change a b d e f h i j k l = let no : false ≡ true = change in cc
+none-left (operations.ReadDir handle offset size) change a b d e f h i j k l = let no : false ≡ true = change in cc
+none-left (operations.ReleaseDir handle) change a b d e f h i j k l = let no : false ≡ true = change in cc
+none-left (operations.Access mask) change a b d e f h i j k l = let no : false ≡ true = change in cc
+none-left (operations.Interrupt number) change a b d e f h i j k l = let no : false ≡ true = change in cc
+none-left operations.Destroy change a b d e f h i j k l = let no : false ≡ true = change in cc
+none-left (operations.Poll handle wakeup flags events) change a b d e f h i j k l = l handle wakeup flags events refl
+none-left (operations.BatchForget count) change a b d e f h i j k l = let no : false ≡ true = change in cc
+none-left (operations.Other opcode) change a b d e f h i j k l = let no : false ≡ true = change in cc
 
 pub still-served : (past : List Request) (old : MountSeen) (request : Asked) (node : Option Node) (reply : Reply) (bytes : List ℕ) → HasLedTo past old
     → is_still request.operation ≡ true → IsNamed request.node node → reply ≡ still_reply (terms_of old) old.scene node request.operation
@@ -169,14 +173,14 @@ forgets-served past old request node count bytes name is told =
 
 -- ---- requests that may change something
 
-pub read-served : (past : List Request) (old new : MountSeen) (request : Asked) (node : Option Node) (handle offset size flags : ℕ) (read : Parked)
-    (bytes : List ℕ) → request.operation ≡ operations.Read handle offset size flags → IsNamed request.node node
-    → read ≡ read_of_pipe request.unique handle size
-    → IsTold past old new (read_file (terms_of old) (service_of past old) read offset flags (file_at read.handle old.files)) read.unique bytes
+pub read-served : (past : List Request) (old new : MountSeen) (request : Asked) (node : Option Node) (handle offset size read_flags flags : ℕ)
+    (read : Parked) (cached : Bool) (bytes : List ℕ) → request.operation ≡ operations.Read handle offset size read_flags flags → IsNamed request.node node
+    → read ≡ read_of_pipe request.unique handle size → cached ≡ is_cached read_flags
+    → IsTold past old new (read_file (terms_of old) (service_of past old) read offset cached flags (file_at read.handle old.files)) read.unique bytes
     → IsSteppedBy past old new request bytes
-read-served past old new request node handle offset size flags read bytes is name same told =
-    let step : IsTold past old new (read_file (terms_of old) (service_of past old) (read_of_pipe request.unique handle size) offset flags
-    (file_at handle old.files)) request.unique bytes = rw same at told in
+read-served past old new request node handle offset size read_flags flags read cached bytes is name same page_cache told =
+    let step : IsTold past old new (read_file (terms_of old) (service_of past old) (read_of_pipe request.unique handle size) offset (is_cached read_flags)
+    flags (file_at handle old.files)) request.unique bytes = rw (same, page_cache) at told in
     record {
       after = step.is.after;
       mounted = step.is.mounted;
@@ -195,7 +199,7 @@ interrupt-served past old request node unique now bytes mounted is name are told
     node = node;
     named = name;
     reply = None;
-    does = rw is (refl, ap (λ (p : List Parked). record { past = past; files = old.files; parked = p; errors = old.errors }) are);
+    does = rw is (refl, ap (λ (p : List Parked). record { past = past; files = old.files; parked = p; errors = old.errors; counted = old.counted }) are);
     told = told;
   };
 }
@@ -235,7 +239,7 @@ list-served past old request node handle offset size bytes mounted is name (inr 
 -- what is written at once
 pub few : (operation : Operation) (asked : List ℕ) (len opcode unique node uid gid pid : ℕ)
     → Are (in_header len opcode unique node uid gid pid ++ body operation) asked → HasFewBytes operation
-few (operations.Write handle offset bytes) asked len opcode unique node uid gid pid are =
+few (operations.Write handle offset lock_owner bytes) asked len opcode unique node uid gid pid are =
     let p1 = first_part _ _ _ refl are in
     let p2 = first_part _ _ _ refl p1.1 in
     let p3 = first_part _ _ _ refl p2.1 in
@@ -255,13 +259,13 @@ few (operations.SetAttr valid size) asked len opcode unique node uid gid pid are
 few (operations.MkDir name) asked len opcode unique node uid gid pid are = tt
 few (operations.RmDir name) asked len opcode unique node uid gid pid are = tt
 few (operations.Open flags) asked len opcode unique node uid gid pid are = tt
-few (operations.Read handle offset size flags) asked len opcode unique node uid gid pid are = tt
+few (operations.Read handle offset size read_flags flags) asked len opcode unique node uid gid pid are = tt
 few operations.StatFs asked len opcode unique node uid gid pid are = tt
 few (operations.Release handle) asked len opcode unique node uid gid pid are = tt
 few operations.Fsync asked len opcode unique node uid gid pid are = tt
 few (operations.GetXAttr name) asked len opcode unique node uid gid pid are = tt
 few operations.ListXAttr asked len opcode unique node uid gid pid are = tt
-few (operations.Flush handle) asked len opcode unique node uid gid pid are = tt
+few (operations.Flush handle lock_owner) asked len opcode unique node uid gid pid are = tt
 few (operations.Init major minor max_readahead flags) asked len opcode unique node uid gid pid are = tt
 few operations.OpenDir asked len opcode unique node uid gid pid are = tt
 few (operations.ReadDir handle offset size) asked len opcode unique node uid gid pid are = tt

@@ -1,8 +1,10 @@
 -- What reads of a file show.
-use Rattle.std.proofs.Common.{◌≡◌, inl, inr, ℕ, Bool, true, false, not, if◌then◌else◌, List, length, Option, Some, None, Result, Ok, Err, refl, sym, ap, subst, ◌∙◌}
-use Rattle.std.proofs.lemmas.Bool.{false≢true}
+use Rattle.std.proofs.Common.{◌≡◌, inl, inr, ℕ, zero, suc, ◌+◌, ◌==◌, ◌≤◌, nat_lt, min, Bool, true, false, not, ◌&&◌, if◌then◌else◌, List, [], ◌∷◌, length, take, Option, Some, None, Result, Ok, Err, refl, sym, ap, subst, ◌∙◌}
+use Rattle.std.proofs.lemmas.Bool.{false≢true, le-ltb}
 use Rattle.std.specs.Option.{option_map}
+use Rattle.fuse_wire.specs.declared.errno.Errno.TheVariants.{ENOENT}
 use Rattle.fuse_wire.specs.declared.reply.Reply.{Reply}
+use Rattle.fuse_wire.specs.declared.reply.Reply.TheVariants as replies
 use Rattle.trace_command.specs.Configs.{IsInRange}
 use Rattle.trace_command.specs.Paths as paths
 use Rattle.trace_command.specs.Paths.{address_of}
@@ -15,27 +17,29 @@ use Rattle.trace_command.specs.declared.file_name.TopFile.TheVariants as top
 use Rattle.trace_command.specs.declared.refusal.Refusal.{Refusal}
 use Rattle.trace_command.specs.declared.refusal.Refusal.TheVariants as refusal
 use Rattle.tracer_specification.specs.History.{answer_with_room, file_answer, instance_answer, missing, read_answer, text_of, unless_refused, whole_text}
-use Rattle.tracer_specification.specs.Settings.{is_there as instance_is_there, now_of}
-use Rattle.error_log.specs.Errors.{begun}
+use Rattle.tracer_specification.specs.Settings.{is_there as instance_is_there}
 use Rattle.mount_tree.proofs.AddressLaws.{path-address}
 use Rattle.mount_tree.proofs.SoundLemmas.{scene-sound}
 use Rattle.mount_tree.specs.Children.{is_there}
-use Rattle.mount_tree.specs.FileKinds.{kind_of_file}
+use Rattle.mount_tree.specs.FileKinds.{kind_of_file, takes_lines}
 use Rattle.mount_tree.specs.NodePaths.{file_meant, path_of}
 use Rattle.mount_tree.specs.Scenes.{SceneSeen, event_name}
 use Rattle.mount_tree.specs.declared.file.File.{File}
 use Rattle.mount_tree.specs.declared.file.File.TheVariants as files
 use Rattle.mount_tree.specs.declared.file.FileKind.{FileKind}
 use Rattle.mount_tree.specs.declared.file.FileKind.TheVariants as kinds
-use Rattle.mount_tree.specs.declared.node.Owner.{Owner}
 use Rattle.mount_replies.proofs.DoneLemmas.{events-are, had-room, pasts_are_done}
-use Rattle.mount_replies.proofs.PartLaws.{text-kept}
+use Rattle.mount_replies.proofs.PartLaws.{drop-nil, reading-kept}
 use Rattle.mount_replies.specs.Errnos.{errno_of}
-use Rattle.mount_replies.specs.Mounted.{Does, IsAnswered, bytes_of_reply}
-use Rattle.mount_replies.specs.Served.{AsksNoting, Step, noted_write, read_anew, read_file, read_kind, read_of, read_text, text_in, without_newline, write_file, write_kind, write_of, write_other, write_text, written}
-use Rattle.mount_replies.specs.Services.{OpenSeen, Service, Terms, file_at, node_of, read_of_pipe, scene_of}
+use Rattle.mount_replies.specs.FileWrites.{write_file, write_kind, write_other, write_text, write_there}
+use Rattle.mount_replies.specs.Lines.{command_lines, command_text, has_newline, is_blank_line, line_command, lines_of, one_command, pieces_of, without_newline, written_lines}
+use Rattle.mount_replies.specs.Mounted.{Does, IsAnswered, MayRun, bytes_of_reply}
+use Rattle.mount_replies.specs.PastLaws.{IsMissing, IsReason, LaterReadsGoOn, NotShown, ReadsAnew, ReadsEndWithTheText, ReadsShowThePast, RemovedFilesAreMissing, Shown, StatsShowThePast, WasDone, WritesAreCommands, WritesLines, instance_of, is_file, is_text, line_written, read_whole, write_once}
+use Rattle.mount_replies.specs.Served.{is_cached, part_of, read_anew, read_file, read_kind, read_text, read_there}
+use Rattle.mount_replies.specs.Services.{OpenSeen, Service, Terms, file_at, most_data, node_of, read_of_pipe, scene_of}
+use Rattle.mount_replies.specs.Sizes.{text_in}
+use Rattle.mount_replies.specs.Steps.{Asking, AsksFor, LineAsked, Step, failed, plain, read_of, write_of}
 use Rattle.mount_replies.specs.declared.parked.Parked.{Parked}
-use Rattle.mount_replies.specs.PastLaws.{IsDone, IsNotDone, IsReason, LaterReadsGoOn, NotShown, ReadsAnew, Shown, ReadsShowThePast, StatsShowThePast, WasDone, WritesAreCommands, WritesOnce, instance_of, is_file, is_text, read_whole, write_once}
 
 -- ---- answers
 
@@ -139,19 +143,24 @@ write-is g s file meant append text ranges was there is =
     ap (λ (a : paths.Address). WriteFile a.instance a.file append text) (address-is g s file meant ranges was there is)
 
 -- a file that is shown whole
-kind-reads : (g : Terms) (s : Service) (read : Parked) (offset flags : ℕ) (file : OpenSeen) (kind : FileKind) → is_text kind ≡ true
-    → read_kind g s read offset flags file kind ≡ read_text (scene_of g s) read.handle offset read.size file s.files
-kind-reads g s read offset flags file kinds.Text is = refl
-kind-reads g s read offset flags file kinds.Trace is = refl
-kind-reads g s read offset flags file _ is = absurd (false≢true is)
+kind-reads : (g : Terms) (s : Service) (read : Parked) (offset : ℕ) (cached : Bool) (flags : ℕ) (file : OpenSeen) (kind : FileKind) → cached ≡ false
+    → is_text kind ≡ true → read_kind g s read offset cached flags file kind ≡ read_text (scene_of g s) read.handle offset read.size file s.files
+kind-reads g s read offset true flags file kind direct is = absurd (false≢true (sym direct))
+kind-reads g s read offset false flags file kinds.Text direct is = refl
+kind-reads g s read offset false flags file kinds.Trace direct is = refl
+kind-reads g s read offset false flags file _ direct is = absurd (false≢true is)
 
-file-reads : (g : Terms) (s : Service) (read : Parked) (offset flags : ℕ) (file : OpenSeen) (there : Option OpenSeen) → there ≡ Some file
-    → is_text (kind_of_file file.file) ≡ true
-    → read_file g s read offset flags there ≡ read_text (scene_of g s) read.handle offset read.size file s.files
-file-reads g s read offset flags file None e text = absurd (let no : None ≡ Some file = e in cc)
-file-reads g s read offset flags file (Some found) e text =
-    let same : found ≡ file = cc in
-    ap (λ (f : OpenSeen). read_file g s read offset flags (Some f)) same ∙ kind-reads g s read offset flags file (kind_of_file file.file) text
+there-reads : (g : Terms) (s : Service) (read : Parked) (offset : ℕ) (cached : Bool) (flags : ℕ) (file : OpenSeen)
+    → is_there (scene_of g s) (node_of file) ≡ true
+    → read_there g s read offset cached flags file ≡ read_kind g s read offset cached flags file (kind_of_file file.file)
+there-reads g s read offset cached flags file there = rw there refl
+
+file-reads : (g : Terms) (s : Service) (read : Parked) (offset : ℕ) (cached : Bool) (flags : ℕ) (file : OpenSeen) (found : Option OpenSeen) → found ≡ Some file
+    → cached ≡ false → is_text (kind_of_file file.file) ≡ true → is_there (scene_of g s) (node_of file) ≡ true
+    → read_file g s read offset cached flags found ≡ read_text (scene_of g s) read.handle offset read.size file s.files
+file-reads g s read offset cached flags file found e direct text there =
+    ap (λ (f : Option OpenSeen). read_file g s read offset cached flags f) e ∙ there-reads g s read offset cached flags file there
+    ∙ kind-reads g s read offset cached flags file (kind_of_file file.file) direct text
 
 -- what a read at the beginning came to
 anew : (g : Terms) (before after : Service) (unique handle size : ℕ) (file : OpenSeen) (meant : paths.File) (reply : Option Reply) (bytes : List ℕ)
@@ -175,77 +184,156 @@ anew g before after unique handle size file meant reply bytes ranges was opened 
     (subst (λ (shown : List ℕ). ReadsAnew g before command unique handle size shown bytes after) shows (Shown (record {
       told = told ∙ ap (bytes_of_reply unique) replied;
       now = is;
-      kept = rw is (text-kept before.files handle (text_in answer) file opened);
+      kept = λ going. rw is (reading-kept handle 0 size (text_in answer) file before.files opened going);
     })))
 
 pub reads_show_the_past : ReadsShowThePast
-reads_show_the_past g requests messages before after request bytes handle size flags file meant ranges served is asks opened text there means =
+reads_show_the_past g requests messages before after request bytes handle size read_flags flags file meant ranges served is asks direct opened text there means =
     let was = pasts_are_done g requests messages before served in
-    let step = file-reads g before (read_of_pipe request.unique handle size) 0 flags file (file_at handle before.files) opened text in
+    let step = file-reads g before (read_of_pipe request.unique handle size) 0 (is_cached read_flags) flags file (file_at handle before.files) opened direct text there in
     anew g before after request.unique handle size file meant is.reply bytes ranges was opened text there means is.told
     (subst (λ (s : Step). Does g before s is.reply after) step (rw asks at is.does))
 
 pub stats_show_the_past : StatsShowThePast
-stats_show_the_past g requests messages before after request bytes handle size flags cpu file ranges served is asks opened stats there =
-    reads_show_the_past g requests messages before after request bytes handle size flags file (paths.OfCpu cpu per_cpu.Stats) ranges served is asks opened
-    (ap (λ (f : File). is_text (kind_of_file f)) stats) there (ap (file_meant (scene_of g before)) stats)
+stats_show_the_past g requests messages before after request bytes handle size read_flags flags cpu file ranges served is asks direct opened stats there =
+    reads_show_the_past g requests messages before after request bytes handle size read_flags flags file (paths.OfCpu cpu per_cpu.Stats) ranges served is asks
+    direct opened (ap (λ (f : File). is_text (kind_of_file f)) stats) there (ap (file_meant (scene_of g before)) stats)
 
 pub later_reads_go_on : LaterReadsGoOn
-later_reads_go_on g before after request bytes handle offset size flags file text is asks later opened whole keeps =
-    let step = file-reads g before (read_of_pipe request.unique handle size) offset flags file (file_at handle before.files) opened whole in
+later_reads_go_on g before after request bytes handle offset size read_flags flags file text is asks direct later opened whole keeps there =
+    let step = file-reads g before (read_of_pipe request.unique handle size) offset (is_cached read_flags) flags file (file_at handle before.files) opened direct whole there in
     let does = subst (λ (s : Step). Does g before s is.reply after) step (rw asks at is.does) in
     let did = rw (later, keeps) at does in
     (is.told ∙ ap (bytes_of_reply request.unique) did.0, did.1)
 
+none-taken : (n : ℕ) → take {A = ℕ} n [] ≡ []
+none-taken zero = refl
+none-taken (suc n) = refl
+
+part-of-none : (offset size : ℕ) → part_of offset size [] ≡ []
+part-of-none offset size = ap (λ (l : List ℕ). take (min size most_data) l) (drop-nil offset) ∙ none-taken (min size most_data)
+
+-- a text that was read to its end is not made anew there
+ended-goes-on : (scene : SceneSeen) (handle offset size end : ℕ) (file : OpenSeen) (open_files : List (Option OpenSeen)) → (offset == 0) ≡ false
+    → file.text ≡ None → file.ended ≡ Some end → end ≤ offset
+    → read_text scene handle offset size file open_files ≡ plain (replies.Data []) open_files
+ended-goes-on scene handle offset size end file open_files later none ended after =
+    let over : nat_lt offset end ≡ false = le-ltb offset end after in
+    rw (later, none, ended, over) (ap (λ (part : List ℕ). plain (replies.Data part) open_files) (part-of-none offset size))
+
+pub reads_end_with_the_text : ReadsEndWithTheText
+reads_end_with_the_text g before after request bytes handle offset size read_flags flags end file is asks direct later opened whole none ended over there =
+    let step = file-reads g before (read_of_pipe request.unique handle size) offset (is_cached read_flags) flags file (file_at handle before.files) opened direct whole there
+    ∙ ended-goes-on (scene_of g before) handle offset size end file before.files later none ended over in
+    let does = subst (λ (s : Step). Does g before s is.reply after) step (rw asks at is.does) in
+    (is.told ∙ ap (bytes_of_reply request.unique) does.0, does.1)
+
 -- ---- writes
 
 -- a file that commands can write
-other-writes : (g : Config) (scene : SceneSeen) (now handle : ℕ) (owner : Owner) (file : File) (append : Bool) (bytes : List ℕ) (files : List (Option OpenSeen)) (kind : FileKind)
-    → is_file kind ≡ true
-    → write_other g scene now handle owner file append bytes files kind ≡ write_text scene now handle owner file append bytes files
-other-writes g scene now handle owner file append bytes files kinds.Text is = refl
-other-writes g scene now handle owner file append bytes files kinds.Trace is = refl
-other-writes g scene now handle owner file append bytes files kinds.Pipe is = refl
-other-writes g scene now handle owner file append bytes files _ is = absurd (false≢true is)
+other-writes : (g : Terms) (s : Service) (handle : ℕ) (file : OpenSeen) (bytes : List ℕ) (kind : FileKind) → is_file kind ≡ true
+    → write_other g s handle file bytes kind ≡ write_text g s handle file bytes
+other-writes g s handle file bytes kinds.Text is = refl
+other-writes g s handle file bytes kinds.Trace is = refl
+other-writes g s handle file bytes kinds.Pipe is = refl
+other-writes g s handle file bytes _ is = absurd (false≢true is)
 
 -- a file that is not `inject`
-kind-writes : (g : Terms) (s : Service) (handle pid : ℕ) (bytes : List ℕ) (own : OpenSeen) (file : File) → own.file ≡ file → is_file (kind_of_file own.file) ≡ true
-    → write_kind g s handle pid bytes own file ≡ write_text (scene_of g s) (now_of s.past) handle own.owner own.file (not own.starts_over) bytes s.files
-kind-writes g s handle pid bytes own (files.Inject event) same is = absurd (false≢true (sym (ap (λ (f : File). is_file (kind_of_file f)) same) ∙ is))
-kind-writes g s handle pid bytes own _ same is =
-    other-writes g.config (scene_of g s) (now_of s.past) handle own.owner own.file (not own.starts_over) bytes s.files (kind_of_file own.file) is
+kind-writes : (g : Terms) (s : Service) (handle lock_owner pid : ℕ) (bytes : List ℕ) (own : OpenSeen) (file : File) → own.file ≡ file → is_file (kind_of_file own.file) ≡ true
+    → write_kind g s handle lock_owner pid bytes own file ≡ write_text g s handle own bytes
+kind-writes g s handle lock_owner pid bytes own (files.Inject event) same is =
+    absurd (false≢true (sym (ap (λ (f : File). is_file (kind_of_file f)) same) ∙ is))
+kind-writes g s handle lock_owner pid bytes own _ same is = other-writes g s handle own bytes (kind_of_file own.file) is
 
-file-writes : (g : Terms) (s : Service) (handle pid : ℕ) (bytes : List ℕ) (own : OpenSeen) (there : Option OpenSeen) → there ≡ Some own
-    → is_file (kind_of_file own.file) ≡ true
-    → write_file g s handle pid bytes there ≡ write_text (scene_of g s) (now_of s.past) handle own.owner own.file (not own.starts_over) bytes s.files
-file-writes g s handle pid bytes own None e is = absurd (let no : None ≡ Some own = e in cc)
-file-writes g s handle pid bytes own (Some found) e is =
-    let same : found ≡ own = cc in
-    ap (λ (f : OpenSeen). write_file g s handle pid bytes (Some f)) same ∙ kind-writes g s handle pid bytes own own.file refl is
+there-writes : (g : Terms) (s : Service) (handle lock_owner pid : ℕ) (bytes : List ℕ) (own : OpenSeen) → is_there (scene_of g s) (node_of own) ≡ true
+    → write_there g s handle lock_owner pid bytes own ≡ write_kind g s handle lock_owner pid bytes own own.file
+there-writes g s handle lock_owner pid bytes own there = rw there refl
 
-once : (g : Terms) (before after : Service) (unique handle : ℕ) (file : OpenSeen) (own text : List ℕ) (command asked : Request) (reply : Option Reply)
-    (bytes : List ℕ) → command ≡ asked → bytes ≡ bytes_of_reply unique reply
-    → Does g before (AsksNoting command (written handle (length own) before.files)
-    (noted_write (begun file.owner (now_of before.past) (path_of (scene_of g before) (node_of file)) text) (path_of (scene_of g before) (node_of file)) text)) reply after
-    → WritesOnce g before file asked unique handle (length own) text bytes after
-once g before after unique handle file own text command asked reply bytes same told (Err refused, answered, replied, is) =
-    let why : IsReason g before.past asked (errno_of refused) =
-    subst (λ (c : Request). IsReason g before.past c (errno_of refused)) same (reason g before.past command refused answered) in
-    IsNotDone (record {
-      refusal = refused;
-      answered = subst (λ (c : Request). IsAnswered g before.past c (Err refused)) same answered;
-      why = why;
-      told = told ∙ ap (bytes_of_reply unique) replied;
-      now = is;
-    })
-once g before after unique handle file own text command asked reply bytes same told (Ok answer, answered, replied, is) =
-    subst (λ (c : Request). WritesOnce g before file c unique handle (length own) text bytes after) same
-    (IsDone (record { told = told ∙ ap (bytes_of_reply unique) replied; now = is }))
+file-writes : (g : Terms) (s : Service) (handle lock_owner pid : ℕ) (bytes : List ℕ) (own : OpenSeen) (found : Option OpenSeen) → found ≡ Some own
+    → is_file (kind_of_file own.file) ≡ true → is_there (scene_of g s) (node_of own) ≡ true
+    → write_file g s handle lock_owner pid bytes found ≡ write_text g s handle own bytes
+file-writes g s handle lock_owner pid bytes own found e is there =
+    ap (λ (f : Option OpenSeen). write_file g s handle lock_owner pid bytes f) e ∙ there-writes g s handle lock_owner pid bytes own there
+    ∙ kind-writes g s handle lock_owner pid bytes own own.file refl is
+
+-- lines are the same where what is asked for each is
+same-commands : (one other : Bool → List ℕ → Asking) → ((append : Bool) (line : List ℕ) → one append line ≡ other append line)
+    → (append : Bool) (size start : ℕ) (pieces : List (List ℕ)) → command_lines one append size start pieces ≡ command_lines other append size start pieces
+unfolding command_lines
+same-commands one other same append size start [] = refl
+same-commands one other same append size start (line ∷ []) =
+    ap (λ (asking : Asking). if is_blank_line line then [] else record { text = line; asking = asking; end = size } ∷ []) (same append line)
+same-commands one other same append size start (line ∷ next ∷ more) =
+    by (is_blank_line line) (same-commands one other same append size (start + length line + 1) (next ∷ more))
+    (same-commands one other same true size (start + length line + 1) (next ∷ more))
+  where
+    by : (blank : Bool)
+        → command_lines one append size (start + length line + 1) (next ∷ more) ≡ command_lines other append size (start + length line + 1) (next ∷ more)
+        → command_lines one true size (start + length line + 1) (next ∷ more) ≡ command_lines other true size (start + length line + 1) (next ∷ more)
+        → (if blank then command_lines one append size (start + length line + 1) (next ∷ more)
+        else record { text = line; asking = one append line; end = start + length line + 1 }
+        ∷ command_lines one true size (start + length line + 1) (next ∷ more))
+        ≡ (if blank then command_lines other append size (start + length line + 1) (next ∷ more)
+        else record { text = line; asking = other append line; end = start + length line + 1 }
+        ∷ command_lines other true size (start + length line + 1) (next ∷ more))
+    by true skipped done = skipped
+    by false skipped done =
+        ap (λ (asking : Asking). record { text = line; asking = asking; end = start + length line + 1 }
+        ∷ command_lines one true size (start + length line + 1) (next ∷ more)) (same append line)
+        ∙ ap (λ (rest : List LineAsked). record { text = line; asking = other append line; end = start + length line + 1 } ∷ rest) done
+
+same-lines : (one other : Bool → List ℕ → Asking) → ((append : Bool) (line : List ℕ) → one append line ≡ other append line)
+    → (file : File) (append : Bool) (bytes : List ℕ) → lines_of one file append bytes ≡ lines_of other file append bytes
+same-lines one other same file append bytes = by (takes_lines file && has_newline (without_newline bytes))
+  where
+    by : (several : Bool)
+        → (if several then command_lines one append (length bytes) 0 (pieces_of bytes) else one_command one append (length bytes) (without_newline bytes))
+        ≡ (if several then command_lines other append (length bytes) 0 (pieces_of bytes) else one_command other append (length bytes) (without_newline bytes))
+    by true = same-commands one other same append (length bytes) 0 (pieces_of bytes)
+    by false =
+        ap (λ (asking : Asking). record { text = without_newline bytes; asking = asking; end = length bytes } ∷ []) (same append (without_newline bytes))
+
+as-lines : (g : Terms) (before after : Service) (unique handle : ℕ) (file : OpenSeen) (own : List ℕ) (lines : List LineAsked) (reply : Option Reply) (bytes : List ℕ)
+    → written_lines (scene_of g before) file.owner file.file (not file.starts_over) own ≡ lines → bytes ≡ bytes_of_reply unique reply
+    → Does g before (write_text g before handle file own) reply after → WritesLines g before file lines unique handle (length own) bytes after
+as-lines g before after unique handle file own lines reply bytes same told (ran, runs, replied, now) = record {
+  ran = ran;
+  runs = subst (λ (l : List LineAsked). MayRun g before.past l ran) same runs;
+  told = told ∙ ap (bytes_of_reply unique) replied;
+  now = now;
+}
 
 pub writes_are_commands : WritesAreCommands
-writes_are_commands g requests messages before after request bytes handle offset own file meant ranges served is asks opened kind there means =
+writes_are_commands g requests messages before after request bytes handle offset lock_owner own file meant ranges served is asks opened kind there means =
     let was = pasts_are_done g requests messages before served in
-    let step = file-writes g before handle request.pid own file (file_at handle before.files) opened kind in
-    once g before after request.unique handle file own (without_newline own) _ _ is.reply bytes
-    (write-is g before file meant (not file.starts_over) (without_newline own) ranges was there means) is.told
-    (subst (λ (s : Step). Does g before s is.reply after) step (rw asks at is.does))
+    let step = file-writes g before handle lock_owner request.pid own file (file_at handle before.files) opened kind there in
+    as-lines g before after request.unique handle file own _ is.reply bytes
+    (same-lines (line_command (scene_of g before) (node_of file) file.file) (line_written (instance_of g before file) meant file.file)
+    (λ append line. ap AsksFor (write-is g before file meant append (command_text file.file line) ranges was there means)) file.file (not file.starts_over) own)
+    is.told (subst (λ (s : Step). Does g before s is.reply after) step (rw asks at is.does))
+
+-- ---- instances that were removed
+
+gone-reads : (g : Terms) (s : Service) (read : Parked) (offset : ℕ) (cached : Bool) (flags : ℕ) (file : OpenSeen) → is_there (scene_of g s) (node_of file) ≡ false
+    → read_there g s read offset cached flags file ≡ failed ENOENT s.files
+gone-reads g s read offset cached flags file gone = rw gone refl
+
+gone-writes : (g : Terms) (s : Service) (handle lock_owner pid : ℕ) (bytes : List ℕ) (own : OpenSeen) → is_there (scene_of g s) (node_of own) ≡ false
+    → write_there g s handle lock_owner pid bytes own ≡ failed ENOENT s.files
+gone-writes g s handle lock_owner pid bytes own gone = rw gone refl
+
+missing-step : (g : Terms) (before after : Service) (unique : ℕ) (reply : Option Reply) (bytes : List ℕ) → bytes ≡ bytes_of_reply unique reply
+    → Does g before (failed ENOENT before.files) reply after → IsMissing before unique bytes after
+missing-step g before after unique reply bytes told does = record { told = told ∙ ap (bytes_of_reply unique) does.0; now = does.1 }
+
+pub removed_files_are_missing : RemovedFilesAreMissing
+removed_files_are_missing g before after request bytes handle offset size read_flags flags lock_owner own file is opened gone = (
+  λ asks.
+      let step = ap (λ (f : Option OpenSeen). read_file g before (read_of_pipe request.unique handle size) offset (is_cached read_flags) flags f) opened
+      ∙ gone-reads g before (read_of_pipe request.unique handle size) offset (is_cached read_flags) flags file gone in
+      missing-step g before after request.unique is.reply bytes is.told (subst (λ (s : Step). Does g before s is.reply after) step (rw asks at is.does)),
+  λ asks.
+      let step = ap (λ (f : Option OpenSeen). write_file g before handle lock_owner request.pid own f) opened
+      ∙ gone-writes g before handle lock_owner request.pid own file gone in
+      missing-step g before after request.unique is.reply bytes is.told (subst (λ (s : Step). Does g before s is.reply after) step (rw asks at is.does)),
+)

@@ -1,5 +1,5 @@
 -- What steps come to.
-use Rattle.std.proofs.Common.{◌≡◌, ℕ, Bool, true, List, [], ◌∷◌, ◌++◌, Option, Some, None, Result, refl, ap, ◌∙◌, inl, inr}
+use Rattle.std.proofs.Common.{◌≡◌, ℕ, Bool, true, List, [], ◌∷◌, ◌++◌, Option, Some, None, Result, refl, sym, ap, ◌∙◌, inl, inr}
 use Rattle.fuse_wire.specs.Replies.{reply_bytes}
 use Rattle.fuse_wire.specs.declared.errno.Errno.TheVariants.{ENOMEM}
 use Rattle.fuse_wire.specs.declared.reply.Reply.{Reply}
@@ -7,13 +7,15 @@ use Rattle.fuse_wire.specs.declared.reply.Reply.TheVariants as replies
 use Rattle.trace_command.specs.Requests.{Request}
 use Rattle.trace_command.specs.declared.command.Reply.{Reply as Answer}
 use Rattle.trace_command.specs.declared.refusal.Refusal.{Refusal}
+use Rattle.trace_command.specs.declared.refusal.Refusal.TheVariants.{Memory}
 use Rattle.error_log.specs.Errors.{ErrorSeen}
-use Rattle.error_log.specs.Logs.{cleared}
-use Rattle.mount_tree.specs.declared.node.Owner.{Owner}
-use Rattle.mount_replies.specs.Mounted.{IsAsked, HasLedTo, IsStep, IsTold, MountSeen, past_after}
-use Rattle.mount_replies.specs.Served.{Asks, AsksNoting, Clears, Noting, Outcome, Parks, Step, Takes, errors_after, plain, told}
-use Rattle.mount_replies.specs.Services.{OpenSeen}
+use Rattle.mount_replies.specs.Mounted.{HasLedTo, IsAsked, IsRun, IsStep, IsTold, MountSeen, past_after, stopped_at, terms_of}
+use Rattle.mount_replies.specs.Services.{OpenSeen, with_count}
+use Rattle.mount_replies.specs.Steps.{Asks, AsksLines, AsksNoting, Counts, Keeps, LineAsked, Noting, Outcome, Parks, Ran, Step, Takes, Tells, errors_after, plain, told}
+use Rattle.mount_replies.specs.declared.counted.Counted.{Counted}
+use Rattle.mount_replies.specs.declared.fault.LineFault.TheVariants.{Refused}
 use Rattle.mount_replies.specs.declared.parked.Parked.{Parked}
+use Rattle.mount_replies.specs.private.Notings.{IsAskedNoting}
 
 -- nothing is asked
 pub plain-step : (past : List Request) (old : MountSeen) (reply : Reply) (files now : List (Option OpenSeen)) → HasLedTo past old → now ≡ files
@@ -22,7 +24,7 @@ plain-step past old reply files now mounted is = record {
   after = past;
   mounted = record { lives = mounted.lives; scene = mounted.scene };
   terms = refl;
-  does = (refl, ap (λ (f : List (Option OpenSeen)). record { past = past; files = f; parked = old.parked; errors = old.errors }) is);
+  does = (refl, ap (λ (f : List (Option OpenSeen)). record { past = past; files = f; parked = old.parked; errors = old.errors; counted = old.counted }) is);
 }
 
 -- memory is refused
@@ -42,18 +44,19 @@ asked-step past old mid request outcome answer now asked is = record {
     answer,
     asked.answered,
     refl,
-    ap (λ (f : List (Option OpenSeen)). record { past = past_after answer request past; files = f; parked = mid.parked; errors = mid.errors }) is
-        ∙ ap (λ (p : List Parked). record { past = past_after answer request past; files = (outcome answer).files; parked = p; errors = mid.errors }) asked.parked
-        ∙ ap (λ (e : List ErrorSeen). record { past = past_after answer request past; files = (outcome answer).files; parked = old.parked; errors = e }) asked.errors,
+    ap (λ (f : List (Option OpenSeen)). record { past = past_after answer request past; files = f; parked = mid.parked; errors = mid.errors; counted = mid.counted }) is
+        ∙ ap (λ (p : List Parked). record { past = past_after answer request past; files = (outcome answer).files; parked = p; errors = mid.errors; counted = mid.counted }) asked.parked
+        ∙ ap (λ (e : List ErrorSeen). record { past = past_after answer request past; files = (outcome answer).files; parked = old.parked; errors = e; counted = mid.counted }) asked.errors
+        ∙ ap (λ (c : List Counted). record { past = past_after answer request past; files = (outcome answer).files; parked = old.parked; errors = old.errors; counted = c }) asked.counted,
   );
 }
 
--- a command is asked that may be noted, with more errors before it
-pub noted-step : (past : List Request) (old mid : MountSeen) (began : List ErrorSeen) (request : Request) (outcome : Result Answer Refusal → Outcome)
-    (noting : Result Answer Refusal → Noting) (answer : Result Answer Refusal) (now : List (Option OpenSeen)) (errors : List ErrorSeen)
-    → IsAsked past (record old { errors = began }) mid request answer → now ≡ (outcome answer).files → errors ≡ errors_after (noting answer) old.errors
-    → IsStep past old (record mid { files = now; errors = errors }) (AsksNoting request outcome noting) (outcome answer).reply
-noted-step past old mid began request outcome noting answer now errors asked is notes = record {
+-- a command is asked that is noted where it is refused
+pub noted-step : (past : List Request) (old mid : MountSeen) (request : Request) (outcome : Result Answer Refusal → Outcome)
+    (noting : Result Answer Refusal → Noting) (answer : Result Answer Refusal) (now : List (Option OpenSeen))
+    → IsAskedNoting past old mid request noting answer → now ≡ (outcome answer).files
+    → IsStep past old (record mid { files = now }) (AsksNoting request outcome noting) (outcome answer).reply
+noted-step past old mid request outcome noting answer now asked is = record {
   after = past_after answer request past;
   mounted = record { lives = asked.mounted.lives; scene = asked.mounted.scene };
   terms = asked.terms;
@@ -61,32 +64,97 @@ noted-step past old mid began request outcome noting answer now errors asked is 
     answer,
     asked.answered,
     refl,
-    ap (λ (f : List (Option OpenSeen)). record { past = past_after answer request past; files = f; parked = mid.parked; errors = errors }) is
-        ∙ ap (λ (p : List Parked). record { past = past_after answer request past; files = (outcome answer).files; parked = p; errors = errors }) asked.parked
-        ∙ ap (λ (e : List ErrorSeen). record { past = past_after answer request past; files = (outcome answer).files; parked = old.parked; errors = e }) notes,
+    ap (λ (f : List (Option OpenSeen)). record { past = past_after answer request past; files = f; parked = mid.parked; errors = mid.errors; counted = mid.counted }) is
+        ∙ ap (λ (p : List Parked). record { past = past_after answer request past; files = (outcome answer).files; parked = p; errors = mid.errors; counted = mid.counted }) asked.parked
+        ∙ ap (λ (e : List ErrorSeen). record { past = past_after answer request past; files = (outcome answer).files; parked = old.parked; errors = e; counted = mid.counted }) asked.errors
+        ∙ ap (λ (c : List Counted). record { past = past_after answer request past; files = (outcome answer).files; parked = old.parked; errors = errors_after (noting answer) old.errors; counted = c }) asked.counted,
   );
 }
 
--- the errors of an instance are forgotten
-pub clears-step : (past : List Request) (old : MountSeen) (owner : Owner) (takes : Bool) (reply : Reply) (files now : List (Option OpenSeen))
-    (errors : List ErrorSeen) → HasLedTo past old → now ≡ files → errors ≡ cleared owner old.errors
-    → IsStep past old (record old { files = now; errors = errors }) (Clears owner takes (told reply files)) (Some reply)
-clears-step past old owner takes reply files now errors mounted is clears = record {
+-- this becomes of the errors
+pub tells-step : (past : List Request) (old : MountSeen) (noting : Noting) (takes : Bool) (reply : Reply) (files now : List (Option OpenSeen))
+    (errors : List ErrorSeen) → HasLedTo past old → now ≡ files → errors ≡ errors_after noting old.errors
+    → IsStep past old (record old { files = now; errors = errors }) (Tells noting takes (told reply files)) (Some reply)
+tells-step past old noting takes reply files now errors mounted is tells = record {
   after = past;
   mounted = record { lives = mounted.lives; scene = mounted.scene };
   terms = refl;
   does = inl (
     refl,
-    ap (λ (f : List (Option OpenSeen)). record { past = past; files = f; parked = old.parked; errors = errors }) is
-        ∙ ap (λ (e : List ErrorSeen). record { past = past; files = files; parked = old.parked; errors = e }) clears,
+    ap (λ (f : List (Option OpenSeen)). record { past = past; files = f; parked = old.parked; errors = errors; counted = old.counted }) is
+        ∙ ap (λ (e : List ErrorSeen). record { past = past; files = files; parked = old.parked; errors = e; counted = old.counted }) tells,
   );
 }
 
 -- or memory is refused before
-pub unclear-step : (past : List Request) (old : MountSeen) (owner : Owner) (outcome : Outcome) → HasLedTo past old
-    → IsStep past old old (Clears owner true outcome) (Some (replies.Error ENOMEM))
-unclear-step past old owner outcome mounted =
+pub untold-step : (past : List Request) (old : MountSeen) (noting : Noting) (outcome : Outcome) → HasLedTo past old
+    → IsStep past old old (Tells noting true outcome) (Some (replies.Error ENOMEM))
+untold-step past old noting outcome mounted =
     record { after = past; mounted = mounted; terms = refl; does = inr (refl, refl, refl) }
+
+-- lines were done one after another as far as none was refused
+pub lines-step : (past : List Request) (old mid : MountSeen) (lines : List LineAsked) (outcome : Ran → Outcome) (noting : Ran → Noting) (ran : Ran)
+    (now : List (Option OpenSeen)) (errors : List ErrorSeen) (reply : Reply) → HasLedTo ran.past mid → terms_of mid ≡ terms_of old
+    → mid.parked ≡ old.parked → mid.counted ≡ old.counted → IsRun (terms_of old) past 0 lines ran
+    → (outcome ran).reply ≡ Some reply → now ≡ (outcome ran).files → errors ≡ errors_after (noting ran) old.errors
+    → IsStep past old (record mid { files = now; errors = errors }) (AsksLines lines outcome noting) (Some reply)
+lines-step past old mid lines outcome noting ran now errors reply mounted terms parked counted runs told is notes = record {
+  after = ran.past;
+  mounted = record { lives = mounted.lives; scene = mounted.scene };
+  terms = terms;
+  does = (
+    ran,
+    inl runs,
+    sym told,
+    ap (λ (f : List (Option OpenSeen)). record { past = ran.past; files = f; parked = mid.parked; errors = errors; counted = mid.counted }) is
+        ∙ ap (λ (p : List Parked). record { past = ran.past; files = (outcome ran).files; parked = p; errors = errors; counted = mid.counted }) parked
+        ∙ ap (λ (e : List ErrorSeen). record { past = ran.past; files = (outcome ran).files; parked = old.parked; errors = e; counted = mid.counted }) notes
+        ∙ ap (λ (c : List Counted). record { past = ran.past; files = (outcome ran).files; parked = old.parked; errors = errors_after (noting ran) old.errors; counted = c }) counted,
+  );
+}
+
+-- or memory is refused before the first
+pub unrun-step : (past : List Request) (old : MountSeen) (lines : List LineAsked) (outcome : Ran → Outcome) (noting : Ran → Noting)
+    (now : List (Option OpenSeen)) (errors : List ErrorSeen) (reply : Reply) → HasLedTo past old
+    → (outcome (stopped_at past 0 [] (Refused Memory))).reply ≡ Some reply → now ≡ (outcome (stopped_at past 0 [] (Refused Memory))).files
+    → errors ≡ errors_after (noting (stopped_at past 0 [] (Refused Memory))) old.errors
+    → IsStep past old (record old { files = now; errors = errors }) (AsksLines lines outcome noting) (Some reply)
+unrun-step past old lines outcome noting now errors reply mounted told is notes = record {
+  after = past;
+  mounted = record { lives = mounted.lives; scene = mounted.scene };
+  terms = refl;
+  does = (
+    stopped_at past 0 [] (Refused Memory),
+    inr refl,
+    sym told,
+    ap (λ (f : List (Option OpenSeen)). record { past = past; files = f; parked = old.parked; errors = errors; counted = old.counted }) is
+        ∙ ap (λ (e : List ErrorSeen). record { past = past; files = (outcome (stopped_at past 0 [] (Refused Memory))).files; parked = old.parked; errors = e; counted = old.counted }) notes,
+  );
+}
+
+-- so that nothing has changed
+pub unread-step : (past : List Request) (old : MountSeen) (lines : List LineAsked) (outcome : Ran → Outcome) (noting : Ran → Noting) → HasLedTo past old
+    → outcome (stopped_at past 0 [] (Refused Memory)) ≡ told (replies.Error ENOMEM) old.files → noting (stopped_at past 0 [] (Refused Memory)) ≡ Keeps
+    → IsStep past old old (AsksLines lines outcome noting) (Some (replies.Error ENOMEM))
+unread-step past old lines outcome noting mounted is keeps =
+    unrun-step past old lines outcome noting old.files old.errors (replies.Error ENOMEM) mounted (ap (λ (o : Outcome). o.reply) is)
+    (ap (λ (o : Outcome). o.files) (sym is)) (ap (λ (n : Noting). errors_after n old.errors) (sym keeps))
+
+-- a text is counted
+pub counts-step : (past : List Request) (old : MountSeen) (count : Counted) (reply : Reply) (now : List Counted) → HasLedTo past old
+    → now ≡ with_count count old.counted
+    → IsStep past old (record old { counted = now }) (Counts count (told reply old.files)) (Some reply)
+counts-step past old count reply now mounted is = record {
+  after = past;
+  mounted = record { lives = mounted.lives; scene = mounted.scene };
+  terms = refl;
+  does = inl (refl, ap (λ (c : List Counted). record { past = past; files = old.files; parked = old.parked; errors = old.errors; counted = c }) is);
+}
+
+-- or there is no memory for it
+pub uncounted-step : (past : List Request) (old : MountSeen) (count : Counted) (outcome : Outcome) → HasLedTo past old
+    → IsStep past old old (Counts count outcome) (Some (replies.Error ENOMEM))
+uncounted-step past old count outcome mounted = record { after = past; mounted = mounted; terms = refl; does = inr (refl, refl) }
 
 -- and told
 pub told-step : (past : List Request) (old new : MountSeen) (step : Step) (unique : ℕ) (bytes : List ℕ) (reply : Reply)
@@ -102,7 +170,7 @@ parked-told past old read now unique bytes mounted is none = record {
     after = past;
     mounted = record { lives = mounted.lives; scene = mounted.scene };
     terms = refl;
-    does = inl (refl, ap (λ (p : List Parked). record { past = past; files = old.files; parked = p; errors = old.errors }) is);
+    does = inl (refl, ap (λ (p : List Parked). record { past = past; files = old.files; parked = p; errors = old.errors; counted = old.counted }) is);
   };
   bytes_are = none;
 }
@@ -116,7 +184,7 @@ unparked-told past old read now unique bytes mounted same told = record {
     after = past;
     mounted = record { lives = mounted.lives; scene = mounted.scene };
     terms = refl;
-    does = inr (refl, ap (λ (p : List Parked). record { past = past; files = old.files; parked = p; errors = old.errors }) same);
+    does = inr (refl, ap (λ (p : List Parked). record { past = past; files = old.files; parked = p; errors = old.errors; counted = old.counted }) same);
   };
   bytes_are = told;
 }

@@ -7,10 +7,12 @@ use Rattle.fuse_wire.specs.declared.reply.Reply.TheVariants as replies
 use Rattle.trace_command.specs.Requests.{Request}
 use Rattle.trace_command.specs.declared.command.Reply.{Reply as Answer}
 use Rattle.trace_command.specs.declared.refusal.Refusal.{Refusal}
-use Rattle.mount_replies.specs.Mounted.{HasLedTo, IsAsked, IsStep, IsTold, MountSeen}
-use Rattle.mount_replies.specs.Served.{Asks, Outcome, Takes, given_tool, part_of, taking, told}
-use Rattle.mount_replies.specs.Services.{OpenSeen, with_text}
-use Rattle.mount_replies.proofs.Steps.{asked-step, memory-step, told-step}
+use Rattle.mount_replies.specs.Mounted.{HasLedTo, IsStep, IsTold, MountSeen}
+use Rattle.mount_replies.specs.Served.{given_tool, part_of}
+use Rattle.mount_replies.specs.Services.{OpenSeen, with_reading}
+use Rattle.mount_replies.specs.Steps.{AsksNoting, Noting, Outcome, Takes, taking, told}
+use Rattle.mount_replies.specs.private.Notings.{IsAskedNoting}
+use Rattle.mount_replies.proofs.Steps.{memory-step, noted-step, told-step}
 
 -- nothing is asked, and memory was there
 pub takes-step : (past : List Request) (old : MountSeen) (reply : Reply) (files now : List (Option OpenSeen)) → HasLedTo past old → now ≡ files
@@ -19,20 +21,20 @@ takes-step past old reply files now mounted is = record {
   after = past;
   mounted = record { lives = mounted.lives; scene = mounted.scene };
   terms = refl;
-  does = inl (refl, ap (λ (f : List (Option OpenSeen)). record { past = past; files = f; parked = old.parked; errors = old.errors }) is);
+  does = inl (refl, ap (λ (f : List (Option OpenSeen)). record { past = past; files = f; parked = old.parked; errors = old.errors; counted = old.counted }) is);
 }
 
 -- ---- READ
 
 -- a text was made
 pub tool-made : (past : List Request) (old : MountSeen) (handle offset size : ℕ) (shown : Option (List ℕ)) (text : List ℕ)
-    (now : List (Option OpenSeen)) (unique : ℕ) (bytes : List ℕ) → HasLedTo past old → Some text ≡ shown → now ≡ with_text text handle old.files
+    (now : List (Option OpenSeen)) (unique : ℕ) (bytes : List ℕ) → HasLedTo past old → Some text ≡ shown → now ≡ with_reading offset size text handle old.files
     → bytes ≡ reply_bytes unique (replies.Data (part_of offset size text))
     → IsTold past old (record old { files = now }) (given_tool handle offset size old.files shown) unique bytes
 tool-made past old handle offset size shown text now unique bytes mounted is kept said =
-    rw (sym is) (told-step past old (record old { files = now }) (taking (replies.Data (part_of offset size text)) (with_text text handle old.files)) unique bytes
+    rw (sym is) (told-step past old (record old { files = now }) (taking (replies.Data (part_of offset size text)) (with_reading offset size text handle old.files)) unique bytes
     (replies.Data (part_of offset size text))
-    (takes-step past old (replies.Data (part_of offset size text)) (with_text text handle old.files) now mounted kept) said)
+    (takes-step past old (replies.Data (part_of offset size text)) (with_reading offset size text handle old.files) now mounted kept) said)
 
 -- there is none
 pub tool-missing : (past : List Request) (old : MountSeen) (handle offset size : ℕ) (shown : Option (List ℕ)) (unique : ℕ) (bytes : List ℕ)
@@ -49,17 +51,17 @@ pub tool-refused : (past : List Request) (old : MountSeen) (handle offset size :
 tool-refused past old handle offset size None unique bytes mounted said =
     told-step past old old (taking (replies.Error ENOENT) old.files) unique bytes (replies.Error ENOMEM) (memory-step past old _ mounted) said
 tool-refused past old handle offset size (Some text) unique bytes mounted said =
-    told-step past old old (taking (replies.Data (part_of offset size text)) (with_text text handle old.files)) unique bytes (replies.Error ENOMEM)
+    told-step past old old (taking (replies.Data (part_of offset size text)) (with_reading offset size text handle old.files)) unique bytes (replies.Error ENOMEM)
     (memory-step past old _ mounted) said
 
 -- ---- OPEN
 
 -- a command was asked of a mounted tracer that had got other open files before
 pub opened-step : (past : List Request) (old mid : MountSeen) (files : List (Option OpenSeen)) (request : Request)
-    (outcome : Result Answer Refusal → Outcome) (answer : Result Answer Refusal) (now : List (Option OpenSeen))
-    → IsAsked past (record old { files = files }) mid request answer → now ≡ (outcome answer).files
-    → IsStep past old (record mid { files = now }) (Asks request outcome) (outcome answer).reply
-opened-step past old mid files request outcome answer now asked is =
-    let step : IsStep past (record old { files = files }) (record mid { files = now }) (Asks request outcome) (outcome answer).reply =
-    asked-step past (record old { files = files }) mid request outcome answer now asked is in
+    (outcome : Result Answer Refusal → Outcome) (noting : Result Answer Refusal → Noting) (answer : Result Answer Refusal) (now : List (Option OpenSeen))
+    → IsAskedNoting past (record old { files = files }) mid request noting answer → now ≡ (outcome answer).files
+    → IsStep past old (record mid { files = now }) (AsksNoting request outcome noting) (outcome answer).reply
+opened-step past old mid files request outcome noting answer now asked is =
+    let step : IsStep past (record old { files = files }) (record mid { files = now }) (AsksNoting request outcome noting) (outcome answer).reply =
+    noted-step past (record old { files = files }) mid request outcome noting answer now asked is in
     record { after = step.after; mounted = step.mounted; terms = step.terms; does = step.does }

@@ -1,10 +1,12 @@
 -- Reads that wait: what is lost, what waits, and which is first.
-use Rattle.std.proofs.Common.{◌≡◌, inl, inr, ℕ, zero, suc, Bool, true, false, not, ◌&&◌, ◌||◌, List, [], ◌∷◌, drop, min, Option, is_some, Some, None, Result, Ok, Err, refl, ap}
+use Rattle.std.proofs.Common.{◌≡◌, ◌⊎◌, inl, inr, ℕ, zero, suc, Bool, true, false, not, ◌&&◌, ◌||◌, List, [], ◌∷◌, drop, min, Option, is_some, Some, None, Result, Ok, Err, refl, ap, subst}
 use Rattle.std.proofs.lemmas.List.{take-append-drop}
 use Rattle.std.specs.List.{position, slice_get}
 use Rattle.std.specs.Option.{option_and_then}
 use Rattle.fuse_wire.specs.declared.errno.Errno.TheVariants.{EINTR, EBADF}
+use Rattle.fuse_wire.specs.declared.reply.Reply.{Reply}
 use Rattle.fuse_wire.specs.declared.reply.Reply.TheVariants as replies
+use Rattle.trace_command.specs.Requests.{Request}
 use Rattle.trace_command.specs.declared.refusal.Refusal.{Refusal}
 use Rattle.mount_tree.specs.Children.{is_there}
 use Rattle.mount_tree.specs.NodePaths.{file_meant, owner_name}
@@ -13,13 +15,13 @@ use Rattle.tracer_specification.specs.Waiting.{waiting}
 use Rattle.mount_replies.specs.Mounted.{Does}
 use Rattle.mount_replies.specs.Owed.{ReplyAt, WakeupAt, first_owed, is_due, is_ready, step_of_parked}
 use Rattle.mount_replies.specs.ParkedLaws.{ClosedReadsTakeNothing, InterruptedReadsTakeNothing, InterruptingAsksNothing, NoPollWaitsForWhatIsThere, NoReadWaitsForWhatIsThere, NothingIsOwedToRequests, OldestIsAnsweredFirst, TakenTextIsGivenOrKept, TellingDoesOneCommandAtMost, WaitingAsksNothing, WaitsForRecords}
-use Rattle.mount_replies.specs.Pipes.{ends, is_no, is_used_up, waits_at, would_wait}
-use Rattle.mount_replies.specs.Served.{failed, part_of}
-use Rattle.mount_replies.specs.Services.{OpenSeen, Service, Terms, file_at, scene_of, text_at, with_records, without_read}
-use Rattle.mount_replies.specs.Told.{most_data}
+use Rattle.mount_replies.specs.Pipes.{ends, has_news, is_dry, is_no, is_used_up, waits_at}
+use Rattle.mount_replies.specs.Served.{part_of}
+use Rattle.mount_replies.specs.Services.{OpenSeen, Service, Terms, file_at, most_data, scene_of, text_at, with_dry_read, with_records, without_read}
+use Rattle.mount_replies.specs.Steps.{Asks, Parks, Plain, Step, Takes, failed}
 use Rattle.mount_replies.specs.declared.parked.Parked.{Parked}
+use Rattle.mount_replies.proofs.AnsweredOnce.{IsReadStep, parked-step}
 use Rattle.mount_replies.proofs.Firsts.{none-before, none-passes}
-use Rattle.mount_replies.proofs.PartLaws.{steps_do_one}
 
 pub waiting_asks_nothing : WaitingAsksNothing
 waiting_asks_nothing g before after read reply (inl does) = (ap (λ (s : Service). s.past) does.1, ap (λ (s : Service). s.files) does.1)
@@ -30,7 +32,8 @@ interrupting_asks_nothing g before after unique reply does = (ap (λ (s : Servic
 
 pub interrupted_reads_take_nothing : InterruptedReadsTakeNothing
 interrupted_reads_take_nothing g before after index bytes told interrupted =
-    let does : Does g (without_read index before) (failed EINTR before.files) (Some told.reply) after = rw interrupted at told.does in
+    let does : Does g (without_read index before) (failed EINTR (with_dry_read false told.read.handle before.files)) (Some told.reply) after =
+    rw interrupted at told.does in
     (let same : Some told.reply ≡ Some (replies.Error EINTR) = does.0 in cc, does.1)
 
 pub closed_reads_take_nothing : ClosedReadsTakeNothing
@@ -38,10 +41,23 @@ closed_reads_take_nothing g before after index bytes told going closed =
     let does : Does g (without_read index before) (failed EBADF before.files) (Some told.reply) after = rw (going, closed) at told.does in
     (let same : Some told.reply ≡ Some (replies.Error EBADF) = does.0 in cc, does.1)
 
+-- a read asks one command at most
+one-at-most : (g : Terms) (before after : Service) (step : Step) (unique : ℕ) (reply : Option Reply) → IsReadStep unique step → Does g before step reply after
+    → (after.past ≡ before.past) ⊎ ((request : Request) × (after.past ≡ request ∷ before.past))
+one-at-most g before after (Plain outcome) unique reply is does = inl (ap (λ (s : Service). s.past) does.1)
+one-at-most g before after (Takes outcome) unique reply is (inl does) = inl (ap (λ (s : Service). s.past) does.1)
+one-at-most g before after (Takes outcome) unique reply is (inr does) = inl (ap (λ (s : Service). s.past) does.1)
+one-at-most g before after (Asks request outcome) unique reply is (Ok answer, answered, told, now) = inr (request, ap (λ (s : Service). s.past) now)
+one-at-most g before after (Asks request outcome) unique reply is (Err refusal, answered, told, now) = inl (ap (λ (s : Service). s.past) now)
+one-at-most g before after (Parks read) unique reply is (inl does) = inl (ap (λ (s : Service). s.past) does.1)
+one-at-most g before after (Parks read) unique reply is (inr does) = inl (ap (λ (s : Service). s.past) does.1)
+one-at-most g before after _ unique reply is does = absurd is
+
 pub telling_does_one : TellingDoesOneCommandAtMost
 telling_does_one g before after None bytes told = absurd told
 telling_does_one g before after (Some (ReplyAt index)) bytes told =
-    steps_do_one g (without_read index before) after (step_of_parked g before told.read) (Some told.reply) told.does
+    one-at-most g (without_read index before) after (step_of_parked g before told.read) told.read.unique (Some told.reply)
+    (parked-step g before told.read) told.does
 telling_does_one g before after (Some (WakeupAt handle)) bytes told = inl (ap (λ (s : Service). s.past) told.now)
 
 pub records-kept : (files : List (Option OpenSeen)) (handle : ℕ) (text : List ℕ) (file : OpenSeen) → file_at handle files ≡ Some file
@@ -123,16 +139,21 @@ slot-is files handle file is = by (slice_get files handle) is
     by (Some found) e = ap (λ (f : Option OpenSeen). Some f) e
     by None e = absurd (cc)
 
-not-ready : (waits : Bool) (wakeup : Option ℕ) (number : ℕ) → wakeup ≡ Some number → (is_some wakeup && not waits) ≡ false → waits ≡ true
-not-ready true wakeup number told e = refl
-not-ready false None number told e = absurd (cc)
-not-ready false (Some other) number told e = absurd (cc)
+no-news : (used dry ended told_end : Bool) → (not (used && dry) || (ended && not told_end)) ≡ false
+    → (used ≡ true) × (dry ≡ true) × ((ended ≡ false) ⊎ (told_end ≡ true))
+no-news true true false told_end e = (refl, refl, inl refl)
+no-news true true true true e = (refl, refl, inr refl)
+no-news true true true false e = absurd (cc)
+no-news true false ended told_end e = absurd (cc)
+no-news false dry ended told_end e = absurd (cc)
 
 pub no_poll_waits_for_what_is_there : NoPollWaitsForWhatIsThere
 no_poll_waits_for_what_is_there g s handle wakeup file nothing is wanted =
     let none : position (is_ready g s) s.files ≡ None = none-ready (position (is_due g s) s.parked) (position (is_ready g s) s.files) nothing in
-    not-ready (would_wait g s file) file.wakeup wakeup wanted
-    (none-passes (is_ready g s) s.files handle (Some file) none (slot-is s.files handle file is))
+    let quiet : (is_some file.polls.wakeup && has_news g s file) ≡ false =
+    none-passes (is_ready g s) s.files handle (Some file) none (slot-is s.files handle file is) in
+    no-news (is_used_up file) (is_dry g s file.owner file.file) (ends g s file) file.polls.told_end
+    (subst (λ (w : Option ℕ). (is_some w && has_news g s file) ≡ false) wanted quiet)
 
 pub nothing_is_owed_to_requests : NothingIsOwedToRequests
 nothing_is_owed_to_requests g before after byte asked bytes exchanged = exchanged.0

@@ -1,97 +1,425 @@
 -- What writes come to.
-use Rattle.std.proofs.Common.{◌≡◌, ◌≢◌, ℕ, ◌<◌, ◌^◌, ◌%◌, Bool, not, List, [], ◌∷◌, ◌++◌, length, Option, Some, None, Err, refl, sym, ap, subst, ◌∙◌}
-use Rattle.std.proofs.lemmas.Bool.{lt-ltb}
-use Rattle.std.specs.Option.{option_map}
+use Rattle.std.proofs.Common.{◌≡◌, ◌≢◌, ℕ, Bool, true, false, not, if◌then◌else◌, List, [], ◌∷◌, ◌++◌, length, Option, Some, Result, Ok, Err, refl, sym, ap, subst, ◌∙◌}
+use Rattle.std.specs.List.{slice_get}
 use Rattle.fuse_wire.specs.declared.errno.Errno.{Errno}
-use Rattle.fuse_wire.specs.declared.errno.Errno.TheVariants.{ENOMEM}
+use Rattle.fuse_wire.specs.declared.errno.Errno.TheVariants.{ENOENT, EINVAL, ENOMEM}
+use Rattle.fuse_wire.specs.declared.reply.Reply.{Reply}
 use Rattle.fuse_wire.specs.declared.reply.Reply.TheVariants as replies
-use Rattle.trace_command.specs.Requests.{Request}
+use Rattle.trace_command.specs.Requests.{Request, request_of}
+use Rattle.trace_command.specs.declared.command.Command.TheVariants as commands
+use Rattle.trace_command.specs.declared.command.Reply.{Reply as Answer}
 use Rattle.trace_command.specs.declared.refusal.Refusal.{Refusal}
 use Rattle.trace_command.specs.declared.refusal.Refusal.TheVariants.{Memory}
-use Rattle.trace_format.specs.Definitions.{Definition}
-use Rattle.tracer_specification.specs.Settings.{now_of}
+use Rattle.tracer_specification.specs.Settings.{declared_events, now_of}
 use Rattle.error_log.specs.Errors.{ErrorSeen, begun, refused}
 use Rattle.refusal_explanations.specs.Writes.{write_offset, write_words}
+use Rattle.mount_tree.specs.Children.{is_there}
 use Rattle.mount_tree.specs.FileKinds.{kind_of_file}
+use Rattle.mount_tree.specs.NodePaths.{path_of}
+use Rattle.mount_tree.specs.Scenes.{SceneSeen}
 use Rattle.mount_tree.specs.declared.file.File.{File}
 use Rattle.mount_tree.specs.declared.file.File.TheVariants as files
-use Rattle.mount_tree.specs.NodePaths.{path_of}
+use Rattle.mount_tree.specs.declared.file.FileKind.TheVariants as kinds
 use Rattle.mount_tree.specs.declared.node.Node.TheVariants as nodes
 use Rattle.mount_tree.specs.declared.node.Owner.{Owner}
-use Rattle.mount_replies.specs.Errnos.{errno_of}
-use Rattle.mount_replies.specs.Injections.{first_line, injection, line_size, pairs_of_line}
-use Rattle.mount_replies.specs.Mounted.{IsAsked, HasLedTo, IsStep, MountSeen}
-use Rattle.mount_replies.specs.Served.{Notes, errors_after, noted_refusal, noted_write, inject, inject_asked, without_newline, write_kind, write_of, write_other, write_text, written}
-use Rattle.mount_replies.specs.Services.{OpenSeen, Service, Terms, scene_of}
-use Rattle.mount_replies.proofs.Steps.{asked-step, memory-step, noted-step}
+use Rattle.mount_stub_files.specs.ToolWrites.{tool_write}
+use Rattle.mount_stub_files.specs.WrongWords.{wrong_offset, wrong_words}
+use Rattle.mount_stub_files.specs.declared.write.ToolWrite.{ToolWrite}
+use Rattle.mount_stub_files.specs.declared.write.ToolWrite.TheVariants.{Wrong}
+use Rattle.mount_replies.specs.FileWrites.{begun_now, inject, switch_text, switched, write_file, write_kind, write_other, write_switch, write_text, write_tool, wrong_write}
+use Rattle.mount_replies.specs.Lines.{lines_of, noted_answer, noted_command, noted_if_first, noted_refusal, written, written_lines}
+use Rattle.mount_replies.specs.Mounted.{AsksBy, HasLedTo, IsAsked, IsRun, IsStep, MountSeen, service_of, terms_of}
+use Rattle.mount_replies.specs.Served.{emptied, emptied_first, open_flags}
+use Rattle.mount_replies.specs.Services.{OpenSeen, Service, Terms, file_at, free_handle, just_opened, node_of, scene_of, with_file, with_write}
+use Rattle.mount_replies.specs.Steps.{AsksNoting, LineAsked, Notes, Noting, Outcome, Ran, Step, errors_after, failed, write_of}
+use Rattle.mount_replies.specs.declared.fault.Progress.{Progress}
+use Rattle.mount_replies.specs.declared.writing.Target.{Target}
+use Rattle.mount_replies.specs.private.LineRuns.{RunsTo, path_command, refused_line}
+use Rattle.mount_replies.specs.private.Notings.{AsksNoted, IsAskedNoting}
+use Rattle.mount_replies.specs.private.Targets.{EndsCommands, Ends, IsTarget}
+use Rattle.mount_replies.proofs.Steps.{lines-step, noted-step, plain-step, tells-step, unread-step}
 
 -- a file that is not `inject`
-pub other-kind : (g : Terms) (s : Service) (handle pid : ℕ) (bytes : List ℕ) (own : OpenSeen) (file : File) → ((event : ℕ) → file ≢ files.Inject event)
-    → write_kind g s handle pid bytes own file
-    ≡ write_other g.config (scene_of g s) (now_of s.past) handle own.owner own.file (not own.starts_over) bytes s.files (kind_of_file own.file)
-other-kind g s handle pid bytes own files.SyntheticEvents other = refl
-other-kind g s handle pid bytes own (files.OfInstance file) other = refl
-other-kind g s handle pid bytes own files.SystemEnable other = refl
-other-kind g s handle pid bytes own (files.OfCpu cpu file) other = refl
-other-kind g s handle pid bytes own (files.OfEvent event file) other = refl
-other-kind g s handle pid bytes own (files.Tool file) other = refl
-other-kind g s handle pid bytes own (files.OfTop file) other = refl
-other-kind g s handle pid bytes own (files.CpuSize cpu) other = refl
-other-kind g s handle pid bytes own (files.EventId event) other = refl
-other-kind g s handle pid bytes own files.ErrorLog other = refl
-other-kind g s handle pid bytes own (files.Inject event) other = absurd (other event refl)
-
--- a refusal that is noted
-pub noted-is : (error : ErrorSeen) (path text : List ℕ) (refusal : Refusal) → refusal ≢ Memory
-    → noted_refusal error path text refusal ≡ Notes (refused error (write_words path text refusal) (write_offset path text refusal))
-noted-is error path text Memory other = absurd (other refl)
-noted-is error path text _ other = refl
+pub other-kind : (g : Terms) (s : Service) (handle lock_owner pid : ℕ) (bytes : List ℕ) (own : OpenSeen) (file : File)
+    → ((event : ℕ) → file ≢ files.Inject event)
+    → write_kind g s handle lock_owner pid bytes own file ≡ write_other g s handle own bytes (kind_of_file own.file)
+other-kind g s handle lock_owner pid bytes own files.SyntheticEvents other = refl
+other-kind g s handle lock_owner pid bytes own (files.OfInstance file) other = refl
+other-kind g s handle lock_owner pid bytes own files.SystemEnable other = refl
+other-kind g s handle lock_owner pid bytes own (files.OfCpu cpu file) other = refl
+other-kind g s handle lock_owner pid bytes own (files.OfEvent event file) other = refl
+other-kind g s handle lock_owner pid bytes own (files.Tool file) other = refl
+other-kind g s handle lock_owner pid bytes own (files.OfTop file) other = refl
+other-kind g s handle lock_owner pid bytes own (files.CpuSize cpu) other = refl
+other-kind g s handle lock_owner pid bytes own (files.EventId event) other = refl
+other-kind g s handle lock_owner pid bytes own files.ErrorLog other = refl
+other-kind g s handle lock_owner pid bytes own (files.Inject event) other = absurd (other event refl)
 
 -- memory is refused before a command is asked
 pub asked-none : (past : List Request) (old : MountSeen) (request : Request) → HasLedTo past old → IsAsked past old old request (Err Memory)
-asked-none past old request mounted = record { answered = λ other. absurd (other refl); mounted = mounted; terms = refl; files = refl; parked = refl; errors = refl }
+asked-none past old request mounted = record { answered = λ other. absurd (other refl); mounted = mounted; terms = refl; files = refl; parked = refl; errors = refl; counted = refl }
 
-pub memory-text : (past : List Request) (old : MountSeen) (now handle : ℕ) (owner : Owner) (file : File) (append : Bool) (bytes : List ℕ)
-    → HasLedTo past old → IsStep past old old (write_text old.scene now handle owner file append bytes old.files) (Some (replies.Error ENOMEM))
-memory-text past old now handle owner file append bytes mounted =
-    let path = path_of old.scene (nodes.File owner file) in
-    let text = without_newline bytes in
-    let request = write_of old.scene (nodes.File owner file) append text in
-    noted-step past old old old.errors request (written handle (length bytes) old.files) (noted_write (begun owner now path text) path text) (Err Memory)
-    old.files old.errors (asked-none past old request mounted) refl refl
+-- ---- what is noted
 
--- a write was refused, and is noted
-pub refused-text : (past : List Request) (old mid : MountSeen) (now time handle : ℕ) (owner : Owner) (file : File) (append : Bool) (bytes path text : List ℕ)
-    (refusal : Refusal) (began errors : List ErrorSeen) (errno : Errno) → time ≡ now → path ≡ path_of old.scene (nodes.File owner file)
-    → text ≡ without_newline bytes → began ≡ old.errors ++ begun owner time path text ∷ []
-    → IsAsked past (record old { errors = began }) mid (write_of old.scene (nodes.File owner file) append text) (Err refusal)
+-- a refusal that is noted
+pub noted-is : (error : ErrorSeen) (path text shown : List ℕ) (at : ℕ) (refusal : Refusal) → refusal ≢ Memory
+    → noted_answer error path text shown at (Err refusal) ≡ Notes (refused error shown (write_words path text refusal) at)
+noted-is error path text shown at Memory other = absurd (other refl)
+noted-is error path text shown at _ other = refl
+
+-- with what is to blame in the command
+pub noted-alike : (error : ErrorSeen) (path text shown : List ℕ) (refusal : Refusal)
+    → noted_answer error path text shown (write_offset path text refusal) (Err refusal) ≡ noted_refusal error path text shown refusal
+noted-alike error path text shown Memory = refl
+noted-alike error path text shown _ = refl
+
+-- ---- one command that is noted
+
+-- memory is refused before it is
+pub unnoted : (past : List Request) (old : MountSeen) (request : Request) (error : ErrorSeen) (path text shown : List ℕ) (at : ℕ) → HasLedTo past old
+    → IsAskedNoting past old old request (noted_answer error path text shown at) (Err Memory)
+unnoted past old request error path text shown at mounted = record {
+  answered = λ other. absurd (other refl);
+  mounted = mounted;
+  terms = refl;
+  files = refl;
+  parked = refl;
+  counted = refl;
+  errors = refl;
+}
+
+-- it is asked of the tracer, where the errors had one more, and then are those that they become
+pub noted-asked : (past : List Request) (old mid : MountSeen) (request : Request) (answer : Result Answer Refusal) (noting : Result Answer Refusal → Noting)
+    (began now : List ErrorSeen) → IsAsked past (record old { errors = began }) mid request answer → now ≡ errors_after (noting answer) old.errors
+    → IsAskedNoting past old (record mid { errors = now }) request noting answer
+noted-asked past old mid request answer noting began now asked is = record {
+  answered = asked.answered;
+  mounted = record { lives = asked.mounted.lives; scene = asked.mounted.scene };
+  terms = asked.terms;
+  files = asked.files;
+  parked = asked.parked;
+  counted = asked.counted;
+  errors = is;
+}
+
+-- ---- lines that are commands
+
+-- what is told of an open file is what its target is told by
+own-path : (past : List Request) (old : MountSeen) (own : OpenSeen) (target : Target) → HasLedTo past old → IsTarget own target
+    → path_of old.scene (nodes.File target.owner target.file) ≡ path_of (scene_of (terms_of old) (service_of past old)) (node_of own)
+own-path past old own target mounted is =
+    ap (λ (s : SceneSeen). path_of s (nodes.File target.owner target.file)) mounted.scene
+    ∙ ap (λ (o : Owner). path_of (scene_of (terms_of old) (service_of past old)) (nodes.File o target.file)) (sym is.owner)
+    ∙ ap (λ (f : File). path_of (scene_of (terms_of old) (service_of past old)) (nodes.File own.owner f)) (sym is.file_is)
+
+own-lines : (own : OpenSeen) (target : Target) (bytes path own_path : List ℕ) → IsTarget own target → path ≡ own_path
+    → lines_of (path_command path target.file) target.file target.append bytes
+    ≡ lines_of (path_command own_path own.file) own.file (not own.starts_over) bytes
+own-lines own target bytes path own_path is same =
+    ap (λ (p : List ℕ). lines_of (path_command p target.file) target.file target.append bytes) same
+    ∙ ap (λ (f : File). lines_of (path_command own_path f) f target.append bytes) (sym is.file_is)
+    ∙ ap (λ (a : Bool). lines_of (path_command own_path own.file) own.file a bytes) (sym is.append)
+
+own-noting : (own : OpenSeen) (target : Target) (error own_error : ErrorSeen) (path own_path : List ℕ) (progress : Progress) → IsTarget own target
+    → error ≡ own_error → path ≡ own_path
+    → noted_if_first (noted_command error path target.file) progress.done (refused_line progress.stop)
+    ≡ noted_if_first (noted_command own_error own_path own.file) progress.done (refused_line progress.stop)
+own-noting own target error own_error path own_path progress is same there =
+    ap (λ (e : ErrorSeen). noted_if_first (noted_command e path target.file) progress.done (refused_line progress.stop)) same
+    ∙ ap (λ (p : List ℕ). noted_if_first (noted_command own_error p target.file) progress.done (refused_line progress.stop)) there
+    ∙ ap (λ (f : File). noted_if_first (noted_command own_error own_path f) progress.done (refused_line progress.stop)) (sym is.file_is)
+
+own-begun : (past : List Request) (old : MountSeen) (own : OpenSeen) (target : Target) (path : List ℕ) (time : ℕ) → IsTarget own target
+    → path ≡ path_of (scene_of (terms_of old) (service_of past old)) (node_of own) → time ≡ now_of past
+    → begun target.owner time path ≡ begun_now (terms_of old) (service_of past old) own
+own-begun past old own target path time is there when =
+    ap (λ (o : Owner). begun o time path) (sym is.owner) ∙ ap (λ (t : ℕ). begun own.owner t path) when
+    ∙ ap (λ (p : List ℕ). begun own.owner (now_of past) p) there
+
+-- lines were done one after another, and this was told
+pub text-step : (past : List Request) (old mid new : MountSeen) (own : OpenSeen) (target : Target) (bytes path : List ℕ) (time : ℕ)
+    (began : List ErrorSeen) (progress : Progress) (reply : Reply) → HasLedTo past old → IsTarget own target
+    → path ≡ path_of old.scene (nodes.File target.owner target.file) → time ≡ now_of past → began ≡ old.errors ++ begun target.owner time path ∷ []
+    → RunsTo past (record old { errors = began }) mid (lines_of (path_command path target.file) target.file target.append bytes) progress
+    → EndsCommands mid new target path (length bytes) progress reply
+    → IsStep past old new (write_text (terms_of old) (service_of past old) target.handle own bytes) (Some reply)
+text-step past old mid new own target bytes path time began progress reply mounted is path_is time_is begins run ends =
+    let P = path_of (scene_of (terms_of old) (service_of past old)) (node_of own) in
+    let there : path ≡ P = path_is ∙ own-path past old own target mounted is in
+    let ran : Ran = record { past = run.after; done = progress.done; refused = refused_line progress.stop } in
+    let lines : List LineAsked = written_lines (scene_of (terms_of old) (service_of past old)) own.owner own.file (not own.starts_over) bytes in
+    let outcome : Ran → Outcome = λ r. written target.handle (length bytes) old.files r.done r.refused in
+    let noting : Ran → Noting = λ r. noted_if_first (noted_command (begun_now (terms_of old) (service_of past old) own) P own.file) r.done r.refused in
+    let end : Ends mid new (written target.handle (length bytes) mid.files progress.done (refused_line progress.stop))
+    (noted_if_first (noted_command (begun target.owner time path) path target.file) progress.done (refused_line progress.stop)) old.errors reply =
+    ends old.errors (begun target.owner time path) (run.kept.errors ∙ begins) in
+    let runs : IsRun (terms_of old) past 0 lines ran =
+    subst (λ (l : List LineAsked). IsRun (terms_of old) past 0 l ran) (own-lines own target bytes path P is there) run.runs in
+    let files_are : mid.files ≡ old.files = run.kept.files in
+    let outcomes : written target.handle (length bytes) mid.files progress.done (refused_line progress.stop) ≡ outcome ran =
+    ap (λ (f : List (Option OpenSeen)). written target.handle (length bytes) f progress.done (refused_line progress.stop)) files_are in
+    let notings = own-noting own target (begun target.owner time path) (begun_now (terms_of old) (service_of past old) own) path P progress is
+    (own-begun past old own target path time is there time_is) there in
+    let replied : (outcome ran).reply ≡ Some reply = ap (λ (o : Outcome). o.reply) (sym outcomes) ∙ end.told in
+    subst (λ (m : MountSeen). IsStep past old m (write_text (terms_of old) (service_of past old) target.handle own bytes) (Some reply)) (sym end.now)
+    (lines-step past old mid lines outcome noting ran
+    (written target.handle (length bytes) mid.files progress.done (refused_line progress.stop)).files
+    (errors_after (noted_if_first (noted_command (begun target.owner time path) path target.file) progress.done (refused_line progress.stop)) old.errors)
+    reply run.mounted run.kept.terms run.kept.parked run.kept.counted runs replied (ap (λ (o : Outcome). o.files) outcomes)
+    (ap (λ (n : Noting). errors_after n old.errors) notings))
+
+-- or memory was refused before
+pub memory-text : (past : List Request) (old : MountSeen) (own : OpenSeen) (handle : ℕ) (bytes : List ℕ) → HasLedTo past old
+    → IsStep past old old (write_text (terms_of old) (service_of past old) handle own bytes) (Some (replies.Error ENOMEM))
+memory-text past old own handle bytes mounted =
+    let P = path_of (scene_of (terms_of old) (service_of past old)) (node_of own) in
+    unread-step past old (written_lines (scene_of (terms_of old) (service_of past old)) own.owner own.file (not own.starts_over) bytes)
+    (λ (r : Ran). written handle (length bytes) old.files r.done r.refused)
+    (λ (r : Ran). noted_if_first (noted_command (begun_now (terms_of old) (service_of past old) own) P own.file) r.done r.refused) mounted refl refl
+
+-- ---- files that tools ask for
+
+-- the write of another file
+pub tool-step : (past : List Request) (old new : MountSeen) (own : OpenSeen) (target : Target) (bytes : List ℕ) (reply : Reply) → HasLedTo past old
+    → IsTarget own target
+    → IsStep past old new (write_tool (terms_of old) (service_of past old) target.handle own bytes (tool_write old.live.config old.scene target.owner target.file bytes)) (Some reply)
+    → IsStep past old new (write_other (terms_of old) (service_of past old) target.handle own bytes kinds.Tool) (Some reply)
+tool-step past old new own target bytes reply mounted is step =
+    let same : tool_write old.live.config old.scene target.owner target.file bytes
+    ≡ tool_write old.live.config (scene_of (terms_of old) (service_of past old)) own.owner own.file bytes =
+    ap (λ (s : SceneSeen). tool_write old.live.config s target.owner target.file bytes) mounted.scene
+    ∙ ap (λ (o : Owner). tool_write old.live.config (scene_of (terms_of old) (service_of past old)) o target.file bytes) (sym is.owner)
+    ∙ ap (λ (f : File). tool_write old.live.config (scene_of (terms_of old) (service_of past old)) own.owner f bytes) (sym is.file_is) in
+    subst (λ (w : ToolWrite). IsStep past old new (write_tool (terms_of old) (service_of past old) target.handle own bytes w) (Some reply)) same step
+
+-- a switch was written for it
+pub switch-step : (past : List Request) (old mid : MountSeen) (own : OpenSeen) (target : Target) (bytes text : List ℕ) (switch : File) (on : Bool)
+    (size at : ℕ) (answer : Result Answer Refusal) (now : List (Option OpenSeen)) → HasLedTo past old → IsTarget own target → text ≡ switch_text on
+    → at ≡ wrong_offset bytes
+    → IsAskedNoting past old mid (write_of old.scene (nodes.File target.owner switch) false text)
+    (noted_answer (begun target.owner (now_of past) (path_of old.scene (nodes.File target.owner target.file)))
+    (path_of old.scene (nodes.File target.owner switch)) text bytes at) answer
+    → now ≡ (switched target.handle size old.files answer).files
+    → IsStep past old (record mid { files = now }) (write_switch (terms_of old) (service_of past old) target.handle own bytes switch on size)
+    (switched target.handle size old.files answer).reply
+switch-step past old mid own target bytes text switch on size at answer now mounted is text_is at_is asked files_are =
+    let P = path_of (scene_of (terms_of old) (service_of past old)) (nodes.File own.owner switch) in
+    let there : path_of old.scene (nodes.File target.owner switch) ≡ P =
+    ap (λ (s : SceneSeen). path_of s (nodes.File target.owner switch)) mounted.scene
+    ∙ ap (λ (o : Owner). path_of (scene_of (terms_of old) (service_of past old)) (nodes.File o switch)) (sym is.owner) in
+    let error = own-begun past old own target (path_of old.scene (nodes.File target.owner target.file)) (now_of past) is (own-path past old own target mounted is) refl in
+    let first = subst (λ (p : List ℕ). IsAskedNoting past old mid (request_of (commands.Write p false text))
+    (noted_answer (begun target.owner (now_of past) (path_of old.scene (nodes.File target.owner target.file))) p text bytes at) answer) there asked in
+    let second = subst (λ (e : ErrorSeen). IsAskedNoting past old mid (request_of (commands.Write P false text)) (noted_answer e P text bytes at) answer) error first in
+    let third = subst (λ (t : List ℕ). IsAskedNoting past old mid (request_of (commands.Write P false t))
+    (noted_answer (begun_now (terms_of old) (service_of past old) own) P t bytes at) answer) text_is second in
+    let fourth = subst (λ (n : ℕ). IsAskedNoting past old mid (request_of (commands.Write P false (switch_text on)))
+    (noted_answer (begun_now (terms_of old) (service_of past old) own) P (switch_text on) bytes n) answer) at_is third in
+    noted-step past old mid (request_of (commands.Write P false (switch_text on))) (switched target.handle size old.files)
+    (noted_answer (begun_now (terms_of old) (service_of past old) own) P (switch_text on) bytes (wrong_offset bytes)) answer now fourth files_are
+
+-- ---- files that are opened to be emptied
+
+-- a file has its handle before a command is asked, and keeps it or not
+pub opened-step : (past : List Request) (old mid : MountSeen) (request : Request) (outcome : Result Answer Refusal → Outcome)
+    (noting : Result Answer Refusal → Noting) (answer : Result Answer Refusal) (opened now : List (Option OpenSeen))
+    → IsAskedNoting past (record old { files = opened }) mid request noting answer → now ≡ (outcome answer).files
+    → IsStep past old (record mid { files = now }) (AsksNoting request outcome noting) (outcome answer).reply
+opened-step past old mid request outcome noting answer opened now asked is =
+    let same : IsAskedNoting past old (record mid { files = old.files }) request noting answer = record {
+      answered = asked.answered;
+      mounted = record { lives = asked.mounted.lives; scene = asked.mounted.scene };
+      terms = asked.terms;
+      files = refl;
+      parked = asked.parked;
+      counted = asked.counted;
+      errors = asked.errors;
+    } in
+    noted-step past old (record mid { files = old.files }) request outcome noting answer now same is
+
+-- ---- what a file can't be set to
+
+pub wrong-step : (past : List Request) (old mid : MountSeen) (own : OpenSeen) (owner : Owner) (file : File) (handle : ℕ) (bytes : List ℕ)
+    (errors : List ErrorSeen) → HasLedTo past old → own.owner ≡ owner → own.file ≡ file
+    → mid ≡ record old { errors = old.errors ++ begun owner (now_of past) (path_of old.scene (nodes.File owner file)) ∷ [] }
     → ((before : List ErrorSeen) (error : ErrorSeen) → mid.errors ≡ before ++ error ∷ []
-    → errors ≡ errors_after (noted_refusal error path text refusal) before)
-    → errno ≡ errno_of refusal
-    → IsStep past old (record mid { errors = errors }) (write_text old.scene now handle owner file append bytes old.files) (Some (replies.Error errno))
-refused-text past old mid now time handle owner file append bytes path text refusal began errors errno is_time is_path is_text begins asked notes is =
-    let P = path_of old.scene (nodes.File owner file) in
-    let T = without_newline bytes in
-    let noted : errors ≡ errors_after (noted_refusal (begun owner now P T) P T refusal) old.errors =
-    notes old.errors (begun owner time path text) (asked.errors ∙ begins)
-    ∙ ap (λ (t : ℕ). errors_after (noted_refusal (begun owner t path text) path text refusal) old.errors) is_time
-    ∙ ap (λ (p : List ℕ). errors_after (noted_refusal (begun owner now p text) p text refusal) old.errors) is_path
-    ∙ ap (λ (t : List ℕ). errors_after (noted_refusal (begun owner now P t) P t refusal) old.errors) is_text in
-    let asks : IsAsked past (record old { errors = began }) mid (write_of old.scene (nodes.File owner file) append T) (Err refusal) =
-    subst (λ (t : List ℕ). IsAsked past (record old { errors = began }) mid (write_of old.scene (nodes.File owner file) append t) (Err refusal)) is_text asked in
-    subst (λ (e : Errno). IsStep past old (record mid { errors = errors }) (write_text old.scene now handle owner file append bytes old.files) (Some (replies.Error e)))
-    (sym is)
-    (noted-step past old mid began (write_of old.scene (nodes.File owner file) append T) (written handle (length bytes) old.files)
-    (noted_write (begun owner now P T) P T) (Err refusal) mid.files errors asks asks.files noted)
+    → errors ≡ errors_after (Notes (refused error bytes (wrong_words file) (wrong_offset bytes))) before)
+    → IsStep past old (record mid { errors = errors }) (write_tool (terms_of old) (service_of past old) handle own bytes Wrong) (Some (replies.Error EINVAL))
+wrong-step past old mid own owner file handle bytes errors mounted owner_is file_is begins notes =
+    let target : Target = record { handle = handle; owner = owner; file = file; append = not own.starts_over } in
+    let is : IsTarget own target = record { owner = owner_is; file_is = file_is; append = refl } in
+    let path = path_of old.scene (nodes.File owner file) in
+    let error : begun owner (now_of past) path ≡ begun_now (terms_of old) (service_of past old) own =
+    own-begun past old own target path (now_of past) is (own-path past old own target mounted is) refl in
+    let noted : errors ≡ errors_after (wrong_write (terms_of old) (service_of past old) own bytes) old.errors =
+    notes old.errors (begun owner (now_of past) path) (ap (λ (m : MountSeen). m.errors) begins)
+    ∙ ap (λ (e : ErrorSeen). errors_after (Notes (refused e bytes (wrong_words file) (wrong_offset bytes))) old.errors) error
+    ∙ ap (λ (f : File). errors_after (Notes (refused (begun_now (terms_of old) (service_of past old) own) bytes (wrong_words f) (wrong_offset bytes))) old.errors)
+    (sym file_is) in
+    subst (λ (m : MountSeen). IsStep past old m (write_tool (terms_of old) (service_of past old) handle own bytes Wrong) (Some (replies.Error EINVAL)))
+    (ap (λ (m : MountSeen). record m { errors = errors }) (sym begins))
+    (tells-step past old (wrong_write (terms_of old) (service_of past old) own bytes) true (replies.Error EINVAL) old.files old.files errors mounted refl noted)
 
-pub memory-inject : (past : List Request) (old : MountSeen) (handle size : ℕ) (request : Option Request) → HasLedTo past old
-    → IsStep past old old (inject_asked handle size old.files request) (Some (replies.Error ENOMEM))
-memory-inject past old handle size None mounted = memory-step past old _ mounted
-memory-inject past old handle size (Some request) mounted =
-    asked-step past old old request (written handle size old.files) (Err Memory) old.files (asked-none past old request mounted) refl
+-- ---- one command that is noted
 
--- an injection by a process
-pub inject-is : (cpus handle pid : ℕ) (bytes : List ℕ) (open_files : List (Option OpenSeen)) (event : Definition) → pid < 2 ^ 31
-    → inject cpus handle pid bytes open_files (Some event)
-    ≡ inject_asked handle (line_size bytes) open_files (option_map (injection (pid % cpus) event pid) (pairs_of_line (first_line bytes)))
-inject-is cpus handle pid bytes open_files event low = rw (lt-ltb pid (2 ^ 31) low) refl
+-- a write was begun, and then asked
+pub begun-asked : (past : List Request) (old first mid : MountSeen) (request : Request) (answer : Result Answer Refusal)
+    (noting : Result Answer Refusal → Noting) (error : ErrorSeen) (now : List ErrorSeen)
+    → first ≡ record old { errors = old.errors ++ error ∷ [] } → HasLedTo past old → (HasLedTo past first → IsAsked past first mid request answer)
+    → (mid.errors ≡ old.errors ++ error ∷ [] → now ≡ errors_after (noting answer) old.errors)
+    → IsAskedNoting past old (record mid { errors = now }) request noting answer
+begun-asked past old first mid request answer noting error now begins mounted asks becomes =
+    let there : HasLedTo past first = subst (λ (m : MountSeen). HasLedTo past m) (sym begins) (record { lives = mounted.lives; scene = mounted.scene }) in
+    let asked : IsAsked past first mid request answer = asks there in
+    let from : IsAsked past (record old { errors = old.errors ++ error ∷ [] }) mid request answer =
+    subst (λ (m : MountSeen). IsAsked past m mid request answer) begins asked in
+    noted-asked past old mid request answer noting (old.errors ++ error ∷ []) now from (becomes from.errors)
+
+-- the write of a text to another file by its path
+pub write-noted : (past : List Request) (old first asked mid : MountSeen) (path own_path text : List ℕ) (answer : Result Answer Refusal)
+    (noting : Result Answer Refusal → Noting) (error : ErrorSeen) (now : List ErrorSeen)
+    → first ≡ record old { errors = old.errors ++ error ∷ [] } → HasLedTo past old
+    → AsksBy first asked (request_of (commands.Write path false text)) answer → mid ≡ asked → path ≡ own_path
+    → (mid.errors ≡ old.errors ++ error ∷ [] → now ≡ errors_after (noting answer) old.errors)
+    → IsAskedNoting past old (record mid { errors = now }) (request_of (commands.Write own_path false text)) noting answer
+write-noted past old first asked mid path own_path text answer noting error now begins mounted asks is there becomes =
+    begun-asked past old first mid (request_of (commands.Write own_path false text)) answer noting error now begins mounted
+    (λ (led : HasLedTo past first). subst (λ (m : MountSeen). IsAsked past first m (request_of (commands.Write own_path false text)) answer) (sym is)
+    (subst (λ (p : List ℕ). IsAsked past first asked (request_of (commands.Write p false text)) answer) there (asks past led))) becomes
+
+-- ---- a switch
+
+pub switch-done : (past : List Request) (old seen mid : MountSeen) (own : OpenSeen) (target : Target) (bytes text : List ℕ) (switch : File) (on : Bool)
+    (size at : ℕ) (now : List (Option OpenSeen)) (done : Unit {0}) → HasLedTo past old → IsTarget own target → text ≡ switch_text on → at ≡ wrong_offset bytes
+    → AsksNoted past old seen (write_of old.scene (nodes.File target.owner switch) false text)
+    (noted_answer (begun target.owner (now_of past) (path_of old.scene (nodes.File target.owner target.file)))
+    (path_of old.scene (nodes.File target.owner switch)) text bytes at) (Ok done)
+    → mid ≡ seen → now ≡ with_write target.handle mid.files
+    → IsStep past old (record mid { files = now }) (write_switch (terms_of old) (service_of past old) target.handle own bytes switch on size)
+    (Some (replies.Written size))
+switch-done past old seen mid own target bytes text switch on size at now done mounted is text_is at_is asked same now_is =
+    let there : IsAskedNoting past old mid (write_of old.scene (nodes.File target.owner switch) false text)
+    (noted_answer (begun target.owner (now_of past) (path_of old.scene (nodes.File target.owner target.file)))
+    (path_of old.scene (nodes.File target.owner switch)) text bytes at) (Ok asked.0) =
+    subst (λ (m : MountSeen). IsAskedNoting past old m (write_of old.scene (nodes.File target.owner switch) false text)
+    (noted_answer (begun target.owner (now_of past) (path_of old.scene (nodes.File target.owner target.file)))
+    (path_of old.scene (nodes.File target.owner switch)) text bytes at) (Ok asked.0)) (sym same) asked.1 in
+    switch-step past old mid own target bytes text switch on size at (Ok asked.0) now mounted is text_is at_is there
+    (now_is ∙ ap (λ (f : List (Option OpenSeen)). with_write target.handle f) there.files)
+
+pub switch-refused : (past : List Request) (old new : MountSeen) (own : OpenSeen) (target : Target) (bytes text : List ℕ) (switch : File) (on : Bool)
+    (size at : ℕ) (errno : Errno) → HasLedTo past old → IsTarget own target → text ≡ switch_text on → at ≡ wrong_offset bytes
+    → AsksNoted past old new (write_of old.scene (nodes.File target.owner switch) false text)
+    (noted_answer (begun target.owner (now_of past) (path_of old.scene (nodes.File target.owner target.file)))
+    (path_of old.scene (nodes.File target.owner switch)) text bytes at) (Err errno)
+    → IsStep past old new (write_switch (terms_of old) (service_of past old) target.handle own bytes switch on size) (Some (replies.Error errno))
+switch-refused past old new own target bytes text switch on size at errno mounted is text_is at_is asked =
+    subst (λ (e : Errno). IsStep past old new (write_switch (terms_of old) (service_of past old) target.handle own bytes switch on size) (Some (replies.Error e)))
+    (sym asked.2)
+    (switch-step past old new own target bytes text switch on size at (Err asked.0) new.files mounted is text_is at_is asked.1 asked.1.files)
+
+-- ---- a file that is opened to be emptied
+
+pub open-done : (past : List Request) (old new : MountSeen) (owner : Owner) (file asked : File) (text : List ℕ) (handle flags : ℕ)
+    (files : List (Option OpenSeen)) (done : Unit {0}) → handle ≡ free_handle old.files → files ≡ with_file handle (just_opened owner file false) old.files
+    → flags ≡ open_flags (kind_of_file file)
+    → AsksNoted past (record old { files = files }) new (write_of old.scene (nodes.File owner asked) false text)
+    (noted_answer (begun owner (now_of past) (path_of old.scene (nodes.File owner file))) (path_of old.scene (nodes.File owner asked)) text [] 0) (Ok done)
+    → IsStep past old new (emptied old.scene (now_of past) (just_opened owner file false) old.files asked text) (Some (replies.Opened handle flags))
+open-done past old new owner file asked text handle flags files done free added flags_are does =
+    let own = just_opened owner file false in
+    let now : new.files ≡ with_file (free_handle old.files) (just_opened owner file false) old.files =
+    does.1.files ∙ added ∙ ap (λ (h : ℕ). with_file h (just_opened owner file false) old.files) free in
+    let step : IsStep past old new (emptied old.scene (now_of past) (just_opened owner file false) old.files asked text)
+    (Some (replies.Opened (free_handle old.files) (open_flags (kind_of_file file)))) =
+    opened-step past old new (write_of old.scene (nodes.File owner asked) false text) (emptied_first (just_opened owner file false) old.files)
+    (noted_answer (begun owner (now_of past) (path_of old.scene (nodes.File owner file))) (path_of old.scene (nodes.File owner asked)) text [] 0)
+    (Ok does.0) files new.files does.1 now in
+    subst (λ (h : ℕ). IsStep past old new (emptied old.scene (now_of past) (just_opened owner file false) old.files asked text) (Some (replies.Opened h flags)))
+    (sym free)
+    (subst (λ (f : ℕ). IsStep past old new (emptied old.scene (now_of past) (just_opened owner file false) old.files asked text)
+    (Some (replies.Opened (free_handle old.files) f))) (sym flags_are) step)
+
+pub open-refused : (past : List Request) (old seen mid : MountSeen) (owner : Owner) (file asked : File) (text : List ℕ) (errno : Errno)
+    (files now : List (Option OpenSeen))
+    → AsksNoted past (record old { files = files }) seen (write_of old.scene (nodes.File owner asked) false text)
+    (noted_answer (begun owner (now_of past) (path_of old.scene (nodes.File owner file))) (path_of old.scene (nodes.File owner asked)) text [] 0) (Err errno)
+    → mid ≡ seen → (mid.files ≡ files → now ≡ old.files)
+    → IsStep past old (record mid { files = now }) (emptied old.scene (now_of past) (just_opened owner file false) old.files asked text)
+    (Some (replies.Error errno))
+open-refused past old seen mid owner file asked text errno files now does same back =
+    let there : IsAskedNoting past (record old { files = files }) mid (write_of old.scene (nodes.File owner asked) false text)
+    (noted_answer (begun owner (now_of past) (path_of old.scene (nodes.File owner file))) (path_of old.scene (nodes.File owner asked)) text [] 0)
+    (Err does.0) =
+    subst (λ (m : MountSeen). IsAskedNoting past (record old { files = files }) m (write_of old.scene (nodes.File owner asked) false text)
+    (noted_answer (begun owner (now_of past) (path_of old.scene (nodes.File owner file))) (path_of old.scene (nodes.File owner asked)) text [] 0)
+    (Err does.0)) (sym same) does.1 in
+    subst (λ (e : Errno). IsStep past old (record mid { files = now }) (emptied old.scene (now_of past) (just_opened owner file false) old.files asked text)
+    (Some (replies.Error e))) (sym does.2)
+    (opened-step past old mid (write_of old.scene (nodes.File owner asked) false text) (emptied_first (just_opened owner file false) old.files)
+    (noted_answer (begun owner (now_of past) (path_of old.scene (nodes.File owner file))) (path_of old.scene (nodes.File owner asked)) text [] 0)
+    (Err does.0) files now there (back there.files))
+
+-- there is no handle for it
+pub open-none : (past : List Request) (old : MountSeen) (owner : Owner) (file asked : File) (text : List ℕ) (now : List (Option OpenSeen))
+    → HasLedTo past old → now ≡ old.files
+    → IsStep past old (record old { files = now }) (emptied old.scene (now_of past) (just_opened owner file false) old.files asked text)
+    (Some (replies.Error ENOMEM))
+open-none past old owner file asked text now mounted is =
+    noted-step past old old (write_of old.scene (nodes.File owner asked) false text) (emptied_first (just_opened owner file false) old.files)
+    (noted_answer (begun owner (now_of past) (path_of old.scene (nodes.File owner file))) (path_of old.scene (nodes.File owner asked)) text [] 0)
+    (Err Memory) now
+    (unnoted past old (write_of old.scene (nodes.File owner asked) false text) (begun owner (now_of past) (path_of old.scene (nodes.File owner file)))
+    (path_of old.scene (nodes.File owner asked)) text [] 0 mounted) is
+
+-- ---- WRITE
+
+-- the file is there
+written-there : (past : List Request) (old : MountSeen) (handle lock_owner pid : ℕ) (bytes : List ℕ) (own : OpenSeen) (target : Target)
+    → HasLedTo past old → Some own ≡ file_at handle old.files → IsTarget own target → is_there old.scene (nodes.File target.owner target.file) ≡ true
+    → write_file (terms_of old) (service_of past old) handle lock_owner pid bytes (file_at handle old.files)
+    ≡ write_kind (terms_of old) (service_of past old) handle lock_owner pid bytes own own.file
+written-there past old handle lock_owner pid bytes own target mounted found is there =
+    ap (λ (o : Option OpenSeen). write_file (terms_of old) (service_of past old) handle lock_owner pid bytes o) (sym found)
+    ∙ ap (λ (t : Bool). if t then write_kind (terms_of old) (service_of past old) handle lock_owner pid bytes own own.file else failed ENOENT old.files)
+    (ap (λ (s : SceneSeen). is_there s (node_of own)) (sym mounted.scene) ∙ ap (λ (o : Owner). is_there old.scene (nodes.File o own.file)) is.owner
+    ∙ ap (λ (f : File). is_there old.scene (nodes.File target.owner f)) is.file_is ∙ there)
+
+pub writes-other : (past : List Request) (old new : MountSeen) (lock_owner pid : ℕ) (bytes : List ℕ) (own : OpenSeen) (target : Target) (reply : Reply)
+    → HasLedTo past old → Some own ≡ file_at target.handle old.files → IsTarget own target
+    → is_there old.scene (nodes.File target.owner target.file) ≡ true → ((event : ℕ) → target.file ≢ files.Inject event)
+    → IsStep past old new (write_other (terms_of old) (service_of past old) target.handle own bytes (kind_of_file target.file)) (Some reply)
+    → IsStep past old new (write_file (terms_of old) (service_of past old) target.handle lock_owner pid bytes (file_at target.handle old.files)) (Some reply)
+writes-other past old new lock_owner pid bytes own target reply mounted found is there other step =
+    let not_inject : (event : ℕ) → own.file ≢ files.Inject event = λ event same. other event (sym is.file_is ∙ same) in
+    let same : write_other (terms_of old) (service_of past old) target.handle own bytes (kind_of_file target.file)
+    ≡ write_file (terms_of old) (service_of past old) target.handle lock_owner pid bytes (file_at target.handle old.files) =
+    ap (λ (f : File). write_other (terms_of old) (service_of past old) target.handle own bytes (kind_of_file f)) (sym is.file_is)
+    ∙ sym (other-kind (terms_of old) (service_of past old) target.handle lock_owner pid bytes own own.file not_inject)
+    ∙ sym (written-there past old target.handle lock_owner pid bytes own target mounted found is there) in
+    subst (λ (s : Step). IsStep past old new s (Some reply)) same step
+
+pub writes-inject : (past : List Request) (old new : MountSeen) (lock_owner pid event : ℕ) (bytes : List ℕ) (own : OpenSeen) (target : Target) (reply : Reply)
+    → HasLedTo past old → Some own ≡ file_at target.handle old.files → IsTarget own target
+    → is_there old.scene (nodes.File target.owner target.file) ≡ true → target.file ≡ files.Inject event
+    → IsStep past old new (inject (terms_of old) (service_of past old) target.handle lock_owner pid bytes own (slice_get (declared_events past) event)) (Some reply)
+    → IsStep past old new (write_file (terms_of old) (service_of past old) target.handle lock_owner pid bytes (file_at target.handle old.files)) (Some reply)
+writes-inject past old new lock_owner pid event bytes own target reply mounted found is there injects step =
+    let same : inject (terms_of old) (service_of past old) target.handle lock_owner pid bytes own (slice_get (declared_events past) event)
+    ≡ write_file (terms_of old) (service_of past old) target.handle lock_owner pid bytes (file_at target.handle old.files) =
+    ap (λ (f : File). write_kind (terms_of old) (service_of past old) target.handle lock_owner pid bytes own f) (sym injects ∙ sym is.file_is)
+    ∙ sym (written-there past old target.handle lock_owner pid bytes own target mounted found is there) in
+    subst (λ (s : Step). IsStep past old new s (Some reply)) same step
+
+pub writes-missing : (past : List Request) (old : MountSeen) (lock_owner pid : ℕ) (bytes : List ℕ) (own : OpenSeen) (target : Target)
+    → HasLedTo past old → Some own ≡ file_at target.handle old.files → IsTarget own target
+    → is_there old.scene (nodes.File target.owner target.file) ≡ false
+    → IsStep past old old (write_file (terms_of old) (service_of past old) target.handle lock_owner pid bytes (file_at target.handle old.files)) (Some (replies.Error ENOENT))
+writes-missing past old lock_owner pid bytes own target mounted found is none =
+    let same : failed ENOENT old.files
+    ≡ write_file (terms_of old) (service_of past old) target.handle lock_owner pid bytes (file_at target.handle old.files) =
+    sym (ap (λ (o : Option OpenSeen). write_file (terms_of old) (service_of past old) target.handle lock_owner pid bytes o) (sym found)
+    ∙ ap (λ (t : Bool). if t then write_kind (terms_of old) (service_of past old) target.handle lock_owner pid bytes own own.file else failed ENOENT old.files)
+    (ap (λ (s : SceneSeen). is_there s (node_of own)) (sym mounted.scene) ∙ ap (λ (o : Owner). is_there old.scene (nodes.File o own.file)) is.owner
+    ∙ ap (λ (f : File). is_there old.scene (nodes.File target.owner f)) is.file_is ∙ none)) in
+    subst (λ (s : Step). IsStep past old old s (Some (replies.Error ENOENT))) same (plain-step past old (replies.Error ENOENT) old.files old.files mounted refl)

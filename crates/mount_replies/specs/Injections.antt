@@ -1,8 +1,7 @@
 -- What is written to `inject`: a line an event, each with the pairs of an emission's line in a script; a field that is left out is 0 or empty.
-use Rattle.std.specs.Prelude.{ℕ, pos, ◌+◌, ◌==◌, min, List, [], ◌∷◌, ◌++◌, length, Option, Some, None, Result, Ok, codes, if◌then◌else◌}
-use Rattle.std.specs.List.{before_first, list_all, list_any}
+use Rattle.std.specs.Prelude.{ℕ, pos, List, [], ◌∷◌, ◌++◌, Option, Some, None, Result, Ok, codes, if◌then◌else◌}
+use Rattle.std.specs.List.{list_any}
 use Rattle.std.specs.Str.{bytes_eq}
-use Rattle.trace_lex.specs.Blanks.{is_blank}
 use Rattle.trace_format.specs.Definitions.{Definition}
 use Rattle.trace_format.specs.Kinds.{is_text_kind}
 use Rattle.trace_format.specs.declared.event.Field.{Field}
@@ -14,21 +13,14 @@ use Rattle.trace_script.specs.declared.fault.ScriptFault.{ScriptFault}
 use Rattle.trace_script.specs.declared.line.Line.{Line}
 use Rattle.trace_script.specs.declared.line.Line.TheVariants.{Ask}
 
--- what comes before the first newline, and how many bytes that is with the newline, if there is one
-abbrev pub first_line : List ℕ → List ℕ
-first_line bytes = before_first (λ byte. byte == 10) bytes
-
-abbrev pub line_size : List ℕ → ℕ
-line_size bytes = min (length bytes) (length (first_line bytes) + 1)
-
 -- the pairs of a line that asks for an emission
 abbrev pub pairs_asked : Result Line ScriptFault → Option (List Pair)
 pairs_asked (Ok (Ask (Emit event cpu pid pairs))) = Some pairs
 pairs_asked _ = None
 
--- the pairs of a line, written as after `emit 0 0 e ` in a script; of a blank line none
+-- the pairs of a line that is not blank, written as after `emit 0 0 e ` in a script
 unfoldable pub pairs_of_line : List ℕ → Option (List Pair)
-pairs_of_line line = if list_all is_blank line then Some [] else pairs_asked (line_of (codes "emit 0 0 e " ++ line))
+pairs_of_line line = pairs_asked (line_of (codes "emit 0 0 e " ++ line))
 
 -- a field that is left out is 0, or empty
 abbrev pub default_pair : Field → Pair

@@ -3,6 +3,10 @@ pub mod Errnos
 pub mod Told
 pub mod Injections
 pub mod Pipes
+pub mod Steps
+pub mod Sizes
+pub mod Lines
+pub mod FileWrites
 pub mod Served
 pub mod Owed
 pub mod Mounted

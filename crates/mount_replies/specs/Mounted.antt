@@ -11,6 +11,7 @@ use Rattle.trace_command.specs.Refusals.{OrMemory}
 use Rattle.trace_command.specs.Requests.{Request}
 use Rattle.trace_command.specs.declared.command.Reply.{Reply as Answer}
 use Rattle.trace_command.specs.declared.refusal.Refusal.{Refusal}
+use Rattle.trace_command.specs.declared.refusal.Refusal.TheVariants.{Memory}
 use Rattle.tracer_specification.specs.Settings.{declares, made, removed}
 use Rattle.tracer_without_history.specs.LiveSeen.{LiveSeen}
 use Rattle.tracer_without_history.specs.Lives.{IsLive, live_answer}
@@ -20,10 +21,13 @@ use Rattle.mount_tree.specs.Scenes.{SceneSeen}
 use Rattle.mount_tree.specs.ScenesAfter.{scene_after}
 use Rattle.mount_tree.specs.declared.node.Node.{Node}
 use Rattle.mount_replies.specs.Owed.{Owed, ReplyAt, WakeupAt, owed, step_of_parked}
-use Rattle.mount_replies.specs.Served.{Noting, Forgets, Outcome, Step, Plain, Takes, Asks, AsksNoting, Clears, Parks, Interrupts, errors_after, step_of}
-use Rattle.mount_replies.specs.Services.{OpenSeen, Service, Terms, wakeup_at, with_interrupted, with_read, with_wakeup, without_read}
+use Rattle.mount_replies.specs.Served.{step_of}
+use Rattle.mount_replies.specs.Services.{OpenSeen, Service, Terms, most_data, wakeup_at, with_count, with_interrupted, with_read, without_read, without_wakeup}
+use Rattle.mount_replies.specs.Steps.{Asking, Asks, AsksFor, AsksLines, AsksNothing, AsksNoting, Counts, Interrupts, IsTooLong, IsWrongLine, LineAsked, Noting, Outcome, Parks, Plain, Ran, Step, Takes, Tells, errors_after}
 use Rattle.mount_replies.specs.declared.parked.Parked.{Parked}
-use Rattle.mount_replies.specs.Told.{most_data}
+use Rattle.mount_replies.specs.declared.counted.Counted.{Counted}
+use Rattle.mount_replies.specs.declared.fault.LineFault.{LineFault}
+use Rattle.mount_replies.specs.declared.fault.LineFault.TheVariants.{NoCommand, Refused, TooLong}
 
 -- ---- a mounted tracer
 
@@ -34,16 +38,19 @@ pub record MountSeen : Type 0 where
   pub files : List (Option OpenSeen)
   pub parked : List Parked
   pub errors : List ErrorSeen
+  pub counted : List Counted
   pub owes : Bool
   pub uid : ℕ
   pub gid : ℕ
+  pub mode : ℕ
 
 abbrev pub terms_of : MountSeen → Terms
-terms_of mount = record { config = mount.live.config; uid = mount.uid; gid = mount.gid }
+terms_of mount = record { config = mount.live.config; uid = mount.uid; gid = mount.gid; mode = mount.mode }
 
 -- what it is after these requests
 abbrev pub service_of : List Request → MountSeen → Service
-service_of past mount = record { past = past; files = mount.files; parked = mount.parked; errors = mount.errors }
+service_of past mount =
+    record { past = past; files = mount.files; parked = mount.parked; errors = mount.errors; counted = mount.counted }
 
 -- these requests led to the tracer, and its folders and files are those that they say
 pub record HasLedTo (past : List Request) (mount : MountSeen) : Type 0 where
@@ -73,6 +80,48 @@ after_outcome past outcome before = record before { past = past; files = outcome
 abbrev pub after_noting : List Request → Outcome → Noting → Service → Service
 after_noting past outcome noting before = record before { past = past; files = outcome.files; errors = errors_after noting before.errors }
 
+abbrev pub after_count : Counted → Outcome → Service → Service
+after_count count outcome before = record before { files = outcome.files; counted = with_count count before.counted }
+
+-- ---- lines one after another
+
+-- they came so far
+abbrev pub all_done : List Request → ℕ → Ran
+all_done past done = record { past = past; done = done; refused = None }
+
+abbrev pub stopped_at : List Request → ℕ → List ℕ → LineFault → Ran
+stopped_at past done text fault = record { past = past; done = done; refused = Some (record { text = text; fault = fault }) }
+
+-- a line that is no command isn't done, or memory was refused before that was seen
+abbrev pub StopsAt : List Request → ℕ → List ℕ → LineFault → Ran → Type 0
+StopsAt past done text fault ran =
+    (ran ≡ stopped_at past done text fault) ⊎ (ran ≡ stopped_at past done text (Refused Memory))
+
+-- the answer to a line's command, after which the others are done, or none is
+abbrev pub GoesOnIf : List Request → ℕ → List ℕ → Request → (List Request → Type 0) → Ran → Result Answer Refusal → Type 0
+GoesOnIf past done text request more ran (Ok answer) = more (request ∷ past)
+GoesOnIf past done text request more ran (Err refusal) = ran ≡ stopped_at past done text (Refused refusal)
+
+-- what is asked for a line was asked after these requests, and `more` says what comes of the lines after it
+abbrev pub IsLineRun : Terms → List Request → ℕ → List ℕ → (List Request → Type 0) → Ran → Asking → Type 0
+IsLineRun g past done text more ran AsksNothing = more past
+IsLineRun g past done text more ran IsWrongLine = StopsAt past done text NoCommand ran
+IsLineRun g past done text more ran IsTooLong = StopsAt past done text TooLong ran
+IsLineRun g past done text more ran (AsksFor request) =
+    (answer : Result Answer Refusal) × IsAnswered g past request answer × GoesOnIf past done text request more ran answer
+
+-- these lines were done after these requests, and so many bytes before them, until one was refused
+abbrev pub IsRun : Terms → List Request → ℕ → List LineAsked → Ran → Type 0
+IsRun g past done [] ran = ran ≡ all_done past done
+IsRun g past done (line ∷ lines) ran =
+    IsLineRun g past done line.text (λ (now : List Request). IsRun g now line.end lines ran) ran line.asking
+
+-- or memory was refused before the first
+abbrev pub MayRun : Terms → List Request → List LineAsked → Ran → Type 0
+MayRun g past lines ran = IsRun g past 0 lines ran ⊎ (ran ≡ stopped_at past 0 [] (Refused Memory))
+
+-- ---- steps
+
 -- with this reply, if any, a step led from a service to another. Where memory is refused, ENOMEM is replied, and nothing has changed.
 abbrev pub Does : Terms → Service → Step → Option Reply → Service → Type 0
 Does g before (Plain outcome) reply after =
@@ -89,9 +138,14 @@ Does g before (Interrupts unique) reply after = (reply ≡ None) × (after ≡ w
 Does g before (AsksNoting request outcome noting) reply after =
     (answer : Result Answer Refusal) × IsAnswered g before.past request answer × (reply ≡ (outcome answer).reply)
     × (after ≡ after_noting (past_after answer request before.past) (outcome answer) (noting answer) before)
-Does g before (Clears owner takes outcome) reply after =
-    ((reply ≡ outcome.reply) × (after ≡ after_noting before.past outcome (Forgets owner) before))
+Does g before (Tells noting takes outcome) reply after =
+    ((reply ≡ outcome.reply) × (after ≡ after_noting before.past outcome noting before))
     ⊎ ((takes ≡ true) × (reply ≡ Some (replies.Error ENOMEM)) × (after ≡ before))
+Does g before (AsksLines lines outcome noting) reply after =
+    (ran : Ran) × MayRun g before.past lines ran × (reply ≡ (outcome ran).reply)
+    × (after ≡ after_noting ran.past (outcome ran) (noting ran) before)
+Does g before (Counts count outcome) reply after =
+    ((reply ≡ outcome.reply) × (after ≡ after_count count outcome before)) ⊎ ((reply ≡ Some (replies.Error ENOMEM)) × (after ≡ before))
 
 -- the node of a number, if it is one's
 abbrev pub IsNamed : ℕ → Option Node → Type 0
@@ -140,7 +194,7 @@ pub record IsWoken (before : Service) (handle : ℕ) (bytes : List ℕ) (after :
   pub wakeup : ℕ
   pub is : wakeup_at handle before.files ≡ Some wakeup
   pub told : bytes ≡ wakeup_bytes wakeup
-  pub now : after ≡ record before { files = with_wakeup None handle before.files }
+  pub now : after ≡ record before { files = without_wakeup handle before.files }
 
 -- what is owed was told
 abbrev pub TellsOwed : Terms → Service → Option Owed → List ℕ → Service → Type 0
@@ -192,6 +246,7 @@ pub record IsAsked (past : List Request) (old new : MountSeen) (request : Reques
   pub files : new.files ≡ old.files
   pub parked : new.parked ≡ old.parked
   pub errors : new.errors ≡ old.errors
+  pub counted : new.counted ≡ old.counted
 
 -- the parked read at this index got its reply
 pub record IsReplying (past : List Request) (old new : MountSeen) (index : ℕ) (bytes : List ℕ) : Type 0 where

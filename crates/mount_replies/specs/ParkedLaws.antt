@@ -1,29 +1,32 @@
 -- Reads that wait, as theorems that speak of no program.
 use Rattle.std.specs.Prelude.{◌≡◌, ◌⊎◌, ℕ, ◌+◌, ◌<◌, ◌==◌, Bool, false, true, is_some, List, [], ◌∷◌, ◌++◌, map, Option, Some, None, unwrap_or, Ok, Err, if◌then◌else◌}
 use Rattle.std.specs.List.{slice_get}
-use Rattle.fuse_wire.specs.declared.errno.Errno.TheVariants.{EINTR, EBADF}
+use Rattle.fuse_wire.specs.declared.errno.Errno.TheVariants.{EINTR, EAGAIN, EBADF}
 use Rattle.fuse_wire.specs.declared.reply.Reply.{Reply}
 use Rattle.fuse_wire.specs.declared.reply.Reply.TheVariants as replies
 use Rattle.fuse_wire.specs.declared.request.Operation.{Operation}
 use Rattle.fuse_wire.specs.declared.request.Operation.TheVariants as operations
+use Rattle.fuse_wire.specs.declared.request.Request.{Request as Asked}
 use Rattle.trace_command.specs.Requests.{Request}
 use Rattle.tracer_specification.specs.Waiting.{waiting}
 use Rattle.mount_tree.specs.Children.{is_there}
 use Rattle.mount_tree.specs.FileKinds.{kind_of_file}
 use Rattle.mount_tree.specs.NodePaths.{file_meant, owner_name}
 use Rattle.mount_tree.specs.declared.file.FileKind.TheVariants as kinds
-use Rattle.mount_replies.specs.Mounted.{AreServed, Right, Wrong, Unframed, Does, IsExchanged, IsReplied, Serves, TellsOwed}
+use Rattle.mount_replies.specs.Mounted.{AreServed, Does, IsExchanged, IsReplied, IsServed, Right, Serves, TellsOwed, Unframed, Wrong}
 use Rattle.mount_replies.specs.Owed.{Owed, ReplyAt, WakeupAt, is_due, owed, step_of_parked}
-use Rattle.mount_replies.specs.Pipes.{ends, is_used_up, would_wait}
-use Rattle.mount_replies.specs.Served.{Asks, AsksNoting, Clears, Interrupts, Parks, Plain, Step, Takes, given_records, step_of, text_in}
-use Rattle.mount_replies.specs.Services.{OpenSeen, Service, Terms, file_at, node_of, scene_of, text_at, without_read}
+use Rattle.mount_replies.specs.Pipes.{ends, is_dry, is_used_up}
+use Rattle.mount_replies.specs.Served.{given_records, step_of}
+use Rattle.mount_replies.specs.Services.{OpenSeen, Service, Terms, file_at, node_of, scene_of, text_at, with_dry_read, without_read}
+use Rattle.mount_replies.specs.Sizes.{text_in}
+use Rattle.mount_replies.specs.Steps.{Asks, AsksLines, AsksNoting, Counts, Interrupts, Parks, Plain, Step, Takes, Tells}
 use Rattle.mount_replies.specs.declared.parked.Parked.{Parked}
 
 -- ---- each read is answered once
 
 -- the number of a READ
 abbrev pub read_number : ℕ → Operation → List ℕ
-read_number unique (operations.Read handle offset size flags) = unique ∷ []
+read_number unique (operations.Read handle offset size read_flags flags) = unique ∷ []
 read_number unique _ = []
 
 -- of one that is asked
@@ -100,7 +103,9 @@ taken_by g before (Parks read) reply after does = []
 taken_by g before (Interrupts unique) reply after does = []
 taken_by g before (AsksNoting request outcome noting) reply after (Ok answer, answered, told, same) = text_in answer
 taken_by g before (AsksNoting request outcome noting) reply after (Err refusal, answered, told, same) = []
-taken_by g before (Clears owner takes outcome) reply after does = []
+taken_by g before (Tells noting takes outcome) reply after does = []
+taken_by g before (AsksLines lines outcome noting) reply after does = []
+taken_by g before (Counts count outcome) reply after does = []
 
 -- what a reply gives
 abbrev pub given_by : Option Reply → List ℕ
@@ -108,7 +113,7 @@ given_by (Some (replies.Data bytes)) = bytes
 given_by _ = []
 
 abbrev pub is_read_of : ℕ → Operation → Bool
-is_read_of handle (operations.Read other offset size flags) = other == handle
+is_read_of handle (operations.Read other offset size read_flags flags) = other == handle
 is_read_of handle _ = false
 
 -- what a request took for a handle: nothing, if it is no READ of it
@@ -168,11 +173,11 @@ InterruptingAsksNothing =
     (g : Terms) (before after : Service) (unique : ℕ) (reply : Option Reply) → Does g before (Interrupts unique) reply after
     → (after.past ≡ before.past) × (after.files ≡ before.files)
 
--- one that was interrupted gets EINTR, and takes nothing
+-- one that was interrupted gets EINTR, and takes nothing; its poll, if it has one, is to be told again
 abbrev pub InterruptedReadsTakeNothing : Type 0
 InterruptedReadsTakeNothing =
     (g : Terms) (before after : Service) (index : ℕ) (bytes : List ℕ) (told : IsReplied g before index bytes after) → told.read.interrupted ≡ true
-    → (told.reply ≡ replies.Error EINTR) × (after ≡ without_read index before)
+    → (told.reply ≡ replies.Error EINTR) × (after ≡ record (without_read index before) { files = with_dry_read false told.read.handle before.files })
 
 -- one whose file was closed gets EBADF, and takes nothing
 abbrev pub ClosedReadsTakeNothing : Type 0
@@ -210,16 +215,41 @@ abbrev pub NoReadWaitsForWhatIsThere : Type 0
 NoReadWaitsForWhatIsThere =
     (g : Terms) (s : Service) (index : ℕ) (read : Parked) → owed g s ≡ None → slice_get s.parked index ≡ Some read → WaitsForRecords g s read
 
--- and no poll that is to be told: its file is not ready
+-- and no poll that is to be told: nothing is kept for its file's reads, no record waits, and the pipe doesn't end, or its reader was told already that it does
 abbrev pub NoPollWaitsForWhatIsThere : Type 0
 NoPollWaitsForWhatIsThere =
-    (g : Terms) (s : Service) (handle wakeup : ℕ) (file : OpenSeen) → owed g s ≡ None → file_at handle s.files ≡ Some file → file.wakeup ≡ Some wakeup
-    → would_wait g s file ≡ true
+    (g : Terms) (s : Service) (handle wakeup : ℕ) (file : OpenSeen) → owed g s ≡ None → file_at handle s.files ≡ Some file
+    → file.polls.wakeup ≡ Some wakeup
+    → (is_used_up file ≡ true) × (is_dry g s file.owner file.file ≡ true) × ((ends g s file ≡ false) ⊎ (file.polls.told_end ≡ true))
 
 -- and so it is whenever a request is answered
 abbrev pub NothingIsOwedToRequests : Type 0
 NothingIsOwedToRequests =
     (g : Terms) (before after : Service) (byte : ℕ) (asked bytes : List ℕ) → IsExchanged g before (byte ∷ asked) bytes after → owed g before ≡ None
+
+-- ---- polls are told again
+
+-- a read was told something: data, its end, or to come again
+abbrev pub IsTold : Option Reply → Type 0
+IsTold None = ⊥
+IsTold (Some (replies.Data bytes)) = Unit {0}
+IsTold (Some (replies.Error EAGAIN)) = Unit {0}
+IsTold _ = ⊥
+
+-- After a READ of a pipe that a poll asked to be told of, what is left, or else what comes, is told again: no edge is lost.
+abbrev pub ReadsArmPolls : Type 0
+ReadsArmPolls =
+    (g : Terms) (before after : Service) (request : Asked) (bytes : List ℕ) (handle offset size read_flags flags : ℕ) (old new : OpenSeen) (number : ℕ)
+    → (served : IsServed g before request bytes after) → request.operation ≡ operations.Read handle offset size read_flags flags
+    → file_at handle before.files ≡ Some old → kind_of_file old.file ≡ kinds.Pipe → old.polls.asked ≡ Some number
+    → file_at handle after.files ≡ Some new → IsTold served.reply → new.polls.wakeup ≡ Some number
+
+-- and so it is after one that was parked, once it gets its reply
+abbrev pub ParkedReadsArmPolls : Type 0
+ParkedReadsArmPolls =
+    (g : Terms) (before after : Service) (index : ℕ) (bytes : List ℕ) (old new : OpenSeen) (number : ℕ) (told : IsReplied g before index bytes after)
+    → file_at told.read.handle before.files ≡ Some old → kind_of_file old.file ≡ kinds.Pipe → old.polls.asked ≡ Some number
+    → file_at told.read.handle after.files ≡ Some new → IsTold (Some told.reply) → new.polls.wakeup ≡ Some number
 
 -- ---- the one that waits longest is answered first
 

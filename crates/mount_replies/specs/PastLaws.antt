@@ -1,8 +1,9 @@
 -- What a mounted tracer did, whatever it served, and what reads of its files show of that. Theorems that speak of no program.
 use Rattle.std.specs.Prelude.{◌≡◌, ◌⊎◌, ℕ, ◌==◌, ◌≤◌, Bool, true, false, not, List, [], ◌∷◌, length, Option, Some, None, Err}
+use Rattle.std.specs.List.{All}
 use Rattle.fuse_wire.specs.Replies.{reply_bytes}
 use Rattle.fuse_wire.specs.declared.errno.Errno.{Errno}
-use Rattle.fuse_wire.specs.declared.errno.Errno.TheVariants.{ENOMEM}
+use Rattle.fuse_wire.specs.declared.errno.Errno.TheVariants.{ENOENT, ENOMEM}
 use Rattle.fuse_wire.specs.declared.reply.Reply.TheVariants as replies
 use Rattle.fuse_wire.specs.declared.request.Operation.TheVariants as operations
 use Rattle.fuse_wire.specs.declared.request.Request.{Request as Asked}
@@ -14,25 +15,34 @@ use Rattle.trace_command.specs.declared.refusal.Refusal.{Refusal}
 use Rattle.tracer_specification.specs.FileTexts.{cpu_stats_text}
 use Rattle.tracer_specification.specs.History.{text_of}
 use Rattle.tracer_specification.specs.Pasts.{AreDone}
-use Rattle.tracer_specification.specs.Settings.{now_of}
 use Rattle.tracer_without_history.specs.Lives.{live_answer, most_done}
-use Rattle.error_log.specs.Errors.{begun}
-use Rattle.mount_tree.specs.Children.{is_there}
+use Rattle.error_log.specs.Errors.{ErrorSeen}
+use Rattle.mount_tree.specs.Children.{is_there, owner_is_there}
 use Rattle.mount_tree.specs.FileKinds.{kind_of_file}
 use Rattle.mount_tree.specs.NodePaths.{file_meant, owner_name, path_of}
+use Rattle.mount_tree.specs.declared.file.File.{File}
 use Rattle.mount_tree.specs.declared.file.File.TheVariants as files
+use Rattle.mount_tree.specs.declared.node.Node.{Node}
+use Rattle.mount_tree.specs.declared.node.Node.TheVariants as nodes
+use Rattle.mount_tree.specs.declared.node.Owner.{Owner}
 use Rattle.mount_tree.specs.declared.file.FileKind.{FileKind}
 use Rattle.mount_tree.specs.declared.file.FileKind.TheVariants as kinds
 use Rattle.mount_replies.specs.Errnos.{errno_of}
-use Rattle.mount_replies.specs.Mounted.{IsAnswered, IsServed, Serves}
-use Rattle.mount_replies.specs.Served.{Noting, errors_after, noted_refusal, part_of, without_newline}
-use Rattle.mount_replies.specs.Services.{OpenSeen, Service, Terms, file_at, node_of, scene_of, text_at, with_text, with_write}
+use Rattle.mount_replies.specs.FileWrites.{begun_now}
+use Rattle.mount_replies.specs.Lines.{command_text, lines_of, noted_command, noted_if_first, written}
+use Rattle.mount_replies.specs.Mounted.{IsNamed, IsServed, MayRun, Serves, bytes_of_reply}
+use Rattle.mount_replies.specs.Served.{is_cached, part_of, with_going_on}
+use Rattle.mount_replies.specs.Services.{OpenSeen, Service, Terms, file_at, is_read_out, node_of, scene_of, text_at, with_reading}
+use Rattle.mount_replies.specs.Sizes.{Telling, text_now}
+use Rattle.mount_replies.specs.Steps.{Asking, AsksFor, LineAsked, Noting, Ran, errors_after}
+use Rattle.mount_replies.specs.Told.{attributes_of, found_in, sets_size}
+use Rattle.mount_replies.specs.declared.fault.LineFault.{LineFault}
 
 -- ---- what was served was done
 
--- a tracer that was just mounted: no command was done, no file is open, no read waits, and no write was refused
+-- a tracer that was just mounted: no command was done, no file is open, no read waits, no write was refused, and no text was counted
 abbrev pub just_mounted : Service
-just_mounted = record { past = []; files = []; parked = []; errors = [] }
+just_mounted = record { past = []; files = []; parked = []; errors = []; counted = [] }
 
 -- each of these commands was done after those before it, and they are no more than a tracer does that keeps no history
 pub record WasDone (g : Terms) (past : List Request) : Type 0 where
@@ -74,11 +84,11 @@ pub record IsRefused (g : Terms) (before : Service) (command : Request) (unique 
   pub told : bytes ≡ reply_bytes unique (replies.Error errno)
   pub now : after ≡ before
 
--- a read was this one command, and gives the beginning of this text, which the open file keeps; nothing else has changed
+-- a read was this one command, and gives the beginning of this text, which the open file keeps unless that is all of it; nothing else has changed
 pub record GivesText (before : Service) (command : Request) (unique handle size : ℕ) (text bytes : List ℕ) (after : Service) : Type 0 where
   pub told : bytes ≡ reply_bytes unique (replies.Data (part_of 0 size text))
-  pub now : after ≡ record before { past = command ∷ before.past; files = with_text text handle before.files }
-  pub kept : text_at handle after.files ≡ Some text
+  pub now : after ≡ record before { past = command ∷ before.past; files = with_reading 0 size text handle before.files }
+  pub kept : is_read_out 0 size text ≡ false → text_at handle after.files ≡ Some text
 
 -- or it was refused
 pub data ReadsAnew (g : Terms) (before : Service) (command : Request) (unique handle size : ℕ) (text bytes : List ℕ) (after : Service) : Type 0 where
@@ -88,9 +98,9 @@ pub data ReadsAnew (g : Terms) (before : Service) (command : Request) (unique ha
 -- A READ at offset 0, whatever was served before it: the text is what the file shows after the commands that were done by then.
 abbrev pub ReadsShowThePast : Type 0
 ReadsShowThePast =
-    (g : Terms) (requests messages : List (List ℕ)) (before after : Service) (request : Asked) (bytes : List ℕ) (handle size flags : ℕ) (file : OpenSeen) (meant : paths.File)
+    (g : Terms) (requests messages : List (List ℕ)) (before after : Service) (request : Asked) (bytes : List ℕ) (handle size read_flags flags : ℕ) (file : OpenSeen) (meant : paths.File)
     → IsInRange g.config → Serves g just_mounted requests messages before → IsServed g before request bytes after
-    → request.operation ≡ operations.Read handle 0 size flags → file_at handle before.files ≡ Some file → is_text (kind_of_file file.file) ≡ true
+    → request.operation ≡ operations.Read handle 0 size read_flags flags → is_cached read_flags ≡ false → file_at handle before.files ≡ Some file → is_text (kind_of_file file.file) ≡ true
     → is_there (scene_of g before) (node_of file) ≡ true → file_meant (scene_of g before) file.file ≡ Some meant
     → ReadsAnew g before (read_whole (instance_of g before file) meant) request.unique handle size (text_of g.config (instance_of g before file) before.past meant) bytes
     after
@@ -99,20 +109,31 @@ ReadsShowThePast =
 -- keeps, what it overwrote, dropped and gave, and the clock.
 abbrev pub StatsShowThePast : Type 0
 StatsShowThePast =
-    (g : Terms) (requests messages : List (List ℕ)) (before after : Service) (request : Asked) (bytes : List ℕ) (handle size flags cpu : ℕ) (file : OpenSeen)
+    (g : Terms) (requests messages : List (List ℕ)) (before after : Service) (request : Asked) (bytes : List ℕ) (handle size read_flags flags cpu : ℕ) (file : OpenSeen)
     → IsInRange g.config → Serves g just_mounted requests messages before → IsServed g before request bytes after
-    → request.operation ≡ operations.Read handle 0 size flags → file_at handle before.files ≡ Some file → file.file ≡ files.OfCpu cpu per_cpu.Stats
+    → request.operation ≡ operations.Read handle 0 size read_flags flags → is_cached read_flags ≡ false → file_at handle before.files ≡ Some file → file.file ≡ files.OfCpu cpu per_cpu.Stats
     → is_there (scene_of g before) (node_of file) ≡ true
     → ReadsAnew g before (read_whole (instance_of g before file) (paths.OfCpu cpu per_cpu.Stats)) request.unique handle size
     (cpu_stats_text g.config (instance_of g before file) before.past cpu) bytes after
 
--- a READ at a later offset goes on in the text that the open file keeps, and changes nothing
+-- a READ at a later offset goes on in the text that the open file keeps, and changes nothing but that this is given back at its end
 abbrev pub LaterReadsGoOn : Type 0
 LaterReadsGoOn =
-    (g : Terms) (before after : Service) (request : Asked) (bytes : List ℕ) (handle offset size flags : ℕ) (file : OpenSeen) (text : List ℕ)
-    → IsServed g before request bytes after → request.operation ≡ operations.Read handle offset size flags → (offset == 0) ≡ false
-    → file_at handle before.files ≡ Some file → is_text (kind_of_file file.file) ≡ true → file.text ≡ Some text
-    → (bytes ≡ reply_bytes request.unique (replies.Data (part_of offset size text))) × (after ≡ before)
+    (g : Terms) (before after : Service) (request : Asked) (bytes : List ℕ) (handle offset size read_flags flags : ℕ) (file : OpenSeen) (text : List ℕ)
+    → IsServed g before request bytes after → request.operation ≡ operations.Read handle offset size read_flags flags → is_cached read_flags ≡ false
+    → (offset == 0) ≡ false → file_at handle before.files ≡ Some file → is_text (kind_of_file file.file) ≡ true → file.text ≡ Some text
+    → is_there (scene_of g before) (node_of file) ≡ true
+    → (bytes ≡ reply_bytes request.unique (replies.Data (part_of offset size text)))
+    × (after ≡ record before { files = with_going_on offset size (Some text) handle before.files })
+
+-- and one at the end of a text that was read to its end, or beyond, gives nothing, and changes nothing
+abbrev pub ReadsEndWithTheText : Type 0
+ReadsEndWithTheText =
+    (g : Terms) (before after : Service) (request : Asked) (bytes : List ℕ) (handle offset size read_flags flags end : ℕ) (file : OpenSeen)
+    → IsServed g before request bytes after → request.operation ≡ operations.Read handle offset size read_flags flags → is_cached read_flags ≡ false
+    → (offset == 0) ≡ false → file_at handle before.files ≡ Some file → is_text (kind_of_file file.file) ≡ true → file.text ≡ None
+    → file.ended ≡ Some end → end ≤ offset → is_there (scene_of g before) (node_of file) ≡ true
+    → (bytes ≡ reply_bytes request.unique (replies.Data [])) × (after ≡ before)
 
 -- ---- writes
 
@@ -123,35 +144,85 @@ is_file kinds.Trace = true
 is_file kinds.Pipe = true
 is_file _ = false
 
--- what becomes of the errors where a write of this text was refused
-abbrev pub noted_by : Terms → Service → OpenSeen → List ℕ → Refusal → Noting
-noted_by g s file text refusal =
-    noted_refusal (begun file.owner (now_of s.past) (path_of (scene_of g s) (node_of file)) text) (path_of (scene_of g s) (node_of file)) text refusal
+-- the command that a line of text is which is written to a file that one opened
+abbrev pub line_written : Option (List ℕ) → paths.File → File → Bool → List ℕ → Asking
+line_written instance meant file append line = AsksFor (write_once instance meant append (command_text file line))
 
--- a write was this one command, and all of it was written; of the open files only this one has changed, which was written to
-pub record IsWrittenOnce (before : Service) (command : Request) (unique handle size : ℕ) (bytes : List ℕ) (after : Service) : Type 0 where
-  pub told : bytes ≡ reply_bytes unique (replies.Written size)
-  pub now : after ≡ record before { past = command ∷ before.past; files = with_write handle before.files }
+-- what is noted of a line that was refused
+abbrev pub noted_by : Terms → Service → OpenSeen → List ℕ → LineFault → Noting
+noted_by g s file text fault = noted_command (begun_now g s file) (path_of (scene_of g s) (node_of file)) file.file text fault
 
--- or it was refused, and nothing has changed but that the log of its instance has it, unless there was no memory
-pub record IsNotWritten (g : Terms) (before : Service) (file : OpenSeen) (command : Request) (unique : ℕ) (text bytes : List ℕ) (after : Service) : Type 0 where
-  pub refusal : Refusal
-  pub answered : IsAnswered g before.past command (Err refusal)
-  pub why : IsReason g before.past command (errno_of refusal)
-  pub told : bytes ≡ reply_bytes unique (replies.Error (errno_of refusal))
-  pub now : after ≡ record before { errors = errors_after (noted_by g before file text refusal) before.errors }
+-- A write was these lines, one after another as far as none was refused, and so many bytes were written as these lines had; or the first one was
+-- refused, and nothing has changed but that the log of its instance has it, unless there was no memory.
+pub record WritesLines (g : Terms) (before : Service) (file : OpenSeen) (lines : List LineAsked) (unique handle size : ℕ) (bytes : List ℕ) (after : Service) : Type 0 where
+  pub ran : Ran
+  pub runs : MayRun g before.past lines ran
+  pub told : bytes ≡ bytes_of_reply unique (written handle size before.files ran.done ran.refused).reply
+  pub now : after ≡ record before {
+    past = ran.past;
+    files = (written handle size before.files ran.done ran.refused).files;
+    errors = errors_after (noted_if_first (noted_by g before file) ran.done ran.refused) before.errors;
+  }
 
-pub data WritesOnce (g : Terms) (before : Service) (file : OpenSeen) (command : Request) (unique handle size : ℕ) (text bytes : List ℕ) (after : Service) : Type 0 where
-  IsDone : IsWrittenOnce before command unique handle size bytes after → WritesOnce g before file command unique handle size text bytes after
-  IsNotDone : IsNotWritten g before file command unique text bytes after → WritesOnce g before file command unique handle size text bytes after
-
--- A WRITE, whatever was served before it: a command that writes what came, without a last newline, to that file of that instance: by `>` if the file
--- was opened to be emptied and nothing was written to it yet, else by `>>`.
+-- A WRITE, whatever was served before it: a command that writes what came, without a last newline, to that file of that instance, or of several lines to
+-- the declarations or to a trigger one for each line: by `>` if the file was opened to be emptied and nothing was written to it yet, else by `>>`.
 abbrev pub WritesAreCommands : Type 0
 WritesAreCommands =
-    (g : Terms) (requests messages : List (List ℕ)) (before after : Service) (request : Asked) (bytes : List ℕ) (handle offset : ℕ) (own : List ℕ) (file : OpenSeen) (meant : paths.File)
+    (g : Terms) (requests messages : List (List ℕ)) (before after : Service) (request : Asked) (bytes : List ℕ) (handle offset lock_owner : ℕ) (own : List ℕ) (file : OpenSeen) (meant : paths.File)
     → IsInRange g.config → Serves g just_mounted requests messages before → IsServed g before request bytes after
-    → request.operation ≡ operations.Write handle offset own → file_at handle before.files ≡ Some file → is_file (kind_of_file file.file) ≡ true
+    → request.operation ≡ operations.Write handle offset lock_owner own → file_at handle before.files ≡ Some file → is_file (kind_of_file file.file) ≡ true
     → is_there (scene_of g before) (node_of file) ≡ true → file_meant (scene_of g before) file.file ≡ Some meant
-    → WritesOnce g before file (write_once (instance_of g before file) meant (not file.starts_over) (without_newline own)) request.unique handle (length own)
-    (without_newline own) bytes after
+    → WritesLines g before file (lines_of (line_written (instance_of g before file) meant file.file) file.file (not file.starts_over) own) request.unique handle (length own)
+    bytes after
+
+-- and of an instance that was removed nothing can be read or written, and nothing is noted
+pub record IsMissing (before : Service) (unique : ℕ) (bytes : List ℕ) (after : Service) : Type 0 where
+  pub told : bytes ≡ reply_bytes unique (replies.Error ENOENT)
+  pub now : after ≡ before
+
+abbrev pub RemovedFilesAreMissing : Type 0
+RemovedFilesAreMissing =
+    (g : Terms) (before after : Service) (request : Asked) (bytes : List ℕ) (handle offset size read_flags flags lock_owner : ℕ) (own : List ℕ) (file : OpenSeen)
+    → IsServed g before request bytes after → file_at handle before.files ≡ Some file → is_there (scene_of g before) (node_of file) ≡ false
+    → (request.operation ≡ operations.Read handle offset size read_flags flags → IsMissing before request.unique bytes after)
+    × (request.operation ≡ operations.Write handle offset lock_owner own → IsMissing before request.unique bytes after)
+
+-- ---- errors
+
+-- the instance whose write was refused is there
+abbrev pub IsOfOneThere : Terms → Service → ErrorSeen → Type 0
+IsOfOneThere g s error = owner_is_there (scene_of g s) error.owner ≡ true
+
+-- whatever was served, only of instances that are there errors are kept
+abbrev pub ErrorsAreOfInstances : Type 0
+ErrorsAreOfInstances =
+    (g : Terms) (requests messages : List (List ℕ)) (after : Service) → Serves g just_mounted requests messages after
+    → All (IsOfOneThere g after) after.errors
+
+-- ---- sizes
+
+-- a file that reads show whole, whether commands know it or not
+abbrev pub is_shown : FileKind → Bool
+is_shown kinds.Pipe = false
+is_shown kinds.Inject = false
+is_shown _ = true
+
+-- what is told of a file with a size: its text's length, or that there was no memory
+abbrev pub TellsLength : Terms → Service → Telling → Owner → File → ℕ → List ℕ → Type 0
+TellsLength g s telling owner file unique bytes =
+    (bytes ≡ reply_bytes unique (telling (length (text_now g s owner file)))) ⊎ (bytes ≡ reply_bytes unique (replies.Error ENOMEM))
+
+-- A size that is told of a file, whatever was served, is the length of what it shows then.
+abbrev pub SizesAreLengths : Type 0
+SizesAreLengths =
+    (g : Terms) (requests messages : List (List ℕ)) (before after : Service) (request : Asked) (bytes : List ℕ) (owner : Owner) (file : File)
+    → IsInRange g.config → Serves g just_mounted requests messages before → IsServed g before request bytes after → is_shown (kind_of_file file) ≡ true
+    → is_there (scene_of g before) (nodes.File owner file) ≡ true
+    → (request.operation ≡ operations.GetAttr → IsNamed request.node (Some (nodes.File owner file))
+    → TellsLength g before (λ size. replies.Attributes (attributes_of g (nodes.File owner file) size)) owner file request.unique bytes)
+    × ((valid asked : ℕ) → request.operation ≡ operations.SetAttr valid asked → sets_size valid asked ≡ false
+    → IsNamed request.node (Some (nodes.File owner file))
+    → TellsLength g before (λ size. replies.Attributes (attributes_of g (nodes.File owner file) size)) owner file request.unique bytes)
+    × ((name : List ℕ) (folder : Node) → request.operation ≡ operations.Lookup name → IsNamed request.node (Some folder)
+    → found_in (scene_of g before) name (Some folder) ≡ Some (nodes.File owner file)
+    → TellsLength g before (λ size. replies.Entry (attributes_of g (nodes.File owner file) size)) owner file request.unique bytes)

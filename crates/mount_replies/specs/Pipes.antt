@@ -1,6 +1,6 @@
 -- Whether a read of a pipe waits (ftrace.rst, "The File System": trace_pipe blocks where nothing is to be read; with `tracing_on` 0 it ends, if a read
 -- of the open file gave something before).
-use Rattle.std.specs.Prelude.{◌==◌, Bool, false, not, ◌&&◌, [], length, Option, Some, None, unwrap_or, Result, Ok, Err}
+use Rattle.std.specs.Prelude.{◌==◌, Bool, false, not, ◌&&◌, ◌||◌, [], length, Option, Some, None, unwrap_or, Result, Ok, Err}
 use Rattle.trace_command.specs.declared.refusal.Refusal.{Refusal}
 use Rattle.tracer_specification.specs.Settings.{is_tracing}
 use Rattle.tracer_specification.specs.Waiting.{waiting}
@@ -33,7 +33,12 @@ is_used_up file = length (unwrap_or file.text []) == 0
 abbrev pub would_wait : Terms → Service → OpenSeen → Bool
 would_wait g s file = is_used_up file && is_dry g s file.owner file.file && not (ends g s file)
 
--- one of a handle would
+-- something is there for a poll that is to be told: a read would not wait, and if it would be told the end, the last one was not
+abbrev pub has_news : Terms → Service → OpenSeen → Bool
+has_news g s file =
+    not (is_used_up file && is_dry g s file.owner file.file) || (ends g s file && not file.polls.told_end)
+
+-- a read of a handle would wait
 abbrev pub waits_at : Terms → Service → Option OpenSeen → Bool
 waits_at g s None = false
 waits_at g s (Some file) = would_wait g s file

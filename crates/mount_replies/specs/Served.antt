@@ -1,30 +1,23 @@
 -- What a mounted tracer does at each request of a kernel: it asks the tracer one command, or none, and replies, or lets a read wait. After a command
 -- that was refused all is as before, but what `outcome` says of the open files.
-use Rattle.std.specs.Prelude.{ℕ, ◌+◌, ◌-◌, ◌/◌, ◌%◌, ◌^◌, ◌==◌, Bool, true, false, not, ◌||◌, nat_lt, is_none, List, [], ◌++◌, length, slice_index, take, drop, min, max, Option, Some, None, unwrap_or, Result, Ok, Err, codes, if◌then◌else◌}
-use Rattle.std.specs.List.{slice_get}
-use Rattle.std.specs.Option.{option_map}
-use Rattle.fuse_wire.specs.declared.errno.Errno.{Errno}
+use Rattle.std.specs.Prelude.{ℕ, ◌+◌, ◌/◌, ◌%◌, ◌==◌, Bool, true, false, not, ◌&&◌, ◌||◌, nat_lt, is_none, List, [], ◌++◌, take, drop, min, max, Option, Some, None, unwrap_or, Result, Ok, Err, codes, if◌then◌else◌}
+use Rattle.std.specs.Option.{option_and_then}
 use Rattle.fuse_wire.specs.declared.errno.Errno.TheVariants.{EPERM, ENOENT, EBADF, EAGAIN, EACCES, EISDIR, EINVAL, ENOSPC, ENOSYS}
-use Rattle.fuse_wire.specs.declared.reply.Reply.{Reply}
 use Rattle.fuse_wire.specs.declared.reply.Reply.TheVariants as replies
 use Rattle.fuse_wire.specs.declared.request.Operation.{Operation}
 use Rattle.fuse_wire.specs.declared.request.Operation.TheVariants as operations
-use Rattle.trace_command.specs.Requests.{Request, request_of}
+use Rattle.trace_command.specs.Requests.{request_of}
 use Rattle.trace_command.specs.declared.command.Command.TheVariants as commands
 use Rattle.trace_command.specs.declared.command.Reply.{Reply as Answer}
-use Rattle.trace_command.specs.declared.command.Reply.TheVariants as answers
-use Rattle.trace_command.specs.declared.command.Config.{Config}
 use Rattle.trace_command.specs.declared.file_name.TopFile.TheVariants as top_files
 use Rattle.trace_command.specs.declared.refusal.Refusal.{Refusal}
-use Rattle.trace_command.specs.declared.refusal.Refusal.TheVariants.{Memory}
-use Rattle.refusal_explanations.specs.Writes.{write_offset, write_words}
-use Rattle.trace_format.specs.Definitions.{Definition}
-use Rattle.tracer_specification.specs.Settings.{declared_events, now_of}
-use Rattle.error_log.specs.Errors.{ErrorSeen, begun, refused}
-use Rattle.error_log.specs.Logs.{cleared, log_text, noted}
+use Rattle.tracer_specification.specs.Settings.{now_of}
+use Rattle.error_log.specs.Errors.{begun}
+use Rattle.error_log.specs.Logs.{log_text}
 use Rattle.mount_tree.specs.Children.{is_there}
 use Rattle.mount_tree.specs.FileKinds.{access_of_file, kind_of_file}
 use Rattle.mount_tree.specs.NodePaths.{path_of}
+use Rattle.mount_tree.specs.Nodes.{number_of}
 use Rattle.mount_tree.specs.Scenes.{SceneSeen, most_made}
 use Rattle.mount_tree.specs.declared.file.File.{File}
 use Rattle.mount_tree.specs.declared.file.File.TheVariants as files
@@ -34,116 +27,82 @@ use Rattle.mount_tree.specs.declared.folder.Folder.TheVariants as folders
 use Rattle.mount_tree.specs.declared.node.Node.{Node}
 use Rattle.mount_tree.specs.declared.node.Node.TheVariants as nodes
 use Rattle.mount_tree.specs.declared.node.Owner.TheVariants.{Top, Made}
-use Rattle.mount_tree.specs.declared.node.Owner.{Owner}
 use Rattle.mount_tree.specs.declared.tool.ToolFile.TheVariants as tools
 use Rattle.mount_stub_files.specs.ToolTexts.{tool_text}
-use Rattle.mount_stub_files.specs.ToolWrites.{tool_write}
-use Rattle.mount_stub_files.specs.declared.write.ToolWrite.{ToolWrite}
-use Rattle.mount_stub_files.specs.declared.write.ToolWrite.TheVariants.{Missing, Wrong, Same, Switch}
 use Rattle.mount_replies.specs.Errnos.{errno_of, errno_of_other}
-use Rattle.mount_replies.specs.Injections.{first_line, injection, line_size, pairs_of_line}
+use Rattle.mount_replies.specs.FileWrites.{flush_file, release, write_file}
+use Rattle.mount_replies.specs.Lines.{noted_answer}
 use Rattle.mount_replies.specs.Pipes.{ends, is_dry, is_used_up, would_wait}
-use Rattle.mount_replies.specs.Services.{OpenSeen, Service, Terms, file_at, free_handle, just_opened, node_of, read_of_pipe, scene_of, with_file, with_records, with_text, with_wakeup, with_write, without_file}
+use Rattle.mount_replies.specs.Services.{OpenSeen, Service, Terms, count_of, file_at, free_handle, is_read_out, just_opened, most_data, node_of, read_of_pipe, scene_of, with_dry_read, with_file, with_poll, with_reading, with_records}
+use Rattle.mount_replies.specs.Sizes.{get_attributes, look_up, set_attributes, text_in}
+use Rattle.mount_replies.specs.Steps.{Asks, AsksNoting, Forgets, Interrupts, Keeps, Noting, Outcome, Parks, Plain, Step, Takes, Tells, failed, plain, read_of, taking, told, write_of}
+use Rattle.mount_replies.specs.Told.{agree, attributes_of, check_access, empties, found_in, known, may, open_folder, read_folder, wants_read, wants_write}
 use Rattle.mount_replies.specs.declared.parked.Parked.{Parked}
-use Rattle.mount_replies.specs.Told.{agree, attributes_of, check_access, empties, found_in, get_attributes, known, look_up, may, most_data, open_folder, read_folder, set_attributes, wants_read, wants_write}
-
--- ---- steps
-
--- what is replied, if anything, and the open files from then on
-pub record Outcome : Type 0 where
-  pub reply : Option Reply
-  pub files : List (Option OpenSeen)
-
--- what becomes of the writes that were refused
-pub data Noting : Type 0 where
-  Keeps : Noting
-  Notes : (error : ErrorSeen) → Noting
-  Forgets : (owner : Owner) → Noting
-
-abbrev pub errors_after : Noting → List ErrorSeen → List ErrorSeen
-errors_after Keeps errors = errors
-errors_after (Notes error) errors = noted error errors
-errors_after (Forgets owner) errors = cleared owner errors
-
-pub data Step : Type 0 where
-  -- nothing is asked, and no memory taken
-  Plain : (outcome : Outcome) → Step
-  -- nothing is asked, but memory is taken
-  Takes : (outcome : Outcome) → Step
-  -- the tracer is asked this, and its answer gives the outcome
-  Asks : (request : Request) (outcome : Result Answer Refusal → Outcome) → Step
-  -- a read waits from now on, and has no reply yet; memory is taken
-  Parks : (read : Parked) → Step
-  -- the read of this number waits no more, if it does
-  Interrupts : (unique : ℕ) → Step
-  -- the tracer is asked this; its answer gives the outcome, and what becomes of the errors
-  AsksNoting : (request : Request) (outcome : Result Answer Refusal → Outcome) (noting : Result Answer Refusal → Noting) → Step
-  -- nothing is asked, and the errors of an instance are forgotten; memory may be taken
-  Clears : (owner : Owner) (takes : Bool) (outcome : Outcome) → Step
-
-abbrev pub told : Reply → List (Option OpenSeen) → Outcome
-told reply files = record { reply = Some reply; files = files }
-
-abbrev pub plain : Reply → List (Option OpenSeen) → Step
-plain reply files = Plain (told reply files)
-
-abbrev pub taking : Reply → List (Option OpenSeen) → Step
-taking reply files = Takes (told reply files)
-
-abbrev pub failed : Errno → List (Option OpenSeen) → Step
-failed errno files = plain (replies.Error errno) files
-
--- `cat PATH` and `take N PATH`, `echo TEXT > PATH` and `echo TEXT >> PATH`
-abbrev pub read_of : SceneSeen → Node → Option ℕ → Request
-read_of scene node limit = request_of (commands.Read (path_of scene node) limit)
-
-abbrev pub write_of : SceneSeen → Node → Bool → List ℕ → Request
-write_of scene node append text = request_of (commands.Write (path_of scene node) append text)
+use Rattle.mount_replies.specs.declared.counted.Counted.{Counted}
 
 -- ---- OPEN
 
 -- FOPEN_DIRECT_IO is 1: a kernel asks for each read, whatever the size; FOPEN_NONSEEKABLE is 4; FOPEN_STREAM is 16: a read that waits holds up no other
--- one by the same open file
+-- one by the same open file; FOPEN_NOFLUSH is 32: no FLUSH comes where a descriptor is closed, since only `inject` has something to do then
 abbrev pub open_flags : FileKind → ℕ
-open_flags kinds.Pipe = 21
-open_flags _ = 1
+open_flags kinds.Pipe = 53
+open_flags kinds.Inject = 1
+open_flags _ = 33
 
 -- a file gets the lowest handle that is not in use
 abbrev pub handed_out : OpenSeen → List (Option OpenSeen) → Outcome
 handed_out file files =
     told (replies.Opened (free_handle files) (open_flags (kind_of_file file.file))) (with_file (free_handle files) file files)
 
--- `set_event` that is opened to be emptied disables all events of its instance
-abbrev pub disables : File → ℕ → Bool
-disables (files.Tool tools.SetEvent) flags = empties flags
-disables file flags = false
+-- What opening a file to be emptied asks: of `set_event` to disable all events of its instance, as a write of `0` to `events/enable` does; of a trace to
+-- clear it, as a write of nothing by `>` does. Of other files nothing is asked: their first write is by `>`.
+pub data Emptying : Type 0 where
+  AsksNone : Emptying
+  AsksToWrite : (file : File) (text : List ℕ) → Emptying
 
-abbrev pub disabled_first : OpenSeen → List (Option OpenSeen) → Result Answer Refusal → Outcome
-disabled_first file files (Ok answer) = handed_out file files
-disabled_first file files (Err refusal) = told (replies.Error (errno_of refusal)) files
+abbrev pub emptying_by_kind : File → FileKind → Emptying
+emptying_by_kind file kinds.Trace = AsksToWrite file []
+emptying_by_kind (files.Tool tools.SetEvent) kind = AsksToWrite (files.OfInstance top_files.EventsEnable) (codes "0")
+emptying_by_kind file kind = AsksNone
 
--- as a write of `0` to `events/enable` does
-abbrev pub disabling : SceneSeen → OpenSeen → List (Option OpenSeen) → Step
-disabling scene file open_files =
-    Asks (write_of scene (nodes.File file.owner (files.OfInstance top_files.EventsEnable)) false (codes "0")) (disabled_first file open_files)
+abbrev pub emptying_of : File → Bool → Emptying
+emptying_of file true = emptying_by_kind file (kind_of_file file)
+emptying_of file false = AsksNone
+
+abbrev pub emptied_first : OpenSeen → List (Option OpenSeen) → Result Answer Refusal → Outcome
+emptied_first file files (Ok answer) = handed_out file files
+emptied_first file files (Err refusal) = told (replies.Error (errno_of refusal)) files
+
+-- it is noted by the file that was opened
+abbrev pub noted_emptying : SceneSeen → ℕ → OpenSeen → File → List ℕ → Result Answer Refusal → Noting
+noted_emptying scene now file asked text answer =
+    noted_answer (begun file.owner now (path_of scene (node_of file))) (path_of scene (nodes.File file.owner asked)) text [] 0 answer
+
+-- the file has its handle only if that was done; its writes are by `>>`, since it is empty now
+abbrev pub emptied : SceneSeen → ℕ → OpenSeen → List (Option OpenSeen) → File → List ℕ → Step
+emptied scene now file open_files asked text =
+    AsksNoting (write_of scene (nodes.File file.owner asked) false text) (emptied_first file open_files) (noted_emptying scene now file asked text)
 
 -- `error_log` that is opened to be emptied forgets the errors of its instance
 abbrev pub clears : File → ℕ → Bool
 clears files.ErrorLog flags = empties flags
 clears file flags = false
 
-abbrev pub opened_file : SceneSeen → ℕ → OpenSeen → List (Option OpenSeen) → Step
-opened_file scene flags file files =
-    if disables file.file flags then disabling scene file files
-    else if clears file.file flags then Clears file.owner true (handed_out file files)
-    else Takes (handed_out file files)
+abbrev pub opened_unless_emptied : SceneSeen → ℕ → ℕ → OpenSeen → List (Option OpenSeen) → Emptying → Step
+opened_unless_emptied scene now flags file files AsksNone =
+    if clears file.file flags then Tells (Forgets file.owner) true (handed_out file files) else Takes (handed_out file files)
+opened_unless_emptied scene now flags file files (AsksToWrite asked text) =
+    emptied scene now (record file { starts_over = false }) files asked text
 
-abbrev pub opened : SceneSeen → ℕ → Option Node → List (Option OpenSeen) → Step
-opened scene flags None files = failed ENOENT files
-opened scene flags (Some (nodes.Folder owner folder)) files = failed EISDIR files
-opened scene flags (Some (nodes.File owner file)) files =
+abbrev pub opened_file : SceneSeen → ℕ → ℕ → OpenSeen → List (Option OpenSeen) → Step
+opened_file scene now flags file files = opened_unless_emptied scene now flags file files (emptying_of file.file (empties flags))
+
+abbrev pub opened : SceneSeen → ℕ → ℕ → Option Node → List (Option OpenSeen) → Step
+opened scene now flags None files = failed ENOENT files
+opened scene now flags (Some (nodes.Folder owner folder)) files = failed EISDIR files
+opened scene now flags (Some (nodes.File owner file)) files =
     if may (access_of_file file) (wants_read flags) (wants_write flags)
-    then opened_file scene flags (just_opened owner file (empties flags)) files
+    then opened_file scene now flags (just_opened owner file (empties flags)) files
     else failed EACCES files
 
 -- ---- READ
@@ -151,19 +110,28 @@ opened scene flags (Some (nodes.File owner file)) files =
 abbrev pub part_of : ℕ → ℕ → List ℕ → List ℕ
 part_of offset size text = take (min size most_data) (drop offset text)
 
-abbrev pub text_in : Answer → List ℕ
-text_in answers.Done = []
-text_in (answers.Text text) = text
-
 -- a text that was just read is what this read and later ones go on in
 abbrev pub given_text : ℕ → ℕ → ℕ → List (Option OpenSeen) → Result Answer Refusal → Outcome
 given_text handle offset size files (Ok answer) =
-    told (replies.Data (part_of offset size (text_in answer))) (with_text (text_in answer) handle files)
+    told (replies.Data (part_of offset size (text_in answer))) (with_reading offset size (text_in answer) handle files)
 given_text handle offset size files (Err refusal) = told (replies.Error (errno_of refusal)) files
 
--- the text is made by the first read of an open file, and anew by each at its beginning
+-- the text is made by the first read of an open file, and anew by each at its beginning, or, once it was read to its end, by each before that
+abbrev pub is_before_end : ℕ → Option ℕ → Bool
+is_before_end offset None = true
+is_before_end offset (Some end) = nat_lt offset end
+
 abbrev pub makes_text : ℕ → OpenSeen → Bool
-makes_text offset file = offset == 0 || is_none file.text
+makes_text offset file = offset == 0 || (is_none file.text && is_before_end offset file.ended)
+
+-- the read goes on in the text that is kept; where it comes to the end of it, that is given back
+abbrev pub with_going_on : ℕ → ℕ → Option (List ℕ) → ℕ → List (Option OpenSeen) → List (Option OpenSeen)
+with_going_on offset size None handle files = files
+with_going_on offset size (Some text) handle files = if is_read_out offset size text then with_reading offset size text handle files else files
+
+abbrev pub goes_on_in : ℕ → ℕ → ℕ → OpenSeen → List (Option OpenSeen) → Step
+goes_on_in handle offset size file files =
+    plain (replies.Data (part_of offset size (unwrap_or file.text []))) (with_going_on offset size file.text handle files)
 
 abbrev pub read_anew : SceneSeen → ℕ → ℕ → ℕ → Node → List (Option OpenSeen) → Step
 read_anew scene handle offset size node files = Asks (read_of scene node None) (given_text handle offset size files)
@@ -171,18 +139,18 @@ read_anew scene handle offset size node files = Asks (read_of scene node None) (
 abbrev pub read_text : SceneSeen → ℕ → ℕ → ℕ → OpenSeen → List (Option OpenSeen) → Step
 read_text scene handle offset size file files =
     if makes_text offset file then read_anew scene handle offset size (node_of file) files
-    else plain (replies.Data (part_of offset size (unwrap_or file.text []))) files
+    else goes_on_in handle offset size file files
 
--- a file that tools ask for and that is not there has no text
+-- a file that tools ask for and that is not there has no text; none is read that isn't there
 abbrev pub given_tool : ℕ → ℕ → ℕ → List (Option OpenSeen) → Option (List ℕ) → Step
 given_tool handle offset size files None = taking (replies.Error ENOENT) files
-given_tool handle offset size files (Some text) = taking (replies.Data (part_of offset size text)) (with_text text handle files)
+given_tool handle offset size files (Some text) = taking (replies.Data (part_of offset size text)) (with_reading offset size text handle files)
 
 -- it is read as a text is, but the tracer is asked nothing
 abbrev pub read_shown : ℕ → ℕ → ℕ → OpenSeen → List (Option OpenSeen) → Option (List ℕ) → Step
 read_shown handle offset size file files shown =
     if makes_text offset file then given_tool handle offset size files shown
-    else plain (replies.Data (part_of offset size (unwrap_or file.text []))) files
+    else goes_on_in handle offset size file files
 
 abbrev pub read_tool : Terms → Service → ℕ → ℕ → ℕ → OpenSeen → Step
 read_tool g s handle offset size file =
@@ -191,6 +159,23 @@ read_tool g s handle offset size file =
 -- and so is `error_log`
 abbrev pub read_log : Service → ℕ → ℕ → ℕ → OpenSeen → Step
 read_log s handle offset size file = read_shown handle offset size file s.files (Some (log_text file.owner s.errors))
+
+-- fuse.h: FUSE_READ_LOCKOWNER is 2. A read without it is the page cache's, as for sendfile(2) and splice(2), which stop at the size that was told.
+abbrev pub is_cached : ℕ → Bool
+is_cached read_flags = not (read_flags / 2 % 2 == 1)
+
+-- at the beginning it gets of the text that was counted for its file, if there is one, and later ones go on in that
+abbrev pub given_counted : ℕ → ℕ → List (Option OpenSeen) → Step → Option (List ℕ) → Step
+given_counted handle size files otherwise None = otherwise
+given_counted handle size files otherwise (Some text) =
+    taking (replies.Data (part_of 0 size text)) (with_reading 0 size text handle files)
+
+abbrev pub text_counted : OpenSeen → List Counted → Option (List ℕ)
+text_counted file counted = option_and_then (λ (count : Counted). count.text) (count_of (number_of (node_of file)) counted)
+
+abbrev pub unless_counted : Service → Parked → Bool → ℕ → OpenSeen → Step → Step
+unless_counted s read cached offset file otherwise =
+    if cached && offset == 0 then given_counted read.handle read.size s.files otherwise (text_counted file s.counted) else otherwise
 
 -- how many records are taken for a read: no line of a record, with one of lost records before it, has more than 2,048 bytes
 abbrev pub records_for : ℕ → ℕ
@@ -215,7 +200,8 @@ is_nonblocking flags = flags / 2048 % 2 == 1
 -- no record waits: the pipe ends, or the read waits, unless it may not
 abbrev pub read_dry : Parked → ℕ → Bool → List (Option OpenSeen) → Step
 read_dry read flags has_ended files =
-    if has_ended then plain (replies.Data []) files else if is_nonblocking flags then failed EAGAIN files else Parks read
+    if has_ended then plain (replies.Data []) (with_dry_read true read.handle files)
+    else if is_nonblocking flags then failed EAGAIN (with_dry_read false read.handle files) else Parks read
 
 abbrev pub read_new : Terms → Service → Parked → ℕ → OpenSeen → Step
 read_new g s read flags file =
@@ -228,16 +214,28 @@ read_pipe g s read flags file =
     if is_used_up file then read_new g s read flags file
     else Plain (given_records read.handle read.size (unwrap_or file.text []) s.files)
 
-abbrev pub read_kind : Terms → Service → Parked → ℕ → ℕ → OpenSeen → FileKind → Step
-read_kind g s read offset flags file kinds.Pipe = read_pipe g s read flags file
-read_kind g s read offset flags file kinds.Inject = failed EACCES s.files
-read_kind g s read offset flags file kinds.Tool = read_tool g s read.handle offset read.size file
-read_kind g s read offset flags file kinds.ErrorLog = read_log s read.handle offset read.size file
-read_kind g s read offset flags file _ = read_text (scene_of g s) read.handle offset read.size file s.files
+-- what was taken can't be read by the page cache, which would show it to others, too: such a read fails, and its caller goes on by read(2)
+abbrev pub read_pipe_directly : Terms → Service → Parked → Bool → ℕ → OpenSeen → Step
+read_pipe_directly g s read cached flags file = if cached then failed EINVAL s.files else read_pipe g s read flags file
 
-abbrev pub read_file : Terms → Service → Parked → ℕ → ℕ → Option OpenSeen → Step
-read_file g s read offset flags None = failed EBADF s.files
-read_file g s read offset flags (Some file) = read_kind g s read offset flags file (kind_of_file file.file)
+abbrev pub read_kind : Terms → Service → Parked → ℕ → Bool → ℕ → OpenSeen → FileKind → Step
+read_kind g s read offset cached flags file kinds.Pipe = read_pipe_directly g s read cached flags file
+read_kind g s read offset cached flags file kinds.Inject = failed EACCES s.files
+read_kind g s read offset cached flags file kinds.Tool =
+    unless_counted s read cached offset file (read_tool g s read.handle offset read.size file)
+read_kind g s read offset cached flags file kinds.ErrorLog =
+    unless_counted s read cached offset file (read_log s read.handle offset read.size file)
+read_kind g s read offset cached flags file _ =
+    unless_counted s read cached offset file (read_text (scene_of g s) read.handle offset read.size file s.files)
+
+-- nothing can be read of an instance that was removed
+abbrev pub read_there : Terms → Service → Parked → ℕ → Bool → ℕ → OpenSeen → Step
+read_there g s read offset cached flags file =
+    if is_there (scene_of g s) (node_of file) then read_kind g s read offset cached flags file (kind_of_file file.file) else failed ENOENT s.files
+
+abbrev pub read_file : Terms → Service → Parked → ℕ → Bool → ℕ → Option OpenSeen → Step
+read_file g s read offset cached flags None = failed EBADF s.files
+read_file g s read offset cached flags (Some file) = read_there g s read offset cached flags file
 
 -- ---- POLL
 
@@ -252,12 +250,13 @@ ready_file = 1 + 4 + 64 + 256
 abbrev pub wants_wakeup : ℕ → Bool
 wants_wakeup flags = flags % 2 == 1
 
+abbrev pub with_wanted_poll : Bool → ℕ → Bool → ℕ → List (Option OpenSeen) → List (Option OpenSeen)
+with_wanted_poll wanted wakeup waits handle files = if wanted then with_poll wakeup waits handle files else files
+
 -- a pipe is ready where a read of it would not wait; if it is not, the poll may want to be told when it is
 abbrev pub poll_pipe : Bool → ℕ → ℕ → ℕ → List (Option OpenSeen) → Step
 poll_pipe waits handle wakeup flags files =
-    if waits
-    then plain (replies.Poll 0) (if wants_wakeup flags then with_wakeup (Some wakeup) handle files else files)
-    else plain (replies.Poll ready_pipe) files
+    plain (replies.Poll (if waits then 0 else ready_pipe)) (with_wanted_poll (wants_wakeup flags) wakeup waits handle files)
 
 -- any other file is always ready
 abbrev pub poll_kind : Terms → Service → ℕ → ℕ → ℕ → OpenSeen → FileKind → Step
@@ -268,108 +267,6 @@ abbrev pub poll_file : Terms → Service → ℕ → ℕ → ℕ → Option Open
 poll_file g s handle wakeup flags None = failed EBADF s.files
 poll_file g s handle wakeup flags (Some file) = poll_kind g s handle wakeup flags file (kind_of_file file.file)
 
--- ---- WRITE
-
--- a last newline is not written
-abbrev pub without_newline : List ℕ → List ℕ
-without_newline bytes = if slice_index bytes (length bytes - 1) == 10 then take (length bytes - 1) bytes else bytes
-
-abbrev pub written : ℕ → ℕ → List (Option OpenSeen) → Result Answer Refusal → Outcome
-written handle size files (Ok answer) = told (replies.Written size) (with_write handle files)
-written handle size files (Err refusal) = told (replies.Error (errno_of refusal)) files
-
--- a write that was refused is noted, with what is wrong, unless memory was refused
-abbrev pub noted_refusal : ErrorSeen → List ℕ → List ℕ → Refusal → Noting
-noted_refusal begun path text Memory = Keeps
-noted_refusal begun path text refusal = Notes (refused begun (write_words path text refusal) (write_offset path text refusal))
-
-abbrev pub noted_write : ErrorSeen → List ℕ → List ℕ → Result Answer Refusal → Noting
-noted_write begun path text (Ok answer) = Keeps
-noted_write begun path text (Err refusal) = noted_refusal begun path text refusal
-
--- The first write of a file that was opened to be emptied is by `>`, all others by `>>`. It is noted with the time and the file's path.
-abbrev pub write_text : SceneSeen → ℕ → ℕ → Owner → File → Bool → List ℕ → List (Option OpenSeen) → Step
-write_text scene now handle owner file append bytes files =
-    AsksNoting (write_of scene (nodes.File owner file) append (without_newline bytes)) (written handle (length bytes) files)
-    (noted_write (begun owner now (path_of scene (nodes.File owner file)) (without_newline bytes)) (path_of scene (nodes.File owner file)) (without_newline bytes))
-
--- a write that changes nothing
-abbrev pub write_same : ℕ → ℕ → List (Option OpenSeen) → Step
-write_same handle size files = plain (replies.Written size) (with_write handle files)
-
-abbrev pub switch_text : Bool → List ℕ
-switch_text on = if on then codes "1" else codes "0"
-
--- so many bytes are done by writing to this switch
-abbrev pub write_switch : SceneSeen → ℕ → Node → Bool → ℕ → List (Option OpenSeen) → Step
-write_switch scene handle node on size files = Asks (write_of scene node false (switch_text on)) (written handle size files)
-
--- so many bytes are written to a file that tools ask for: what it switches is a file of the same instance
-abbrev pub write_tool : SceneSeen → ℕ → Owner → ℕ → List (Option OpenSeen) → ToolWrite → Step
-write_tool scene handle owner size files Missing = failed ENOENT files
-write_tool scene handle owner size files Wrong = failed EINVAL files
-write_tool scene handle owner size files Same = write_same handle size files
-write_tool scene handle owner size files (Switch file on count) = write_switch scene handle (nodes.File owner file) on count files
-
--- whatever is written to `error_log`, the errors of its instance are forgotten
-abbrev pub write_log : ℕ → Owner → ℕ → List (Option OpenSeen) → Step
-write_log handle owner size files = Clears owner false (told (replies.Written size) (with_write handle files))
-
--- a write to a file other than `inject`, by the file's kind
-abbrev pub write_other : Config → SceneSeen → ℕ → ℕ → Owner → File → Bool → List ℕ → List (Option OpenSeen) → FileKind → Step
-write_other g scene now handle owner file append bytes files kinds.Tool =
-    write_tool scene handle owner (length bytes) files (tool_write g scene owner file bytes)
-write_other g scene now handle owner file append bytes files kinds.ErrorLog = write_log handle owner (length bytes) files
-write_other g scene now handle owner file append bytes files _ = write_text scene now handle owner file append bytes files
-
--- A write to `inject` is by the process that writes, on the CPU that is its number modulo the number of CPUs. It does the first line and says how many bytes that has, so the caller writes the others anew
-abbrev pub inject_asked : ℕ → ℕ → List (Option OpenSeen) → Option Request → Step
-inject_asked handle size files None = taking (replies.Error EINVAL) files
-inject_asked handle size files (Some request) = Asks request (written handle size files)
-
-abbrev pub inject : ℕ → ℕ → ℕ → List ℕ → List (Option OpenSeen) → Option Definition → Step
-inject cpus handle pid bytes files None = failed ENOENT files
-inject cpus handle pid bytes files (Some event) =
-    if nat_lt pid (2 ^ 31)
-    then inject_asked handle (line_size bytes) files (option_map (injection (pid % cpus) event pid) (pairs_of_line (first_line bytes)))
-    else failed EINVAL files
-
--- an instance that was removed has no `inject` any more
-abbrev pub write_kind : Terms → Service → ℕ → ℕ → List ℕ → OpenSeen → File → Step
-write_kind g s handle pid bytes file (files.Inject event) =
-    if is_there (scene_of g s) (nodes.File file.owner (files.Inject event))
-    then inject g.config.cpus handle pid bytes s.files (slice_get (declared_events s.past) event)
-    else failed ENOENT s.files
-write_kind g s handle pid bytes file _ =
-    write_other g.config (scene_of g s) (now_of s.past) handle file.owner file.file (not file.starts_over) bytes s.files (kind_of_file file.file)
-
-abbrev pub write_file : Terms → Service → ℕ → ℕ → List ℕ → Option OpenSeen → Step
-write_file g s handle pid bytes None = failed EBADF s.files
-write_file g s handle pid bytes (Some file) = write_kind g s handle pid bytes file file.file
-
--- ---- RELEASE
-
--- A trace that was opened to be emptied, and that nothing was written to, is emptied when its open file ends. It is not at FLUSH, which comes with
--- each descriptor that is closed: a shell closes one before it writes.
-abbrev pub empties_at_end : OpenSeen → FileKind → Bool
-empties_at_end file kinds.Trace = file.starts_over
-empties_at_end file _ = false
-
--- the file is closed, also where the command is refused
-abbrev pub closed : ℕ → List (Option OpenSeen) → Result Answer Refusal → Outcome
-closed handle files (Ok answer) = told replies.Done (without_file handle files)
-closed handle files (Err refusal) = told (replies.Error (errno_of refusal)) (without_file handle files)
-
-unfoldable pub emptied : SceneSeen → ℕ → Node → List (Option OpenSeen) → Step
-emptied scene handle node files = Asks (write_of scene node false []) (closed handle files)
-
-abbrev pub release : SceneSeen → ℕ → List (Option OpenSeen) → Option OpenSeen → Step
-release scene handle files None = failed EBADF files
-release scene handle files (Some file) =
-    if empties_at_end file (kind_of_file file.file)
-    then emptied scene handle (node_of file) files
-    else plain replies.Done (without_file handle files)
-
 -- ---- MKDIR, RMDIR
 
 -- an instance's folder
@@ -377,7 +274,7 @@ abbrev pub instance_path : List ℕ → List ℕ
 instance_path name = codes "instances/" ++ name
 
 abbrev pub made_folder : Terms → ℕ → List (Option OpenSeen) → Result Answer Refusal → Outcome
-made_folder g serial files (Ok answer) = told (replies.Entry (attributes_of g (nodes.Folder (Made serial) folders.Root))) files
+made_folder g serial files (Ok answer) = told (replies.Entry (attributes_of g (nodes.Folder (Made serial) folders.Root) 0)) files
 made_folder g serial files (Err refusal) = told (replies.Error (errno_of refusal)) files
 
 -- where a scene takes one more
@@ -419,22 +316,24 @@ remove_folder scene name files _ = failed EPERM files
 
 -- what a request of this number by this process, about this node, if its number is one's, comes to
 abbrev pub step_of : Terms → Service → ℕ → ℕ → Option Node → Operation → Step
-step_of g s unique pid target (operations.Lookup name) = plain (look_up g (scene_of g s) target name) s.files
-step_of g s unique pid target operations.GetAttr = plain (get_attributes g (scene_of g s) target) s.files
-step_of g s unique pid target (operations.SetAttr valid size) = plain (set_attributes g (scene_of g s) target valid size) s.files
+step_of g s unique pid target (operations.Lookup name) = look_up g s target name
+step_of g s unique pid target operations.GetAttr = get_attributes g s target
+step_of g s unique pid target (operations.SetAttr valid size) = set_attributes g s target valid size
 step_of g s unique pid target (operations.MkDir name) = make_folder g (scene_of g s) name s.files (known (scene_of g s) target)
 step_of g s unique pid target (operations.RmDir name) = remove_folder (scene_of g s) name s.files (known (scene_of g s) target)
-step_of g s unique pid target (operations.Open flags) = opened (scene_of g s) flags (known (scene_of g s) target) s.files
-step_of g s unique pid target (operations.Read handle offset size flags) =
-    read_file g s (read_of_pipe unique handle size) offset flags (file_at handle s.files)
-step_of g s unique pid target (operations.Write handle offset bytes) = write_file g s handle pid bytes (file_at handle s.files)
-step_of g s unique pid target (operations.Release handle) = release (scene_of g s) handle s.files (file_at handle s.files)
+step_of g s unique pid target (operations.Open flags) =
+    opened (scene_of g s) (now_of s.past) flags (known (scene_of g s) target) s.files
+step_of g s unique pid target (operations.Read handle offset size read_flags flags) =
+    read_file g s (read_of_pipe unique handle size) offset (is_cached read_flags) flags (file_at handle s.files)
+step_of g s unique pid target (operations.Write handle offset lock_owner bytes) =
+    write_file g s handle lock_owner pid bytes (file_at handle s.files)
+step_of g s unique pid target (operations.Flush handle lock_owner) = flush_file g s handle lock_owner (file_at handle s.files)
+step_of g s unique pid target (operations.Release handle) = release g s handle (file_at handle s.files)
 step_of g s unique pid target operations.OpenDir = plain (open_folder (scene_of g s) target) s.files
 step_of g s unique pid target (operations.ReadDir handle offset size) = taking (read_folder (scene_of g s) target offset size) s.files
 step_of g s unique pid target (operations.Access mask) = plain (check_access (scene_of g s) target mask) s.files
 step_of g s unique pid target (operations.Init major minor max_readahead flags) = plain (agree major max_readahead flags) s.files
 step_of g s unique pid target operations.StatFs = plain (replies.StatFs 4096 255) s.files
-step_of g s unique pid target (operations.Flush handle) = plain replies.Done s.files
 step_of g s unique pid target operations.Fsync = plain replies.Done s.files
 step_of g s unique pid target (operations.ReleaseDir handle) = plain replies.Done s.files
 step_of g s unique pid target operations.Destroy = plain replies.Done s.files

@@ -1,22 +1,23 @@
 -- What is told of folders and files: attributes, lists, and what may be done with them (linux/fuse.h; inode(7), open(2), access(2)).
-use Rattle.std.specs.Prelude.{ℕ, ◌+◌, ◌-◌, ◌*◌, ◌/◌, ◌%◌, ◌^◌, ◌==◌, Bool, true, false, not, ◌&&◌, ◌||◌, nat_le, List, [], ◌∷◌, ◌++◌, length, drop, min, Option, Some, None, if◌then◌else◌}
+use Rattle.std.specs.Prelude.{bit_and, ℕ, ◌+◌, ◌-◌, ◌*◌, ◌/◌, ◌%◌, ◌^◌, ◌==◌, Bool, true, false, not, ◌&&◌, ◌||◌, nat_le, List, [], ◌∷◌, ◌++◌, length, drop, min, Option, Some, None, if◌then◌else◌}
 use Rattle.fuse_wire.specs.Directories.{entry_bytes}
 use Rattle.fuse_wire.specs.declared.attributes.Attributes.{Attributes}
 use Rattle.fuse_wire.specs.declared.attributes.FileKind.{FileKind as Kind}
 use Rattle.fuse_wire.specs.declared.attributes.FileKind.TheVariants as kinds
 use Rattle.fuse_wire.specs.declared.directory.DirectoryEntry.{DirectoryEntry}
-use Rattle.fuse_wire.specs.declared.errno.Errno.TheVariants.{ENOENT, EACCES, EINVAL, ENOTDIR, EPROTO}
+use Rattle.fuse_wire.specs.declared.errno.Errno.TheVariants.{ENOENT, EACCES, ENOTDIR, EPROTO}
 use Rattle.fuse_wire.specs.declared.reply.Reply.{Reply}
 use Rattle.fuse_wire.specs.declared.reply.Reply.TheVariants as replies
 use Rattle.file_list.specs.declared.access.Access.{Access}
 use Rattle.file_list.specs.declared.access.Access.TheVariants as access
 use Rattle.mount_tree.specs.Children.{Child, children, is_there, node_named}
 use Rattle.mount_tree.specs.FileKinds.{access_of_file}
+use Rattle.mount_tree.specs.FolderLists.{folder_list}
 use Rattle.mount_tree.specs.Nodes.{number_of}
 use Rattle.mount_tree.specs.Scenes.{SceneSeen}
 use Rattle.mount_tree.specs.declared.node.Node.{Node}
 use Rattle.mount_tree.specs.declared.node.Node.TheVariants as nodes
-use Rattle.mount_replies.specs.Services.{Terms}
+use Rattle.mount_replies.specs.Services.{Terms, most_data}
 
 -- ---- attributes
 
@@ -24,24 +25,28 @@ abbrev pub kind_of_node : Node → Kind
 kind_of_node (nodes.Folder owner folder) = kinds.Directory
 kind_of_node (nodes.File owner file) = kinds.Regular
 
--- r--r-----, -w-------, rw-r-----
+-- r--r--r--, -w--w--w-, rw-rw-rw-
 abbrev pub file_permissions : Access → ℕ
-file_permissions access.Read = 288
-file_permissions access.Write = 128
-file_permissions access.Both = 416
+file_permissions access.Read = 292
+file_permissions access.Write = 146
+file_permissions access.Both = 438
 
--- of a folder rwxr-x---
+-- of a folder rwxrwxrwx
 abbrev pub permissions_of : Node → ℕ
-permissions_of (nodes.Folder owner folder) = 488
+permissions_of (nodes.Folder owner folder) = 511
 permissions_of (nodes.File owner file) = file_permissions (access_of_file file)
 
--- as in a kernel's tracefs a size of 0, whatever a file shows
-abbrev pub attributes_of : Terms → Node → Attributes
-attributes_of g node = record {
+-- what the permissions of a mount leave of those that a node can have
+abbrev pub permissions_under : ℕ → Node → ℕ
+permissions_under mode node = bit_and mode (permissions_of node)
+
+-- a file's size is the length of what it shows
+abbrev pub attributes_of : Terms → Node → ℕ → Attributes
+attributes_of g node size = record {
   node = number_of node;
-  size = 0;
+  size = size;
   kind = kind_of_node node;
-  permissions = permissions_of node;
+  permissions = permissions_under g.mode node;
   links = 1;
   uid = g.uid;
   gid = g.gid;
@@ -55,33 +60,13 @@ abbrev pub known : SceneSeen → Option Node → Option Node
 known scene None = None
 known scene (Some node) = if is_there scene node then Some node else None
 
-abbrev pub entry_reply : Terms → Option Node → Reply
-entry_reply g None = replies.Error ENOENT
-entry_reply g (Some node) = replies.Entry (attributes_of g node)
-
 abbrev pub found_in : SceneSeen → List ℕ → Option Node → Option Node
 found_in scene name None = None
 found_in scene name (Some folder) = node_named name (children scene folder)
 
--- LOOKUP
-abbrev pub look_up : Terms → SceneSeen → Option Node → List ℕ → Reply
-look_up g scene folder name = entry_reply g (found_in scene name folder)
-
-abbrev pub attributes_reply : Terms → Option Node → Reply
-attributes_reply g None = replies.Error ENOENT
-attributes_reply g (Some node) = replies.Attributes (attributes_of g node)
-
--- GETATTR
-abbrev pub get_attributes : Terms → SceneSeen → Option Node → Reply
-get_attributes g scene node = attributes_reply g (known scene node)
-
--- SETATTR: nothing is set. FATTR_SIZE is 8: no size but 0 is accepted; a file that shows something is opened to be emptied, not cut.
+-- SETATTR: FATTR_SIZE is 8. No size but 0 is accepted; a file that shows something is opened to be emptied, not cut.
 abbrev pub sets_size : ℕ → ℕ → Bool
 sets_size valid size = valid / 8 % 2 == 1 && not (size == 0)
-
-abbrev pub set_attributes : Terms → SceneSeen → Option Node → ℕ → ℕ → Reply
-set_attributes g scene node valid size =
-    if sets_size valid size then replies.Error EINVAL else get_attributes g scene node
 
 -- ---- what may be done
 
@@ -143,17 +128,13 @@ listed room before (child ∷ rest) =
     ++ listed (room - length (entry_bytes (dirent_of child (before + 1)))) (before + 1) rest
     else []
 
--- the most bytes that a reply gives of a file or a folder, and that are written at once
-abbrev pub most_data : ℕ
-most_data = 131072
-
 -- from the entry on of which so many come before; no folder has 2^32 entries
 abbrev pub listed_from : ℕ → ℕ → List Child → List ℕ
 listed_from room before entries = listed room before (drop before entries)
 
 abbrev pub listed_folder : SceneSeen → ℕ → ℕ → Option Node → Reply
 listed_folder scene offset size None = replies.Error ENOENT
-listed_folder scene offset size (Some folder) = replies.Data (listed_from (min size most_data) (min offset (2 ^ 32)) (children scene folder))
+listed_folder scene offset size (Some folder) = replies.Data (listed_from (min size most_data) (min offset (2 ^ 32)) (folder_list scene folder))
 
 -- READDIR
 abbrev pub read_folder : SceneSeen → Option Node → ℕ → ℕ → Reply

@@ -3,4 +3,9 @@ pub mod StillReplies
 pub mod Pushed
 pub mod ShortReplies
 pub mod Looks
+pub mod Emptyings
+pub mod LineRuns
+pub mod Notings
+pub mod Targets
+pub mod Tellings
 pub mod TextReads

@@ -3,16 +3,23 @@
 //! The folders and files have to be those that the commands done give. A command that may change them is first noted in the scene, which takes memory,
 //! and the note is taken back if the command is refused.
 
-ghost use Rattle.std.specs.Prelude.{◌≡◌, Bool, IfOk, List};
+ghost use Rattle.std.specs.Prelude.{◌≡◌, ◌∷◌, ◌++◌, [], Bool, false, IfOk, OnErr, OnOk, List};
 ghost use Rattle.trace_command.specs.Requests.{Request, request_of};
 ghost use Rattle.trace_command.specs.declared.command.Command.TheVariants as commands;
-ghost use Rattle.tracer_specification.specs.Settings.{declares, made, removed};
+ghost use Rattle.tracer_specification.specs.Settings.{declares, made, now_of, removed};
+ghost use Rattle.error_log.specs.Errors.{begun};
 ghost use Rattle.mount_tree.specs.NodePaths.{path_of};
 ghost use Rattle.mount_tree.specs.declared.node.Node.TheVariants as nodes;
-ghost use Rattle.mount_replies.specs.Mounted.{AsksBy, IsQuiet};
-ghost use Rattle.mount_replies.specs.Served.{instance_path, read_of, write_of};
+ghost use Rattle.mount_replies.specs.Lines.{noted_answer};
+ghost use Rattle.mount_replies.specs.Mounted.{AsksBy, HasLedTo, IsQuiet};
+ghost use Rattle.mount_replies.specs.Served.{instance_path};
+ghost use Rattle.mount_replies.specs.Steps.{read_of, write_of};
+ghost use Rattle.mount_replies.specs.private.Notings.{AsksNoted};
 
+use crate::errno::errno_of_refused;
 use crate::mount::Mount;
+use crate::noting::note_answer;
+use fuse_wire::Errno;
 use mount_tree::{File, Node, Owner};
 use std::alloc::{AllocError, Global};
 use trace_command::{Command, FileName, Refusal, Reply, address_of, instance_of};
@@ -75,20 +82,19 @@ impl Mount {
         self.ask(Command::Read { path, limit })
     }
 
-    /// Writes a text to a file, by `>` or, to append, by `>>`.
+    /// Writes a text to the file of a path, by `>` or, to append, by `>>`.
     pub(crate) fn ask_write(
         &mut self,
-        owner: Owner,
-        file: File,
+        path: &[u8],
         append: bool,
         text: &[u8],
     ) -> Result<Reply, Refusal>
-        ensures { AsksBy self.old self.new (write_of self.old.scene (nodes.File owner file) append text.now) result }
+        ensures { AsksBy self.old self.new (request_of (commands.Write path.now append text.now)) result }
     {
-        let Ok(path) = self.path_of(owner, file) else {
+        let Ok(event) = declared(self.alloc, path, text) else {
             return Err(Refusal::Memory);
         };
-        let Ok(event) = declared(self.alloc, path.as_bytes(), text) else {
+        let Ok(path) = Text::from_slice(self.alloc, path) else {
             return Err(Refusal::Memory);
         };
         let Ok(text) = Text::from_slice(self.alloc, text) else {
@@ -98,6 +104,53 @@ impl Mount {
         match event {
             Some(event) => self.ask_declaration(command, &event),
             None => self.ask(command),
+        }
+    }
+
+    /// Notes a write to a file that may be refused. If memory is refused, nothing has changed.
+    pub(crate) fn begin_note(&mut self, owner: Owner, file: File) -> Result<(), AllocError>
+        ensures ok { (past : List Request) → HasLedTo past self.old → OnOk result (self.new ≡ record self.old {
+          errors = self.old.errors ++ begun owner (now_of past) (path_of self.old.scene (nodes.File owner file)) ∷ [];
+        }) }
+        ensures err { OnErr result (self.new ≡ self.old) }
+    {
+        let path = self.path_of(owner, file)?;
+        let time = self.live.now();
+        self.errors.begin(owner, time, path.as_bytes())
+    }
+
+    /// Writes a text to a file by `>`, for the write of another, `shown`, to a file that one opened, which is noted if it is refused, as to blame at an
+    /// offset.
+    pub(crate) fn ask_noted(
+        &mut self,
+        owner: Owner,
+        file: File,
+        asked: File,
+        text: &[u8],
+        shown: &[u8],
+        at: usize,
+    ) -> Result<(), Errno>
+        ensures { (past : List Request) → HasLedTo past self.old
+            → AsksNoted past self.old self.new (write_of self.old.scene (nodes.File owner asked) false text.now)
+            (noted_answer (begun owner (now_of past) (path_of self.old.scene (nodes.File owner file)))
+            (path_of self.old.scene (nodes.File owner asked)) text.now shown.now at) result }
+    {
+        let Ok(asked_path) = self.path_of(owner, asked) else {
+            return Err(Errno::ENOMEM);
+        };
+        let path = asked_path.as_bytes();
+        let Ok(()) = self.begin_note(owner, file) else {
+            return Err(Errno::ENOMEM);
+        };
+        match self.ask_write(path, false, text) {
+            Ok(_) => {
+                self.errors.take_back();
+                Ok(())
+            }
+            Err(refusal) => {
+                note_answer(&mut self.errors, path, text, shown, at, &refusal);
+                Err(errno_of_refused(refusal))
+            }
         }
     }
 

@@ -1,12 +1,14 @@
 //! The open files, by their handles.
 
-ghost use Rattle.std.specs.Prelude.{◌≡◌, List, Option, [], length, set, drop, true, false, is_none, unwrap_or, position, OnErr, OnOk, IfOk};
+ghost use Rattle.std.specs.Prelude.{◌≡◌, ℕ, List, Option, Some, [], length, set, drop, true, false, is_none, unwrap_or, position, OnErr, OnOk, IfOk};
 ghost use Rattle.std.specs.List.{list_any};
 ghost use Rattle.std.specs.Option.{option_copied, option_map};
 ghost use Rattle.trace_command.specs.FileNames.{bytes_now};
-ghost use Rattle.mount_replies.specs.Services.{OpenSeen, file_at, free_handle, has_wakeup, text_at, wakeup_at, with_change, with_file, with_records, with_text, with_wakeup, with_write, without_file};
+ghost use Rattle.mount_replies.specs.Served.{is_before_end};
+ghost use Rattle.mount_replies.specs.Services.{OpenSeen, armed, drop_rest, file_at, free_handle, has_wakeup, is_read_out, text_at, wakeup_at, with_change, with_dry_read, with_file, with_poll, with_reading, with_records, with_stream, with_write, without_file, without_wakeup};
 
 use crate::open_file::OpenFile;
+use crate::stream::Stream;
 use std::alloc::{AllocError, Global};
 use std::marker::Model;
 use std::mem;
@@ -15,6 +17,7 @@ use trace_lex::Text;
 /// The open files: for each handle its file, if it has one. Unless `may_wake`, no poll of one is to be told.
 #[derive(Drop)]
 pub struct OpenFiles {
+    alloc: Global,
     slots: Vec<Option<OpenFile>>,
     may_wake: bool,
 }
@@ -36,7 +39,7 @@ fn has_wakeup(slot: &Option<OpenFile>) -> bool
     ensures { result ≡ has_wakeup slot.now }
 {
     match slot {
-        Some(file) => file.wakeup().is_some(),
+        Some(file) => file.polls().wakeup.is_some(),
         None => false,
     }
 }
@@ -100,6 +103,7 @@ impl OpenFiles {
         ensures { result ≡ [] }
     {
         OpenFiles {
+            alloc,
             slots: Vec::new(alloc),
             may_wake: false,
         }
@@ -134,7 +138,7 @@ impl OpenFiles {
         ensures { result ≡ wakeup_at handle self.now }
     {
         match self.get(handle) {
-            Some(file) => file.wakeup(),
+            Some(file) => file.polls().wakeup,
             None => None,
         }
     }
@@ -146,6 +150,19 @@ impl OpenFiles {
         match self.get(handle) {
             Some(file) => file.text(),
             None => None,
+        }
+    }
+
+    /// Whether an offset is before the end of the text that was read to its end, or none was.
+    pub fn is_before_end(&self, handle: u64, offset: u64) -> bool
+        ensures { (file : OpenSeen) → file_at handle self.now ≡ Some file → result ≡ is_before_end offset file.ended }
+    {
+        match self.get(handle) {
+            Some(file) => match file.ended() {
+                Some(end) => offset < end,
+                None => true,
+            },
+            None => true,
         }
     }
 
@@ -168,7 +185,7 @@ impl OpenFiles {
 
     /// Gives a file that was just opened the lowest handle that is not in use.
     pub fn open(&mut self, file: OpenFile) -> Result<u64, AllocError>
-        requires { file.wakeup ≡ None }
+        requires { file.polls.wakeup ≡ None }
         ensures handle { IfOk result (λ handle. handle ≡ free_handle self.old) }
         ensures ok { IfOk result (λ handle. self.new ≡ with_file handle file self.old) }
         ensures err { OnErr result (self.new ≡ self.old) }
@@ -208,20 +225,32 @@ impl OpenFiles {
     }
 
     /// Closes the file of a handle.
-    pub fn close(&mut self, handle: u64)
-        ensures { self.new ≡ without_file handle self.old }
+    pub fn close(&mut self, handle: u64) -> Option<OpenFile>
+        ensures value { result ≡ file_at handle self.old }
+        ensures after { self.new ≡ without_file handle self.old }
     {
-        self.put(handle, None);
+        self.take(handle)
     }
 
-    /// This text is what the reads of the file give.
-    pub fn keep_text(&mut self, handle: u64, text: Text)
-        ensures { self.new ≡ with_text text handle self.old }
+    /// A read of so many bytes at an offset of this text was answered.
+    pub fn note_reading(&mut self, handle: u64, offset: u64, size: u32, text: Text)
+        ensures { self.new ≡ with_reading offset size text handle self.old }
     {
         let Some(file) = self.take(handle) else {
             return;
         };
-        self.put(handle, Some(file.with_text(text)));
+        self.put(handle, Some(file.after_reading(offset, size, text)));
+    }
+
+    /// The text that the reads of the file give was read to its end.
+    pub fn give_back(&mut self, handle: u64)
+        ensures { (offset size : ℕ) (text : List ℕ) → text_at handle self.old ≡ Some text → is_read_out offset size text ≡ true
+            → self.new ≡ with_reading offset size text handle self.old }
+    {
+        let Some(file) = self.take(handle) else {
+            return;
+        };
+        self.put(handle, Some(file.without_text()));
     }
 
     /// Records were taken for a read of the file, whose text this is, and so many bytes of it were given.
@@ -236,7 +265,7 @@ impl OpenFiles {
 
     /// So many bytes more of the records' text were given, if there is one.
     pub fn give(&mut self, handle: u64, count: usize)
-        ensures { self.new ≡ with_change (λ file. record file { text = option_map (drop count) file.text; has_read = true }) handle self.old }
+        ensures { self.new ≡ with_change (λ file. record file { text = option_map (drop count) file.text; has_read = true; polls = armed false file.polls }) handle self.old }
     {
         let Some(file) = self.take(handle) else {
             return;
@@ -244,24 +273,59 @@ impl OpenFiles {
         self.put(handle, Some(file.after_giving(count)));
     }
 
-    /// By this number a poll of the file is to be told that it is ready.
-    pub fn keep_wakeup(&mut self, handle: u64, wakeup: u64)
-        ensures { self.new ≡ with_wakeup (Some wakeup) handle self.old }
+    /// A read of the file found no record: it was told the end, or to come again.
+    pub fn note_dry_read(&mut self, handle: u64, told_end: bool)
+        ensures { self.new ≡ with_dry_read told_end handle self.old }
     {
         let Some(file) = self.take(handle) else {
             return;
         };
-        self.put(handle, Some(file.with_wakeup(Some(wakeup))));
+        self.put(handle, Some(file.after_dry_read(told_end)));
     }
 
-    /// No poll of the file is to be told any more.
-    pub fn forget_wakeup(&mut self, handle: u64)
-        ensures { self.new ≡ with_wakeup None handle self.old }
+    /// A poll of the file asked to be told by this number; it waits for that, or not.
+    pub fn keep_poll(&mut self, handle: u64, wakeup: u64, waits: bool)
+        ensures { self.new ≡ with_poll wakeup waits handle self.old }
     {
         let Some(file) = self.take(handle) else {
             return;
         };
-        self.put(handle, Some(file.with_wakeup(None)));
+        let polls = file.polls().polled_by(wakeup, waits);
+        self.put(handle, Some(file.with_polls(polls)));
+    }
+
+    /// A poll of the file was told.
+    pub fn forget_wakeup(&mut self, handle: u64)
+        ensures { self.new ≡ without_wakeup handle self.old }
+    {
+        let Some(file) = self.take(handle) else {
+            return;
+        };
+        let polls = file.polls().without_wakeup();
+        self.put(handle, Some(file.with_polls(polls)));
+    }
+
+    /// Takes out what is kept of the stream of the file.
+    pub fn take_rest(&mut self, handle: u64) -> Text
+        ensures value { (file : OpenSeen) → file_at handle self.old ≡ Some file → result ≡ file.stream.rest }
+        ensures after { self.new ≡ drop_rest handle self.old }
+    {
+        let Some(mut file) = self.take(handle) else {
+            return Text::new(self.alloc);
+        };
+        let rest = file.take_rest(self.alloc);
+        self.put(handle, Some(file));
+        rest
+    }
+
+    /// This was written to the stream of the file.
+    pub fn keep_stream(&mut self, handle: u64, stream: Stream)
+        ensures { self.new ≡ with_stream stream handle self.old }
+    {
+        let Some(file) = self.take(handle) else {
+            return;
+        };
+        self.put(handle, Some(file.with_stream(stream)));
     }
 
     /// Looks whether a poll of some file is still to be told.

@@ -1,49 +1,37 @@
-//! Writes to `inject`.
+//! Writes to `inject`, and what is left of them where a descriptor or the file is closed: a stream of lines, an event each.
 
-ghost use Rattle.std.specs.Prelude.{◌≡◌, ◌==◌, ◌<◌, ◌≤◌, ◌^◌, ◌∷◌, ◌++◌, [], ℕ, pos, List, Some, Ok, IfOk, IfSome, OnOk, length, position, take, codes};
-ghost use Rattle.std.specs.List.{list_all, list_any, slice_get};
+ghost use Rattle.std.specs.Prelude.{◌≡◌, ◌<◌, ◌≤◌, ◌+◌, ◌-◌, ◌^◌, ◌++◌, ◌&&◌, ◌∷◌, [], ℕ, is_some, List, Some, Ok, IfOk, IfSome, MatchOption, OnOk, length, pos, take, codes};
+ghost use Rattle.std.specs.List.{list_any, slice_get};
 ghost use Rattle.std.specs.Option.{option_map};
 ghost use Rattle.std.specs.Str.{bytes_eq};
-ghost use Rattle.trace_lex.specs.Blanks.{is_blank as is_blank_byte};
+ghost use Rattle.trace_format.specs.Definitions.{Definition};
 ghost use Rattle.trace_format.specs.declared.pair.Pair.{Pair as PairSeen};
 ghost use Rattle.trace_command.specs.Requests.{Request, request_of};
 ghost use Rattle.tracer_specification.specs.Settings.{declared_events};
-ghost use Rattle.mount_replies.specs.Injections.{default_pair, first_line as line_of, injection, left_out, pairs_asked as asked_pairs, pairs_of_line as pairs_of};
-ghost use Rattle.mount_replies.specs.Mounted.{HasLedTo, IsQuiet, IsStep, StepsBy};
-ghost use Rattle.mount_replies.specs.Served.{Asks, inject as injected, written};
+ghost use Rattle.mount_tree.specs.Children.{is_there};
+ghost use Rattle.mount_tree.specs.declared.node.Node.TheVariants as nodes;
+ghost use Rattle.mount_replies.specs.FileWrites as writes;
+ghost use Rattle.mount_replies.specs.Injections.{default_pair, injection, left_out, pairs_asked as asked_pairs, pairs_of_line as pairs_of};
+ghost use Rattle.mount_replies.specs.Mounted.{HasLedTo, IsQuiet, IsStep, service_of, terms_of};
+ghost use Rattle.mount_replies.specs.Services.{OpenSeen, file_at};
+ghost use Rattle.mount_replies.specs.private.LineRuns.{DoesInjection, InjectsTo};
 ghost use Rattle.mount_replies.specs.private.ShortReplies.{IsShort};
+ghost use Rattle.mount_replies.specs.private.Targets.{EndsLine, EndsStream, IsTarget, NotesInjection};
+ghost use Rattle.mount_replies.specs.Lines as lines;
 
-use crate::errno::errno_of;
+use crate::commands::{is_blank, newline_at};
+use crate::fault::{LineFault, Progress, Stop};
 use crate::mount::Mount;
+use crate::noting::{MOST_KEPT, note_injection};
+use crate::stream::Stream;
+use crate::writing::Target;
 use fuse_wire::{Errno, Reply};
+use mount_tree::{File, Node, Owner};
 use std::alloc::{AllocError, Global};
-use trace_command::{Command, Pairs};
+use trace_command::{Command, Pairs, Refusal};
 use trace_format::{EventDef, Field, Pair};
 use trace_lex::Text;
 use trace_script::{Line, LineError, prepare};
-
-/// Where the first newline is.
-fn newline_at(bytes: &[u8]) -> Option<usize>
-    ensures { result ≡ position (λ byte. byte == 10) bytes.now }
-{
-    bytes.iter().position(|byte| *byte == b'\n')
-}
-
-/// What comes before the first newline.
-fn first_line(bytes: &[u8]) -> &[u8]
-    ensures { result.now ≡ line_of bytes.now }
-{
-    match newline_at(bytes) {
-        Some(at) => &bytes[..at],
-        None => bytes,
-    }
-}
-
-fn is_blank(line: &[u8]) -> bool
-    ensures { result ≡ list_all is_blank_byte line.now }
-{
-    line.iter().all(|byte| *byte == b' ' || *byte == b'\t')
-}
 
 /// The pairs that a line asks for.
 fn pairs_asked(line: Line) -> Option<Pairs>
@@ -64,13 +52,10 @@ fn emission_line(alloc: Global, line: &[u8]) -> Result<Vec<u8>, AllocError>
     Ok(text)
 }
 
-/// The pairs of a line, written as after `emit 0 0 e ` in a script; of a blank line none.
+/// The pairs of a line that is not blank, written as after `emit 0 0 e ` in a script.
 fn pairs_of_line(alloc: Global, line: &[u8]) -> Result<Option<Pairs>, AllocError>
     ensures { IfOk result (λ pairs. pairs ≡ pairs_of line.now) }
 {
-    if is_blank(line) {
-        return Ok(Some(Pairs::new(alloc)));
-    }
     let text = emission_line(alloc, line)?;
     match prepare(alloc, &text) {
         Ok(line) => Ok(pairs_asked(line)),
@@ -148,49 +133,318 @@ fn emission(
     }))
 }
 
+/// The bytes of a write with what was kept before them; none, if nothing was.
+fn joined(alloc: Global, kept: &[u8], bytes: &[u8]) -> Result<Option<Vec<u8>>, AllocError>
+    ensures { IfOk result (λ joined. MatchOption joined (kept.now ≡ []) (λ all. all.items ≡ kept.now ++ bytes.now)) }
+{
+    if kept.is_empty() {
+        return Ok(None);
+    }
+    let mut joined = Vec::from_slice(alloc, kept)?;
+    joined.extend_from_slice(bytes)?;
+    Ok(Some(joined))
+}
+
+/// What follows the last newline.
+fn last_piece(bytes: &[u8]) -> &[u8]
+    ensures { result.now ≡ lines.last_piece (lines.pieces_of bytes.now) }
+{
+    let mut rest = bytes;
+    while let Some(at) = newline_at(rest) {
+        rest = &rest[at + 1..];
+    }
+    rest
+}
+
 impl Mount {
-    /// A write to `inject`: the event of its first line.
+    // Does a line, as an event of this process.
+    fn do_injection(&mut self, event: u8, pid: u32, line: &[u8]) -> Result<(), LineFault>
+        ensures { (past : List Request) (own : Definition) → HasLedTo past self.old → slice_get (declared_events past) event ≡ Some own
+            → DoesInjection past self.old self.new (lines.asked_by_line self.old.live.config.cpus pid own line.now) result }
+    {
+        if is_blank(line) {
+            return Ok(());
+        }
+        let cpus = self.live.config().cpus;
+        let Some(own) = self.live.event(usize::from(event)) else {
+            return Err(LineFault::NoCommand);
+        };
+        if cpus == 0 {
+            return Err(LineFault::NoCommand);
+        }
+        match emission(self.alloc, own, pid % cpus, (pid % (1 << 31)) as i32, line) {
+            Ok(Some(command)) => match self.ask(command) {
+                Ok(_) => Ok(()),
+                Err(refusal) => Err(LineFault::Refused(refusal)),
+            },
+            Ok(None) => Err(LineFault::NoCommand),
+            Err(_) => Err(LineFault::Refused(Refusal::Memory)),
+        }
+    }
+
+    // Does the lines that end in a write of so many bytes after so many that were kept, all of which are these.
+    fn do_stream<'a>(
+        &mut self,
+        event: u8,
+        pid: u32,
+        kept: usize,
+        size: usize,
+        bytes: &'a [u8],
+    ) -> Progress<'a>
+        ensures runs { (past : List Request) (own : Definition) → HasLedTo past self.old → slice_get (declared_events past) event ≡ Some own
+            → InjectsTo past self.old self.new
+            (lines.stream_lines (lines.asked_by_line self.old.live.config.cpus pid own) kept size 0 (lines.pieces_of bytes.now)) result }
+        ensures few { result.done ≤ length bytes.now - kept }
+    {
+        let mut rest = bytes;
+        let mut from = 0usize;
+        let mut done = 0usize;
+        while let Some(at) = newline_at(rest) {
+            let line = &rest[..at];
+            if let Err(fault) = self.do_injection(event, pid, line) {
+                return Progress {
+                    done,
+                    stop: Some(Stop { line, fault }),
+                };
+            }
+            from += at + 1;
+            done = from.saturating_sub(kept);
+            rest = &rest[at + 1..];
+        }
+        if rest.len() > MOST_KEPT {
+            return Progress {
+                done,
+                stop: Some(Stop {
+                    line: rest,
+                    fault: LineFault::TooLong,
+                }),
+            };
+        }
+        Progress { done, stop: None }
+    }
+
+    /// WRITE of `inject`.
     pub(crate) fn inject(
         &mut self,
-        handle: u64,
+        target: Target,
+        event: u8,
+        lock_owner: u64,
+        pid: u32,
+        bytes: &[u8],
+    ) -> Reply<'static>
+        requires { length bytes.now < 2 ^ 32 }
+        ensures step { (past : List Request) (own : OpenSeen) → HasLedTo past self.old → file_at target.handle self.old.files ≡ Some own
+            → IsTarget own target → own.file ≡ File.Inject event → IsStep past self.old self.new
+            (writes.inject (terms_of self.old) (service_of past self.old) target.handle lock_owner pid bytes.now own
+            (slice_get (declared_events past) event)) (Some result) }
+        ensures short { IsShort result }
+    {
+        if self.live.event(usize::from(event)).is_none() {
+            return Reply::Error(Errno::ENOENT);
+        }
+        let Some(open_file) = self.files.get(target.handle) else {
+            return Reply::Error(Errno::EBADF);
+        };
+        let stream = open_file.stream();
+        if !stream.is_stream && newline_at(bytes).is_none() {
+            return self.inject_at_once(target, event, pid, bytes);
+        }
+        let kept = stream.rest.as_bytes().len();
+        match joined(self.alloc, stream.rest.as_bytes(), bytes) {
+            Ok(Some(all)) => self.inject_stream(
+                target,
+                event,
+                lock_owner,
+                pid,
+                kept,
+                bytes.len(),
+                &all,
+            ),
+            Ok(None) => self.inject_stream(target, event, lock_owner, pid, 0, bytes.len(), bytes),
+            Err(_) => Reply::Error(Errno::ENOMEM),
+        }
+    }
+
+    // A write that is an event at once.
+    fn inject_at_once(
+        &mut self,
+        target: Target,
         event: u8,
         pid: u32,
         bytes: &[u8],
     ) -> Reply<'static>
         requires { length bytes.now < 2 ^ 32 }
-        ensures step { (past : List Request) → HasLedTo past self.old
-            → IsStep past self.old self.new
-            (injected self.old.live.config.cpus handle pid bytes.now self.old.files (slice_get (declared_events past) event)) (Some result) }
+        ensures step { (past : List Request) (own : OpenSeen) (is : Definition) → HasLedTo past self.old → IsTarget own target
+            → slice_get (declared_events past) event ≡ Some is → IsStep past self.old self.new
+            (writes.inject_at_once (terms_of self.old) (service_of past self.old) pid bytes.now own is) (Some result) }
         ensures short { IsShort result }
     {
-        let line = first_line(bytes);
-        let size = bytes.len().min(line.len() + 1) as u32;
-        let cpus = self.live.config().cpus;
-        let Some(event) = self.live.event(usize::from(event)) else {
-            return Reply::Error(Errno::ENOENT);
-        };
-        if cpus == 0 || pid >= 1 << 31 {
-            return Reply::Error(Errno::EINVAL);
-        }
-        match emission(self.alloc, event, pid % cpus, pid as i32, line) {
-            Ok(Some(command)) => self.ask_injection(handle, command, size),
-            Ok(None) => Reply::Error(Errno::EINVAL),
-            Err(_) => Reply::Error(Errno::ENOMEM),
+        match self.do_injection(event, pid, bytes) {
+            Ok(()) => Reply::Written {
+                size: bytes.len() as u32,
+            },
+            Err(fault) => {
+                let stop = Stop { line: bytes, fault };
+                let told = self.note_injection(target.owner, target.file, event, stop);
+                Reply::Error(told.errno())
+            }
         }
     }
 
-    fn ask_injection(&mut self, handle: u64, command: Command, size: u32) -> Reply<'static>
-        requires { IsQuiet (request_of command) }
-        ensures step { StepsBy self.old self.new
-            (Asks (request_of command) (written handle size self.old.files)) result }
+    // Notes why a line is no event. What is told: that, or that there was no memory to note it.
+    fn note_injection(&mut self, owner: Owner, file: File, event: u8, stop: Stop<'_>) -> LineFault
+        ensures { NotesInjection owner file event self.old self.new stop.entry result }
+    {
+        let Ok(()) = self.begin_note(owner, file) else {
+            return LineFault::Refused(Refusal::Memory);
+        };
+        match self.live.event(usize::from(event)) {
+            Some(own) => note_injection(&mut self.errors, own, stop.line, &stop.fault),
+            None => self.errors.take_back(),
+        }
+        stop.fault
+    }
+
+    // A write of so many bytes to a stream, all of which, with what was kept before them, are these.
+    fn inject_stream(
+        &mut self,
+        target: Target,
+        event: u8,
+        lock_owner: u64,
+        pid: u32,
+        kept: usize,
+        size: usize,
+        bytes: &[u8],
+    ) -> Reply<'static>
+        requires few { size < 2 ^ 32 }
+        requires size { kept + size ≡ length bytes.now }
+        ensures step { (past : List Request) (own : OpenSeen) (is : Definition) (written : List ℕ) → HasLedTo past self.old
+            → file_at target.handle self.old.files ≡ Some own → IsTarget own target → slice_get (declared_events past) event ≡ Some is
+            → bytes.now ≡ own.stream.rest ++ written → kept ≡ length own.stream.rest → size ≡ length written → IsStep past self.old self.new
+            (writes.inject_stream (terms_of self.old) (service_of past self.old) target.handle lock_owner pid written own is) (Some result) }
         ensures short { IsShort result }
     {
-        match self.ask(command) {
-            Ok(_) => {
-                self.files.note_write(handle);
-                Reply::Written { size }
+        let Ok(rest) = Text::from_slice(self.alloc, last_piece(bytes)) else {
+            return Reply::Error(Errno::ENOMEM);
+        };
+        let progress = self.do_stream(event, pid, kept, size, bytes);
+        let after = Stream {
+            is_stream: true,
+            rest,
+            lock_owner,
+            pid,
+        };
+        self.end_stream(target, event, after, size as u32, progress)
+    }
+
+    // Tells how many bytes were written to a stream, or why none were, which is noted.
+    fn end_stream(
+        &mut self,
+        target: Target,
+        event: u8,
+        after: Stream,
+        size: u32,
+        progress: Progress<'_>,
+    ) -> Reply<'static>
+        requires { progress.done < 2 ^ 32 }
+        ensures ends { EndsStream self.old self.new target event after size progress.entry result }
+        ensures short { IsShort result }
+    {
+        let Progress { done, stop } = progress;
+        let Some(stop) = stop else {
+            self.files.keep_stream(target.handle, after);
+            return Reply::Written { size };
+        };
+        if done != 0 {
+            self.files
+                .keep_stream(target.handle, after.without_rest(self.alloc));
+            return Reply::Written { size: done as u32 };
+        }
+        let told = self.note_injection(target.owner, target.file, event, stop);
+        if !told.is_memory() {
+            self.files.take_rest(target.handle);
+        }
+        Reply::Error(told.errno())
+    }
+
+    // Does a line that was kept of a stream, as an event of the process that wrote it, or notes why not.
+    fn end_line(&mut self, owner: Owner, event: u8, pid: u32, line: &[u8]) -> Result<(), LineFault>
+        ensures { (past : List Request) (own : OpenSeen) (is : Definition) → HasLedTo past self.old → own.owner ≡ owner
+            → own.file ≡ File.Inject event → slice_get (declared_events past) event ≡ Some is
+            → EndsLine past self.old self.new own is (lines.asked_by_line self.old.live.config.cpus pid is) line.now result }
+    {
+        if is_blank(line) {
+            return Ok(());
+        }
+        match self.do_injection(event, pid, line) {
+            Ok(()) => Ok(()),
+            Err(fault) => {
+                let stop = Stop { line, fault };
+                Err(self.note_injection(owner, File::Inject(event), event, stop))
             }
-            Err(refusal) => Reply::Error(errno_of(&refusal)),
+        }
+    }
+
+    // Whether the events of an open `inject` can be made: its instance and its event are there.
+    fn can_inject(&self, owner: Owner, event: u8) -> bool
+        ensures { (past : List Request) → HasLedTo past self.now → result ≡
+            is_there self.now.scene (nodes.File owner (File.Inject event)) && is_some (slice_get (declared_events past) event) }
+    {
+        self.scene.exists(Node::File(owner, File::Inject(event)))
+            && self.live.event(usize::from(event)).is_some()
+    }
+
+    /// FLUSH: the line that is kept of a stream ends with the descriptors of who wrote it.
+    pub(crate) fn flush(&mut self, handle: u64, lock_owner: u64) -> Reply<'static>
+        ensures step { (past : List Request) → HasLedTo past self.old → IsStep past self.old self.new
+            (writes.flush_file (terms_of self.old) (service_of past self.old) handle lock_owner (file_at handle self.old.files)) (Some result) }
+        ensures short { IsShort result }
+    {
+        let Some(open_file) = self.files.get(handle) else {
+            return Reply::Done;
+        };
+        let owner = open_file.owner();
+        let stream = open_file.stream();
+        let pid = stream.pid;
+        if stream.rest.as_bytes().is_empty() || stream.lock_owner != lock_owner {
+            return Reply::Done;
+        }
+        let File::Inject(event) = open_file.file() else {
+            return Reply::Error(Errno::ENOENT);
+        };
+        if !self.can_inject(owner, event) {
+            return Reply::Error(Errno::ENOENT);
+        }
+        let line = self.files.take_rest(handle);
+        match self.end_line(owner, event, pid, line.as_bytes()) {
+            Ok(()) => Reply::Done,
+            Err(fault) => Reply::Error(fault.errno()),
+        }
+    }
+
+    /// RELEASE: the line that is kept of a stream ends with its open file.
+    pub(crate) fn release(&mut self, handle: u64) -> Reply<'static>
+        ensures step { (past : List Request) → HasLedTo past self.old → IsStep past self.old self.new
+            (writes.release (terms_of self.old) (service_of past self.old) handle (file_at handle self.old.files)) (Some result) }
+        ensures short { IsShort result }
+    {
+        let Some(open_file) = self.files.close(handle) else {
+            return Reply::Error(Errno::EBADF);
+        };
+        let owner = open_file.owner();
+        let stream = open_file.stream();
+        if stream.rest.as_bytes().is_empty() {
+            return Reply::Done;
+        }
+        let File::Inject(event) = open_file.file() else {
+            return Reply::Done;
+        };
+        if !self.can_inject(owner, event) {
+            return Reply::Done;
+        }
+        match self.end_line(owner, event, stream.pid, stream.rest.as_bytes()) {
+            Ok(()) => Reply::Done,
+            Err(fault) => Reply::Error(fault.errno()),
         }
     }
 }

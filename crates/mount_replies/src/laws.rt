@@ -1,8 +1,8 @@
 //! What reads of a file give, and what a step does. The functions do nothing: their contracts are theorems.
 
-ghost use Rattle.mount_replies.specs.MountLaws.{FirstTextIsKept, NothingLeftIsAll, ReadsGiveParts, ReadsGoOn, StepsDoOneCommandAtMost};
-ghost use Rattle.mount_replies.specs.ParkedLaws.{ClosedReadsTakeNothing, InterruptedReadsTakeNothing, InterruptingAsksNothing, NoPollWaitsForWhatIsThere, NoReadWaitsForWhatIsThere, NoRecordIsLostOrToldTwice, NothingIsOwedToRequests, OldestIsAnsweredFirst, ReadsAreAnsweredOnce, TakenTextIsGivenOrKept, TellingDoesOneCommandAtMost, WaitingAsksNothing};
-ghost use Rattle.mount_replies.specs.PastLaws.{LaterReadsGoOn, PastsAreDone, ReadsShowThePast, StatsShowThePast, WritesAreCommands};
+ghost use Rattle.mount_replies.specs.MountLaws.{CutsDontMatter, FirstTextIsKept, LinesEndAtNewlines, NothingLeftIsAll, OthersFlushNothing, ReadsGiveParts, ReadsGoOn, StepsDoCommands, StreamsLoseNothing};
+ghost use Rattle.mount_replies.specs.ParkedLaws.{ClosedReadsTakeNothing, InterruptedReadsTakeNothing, InterruptingAsksNothing, NoPollWaitsForWhatIsThere, NoReadWaitsForWhatIsThere, NoRecordIsLostOrToldTwice, NothingIsOwedToRequests, OldestIsAnsweredFirst, ParkedReadsArmPolls, ReadsAreAnsweredOnce, ReadsArmPolls, TakenTextIsGivenOrKept, TellingDoesOneCommandAtMost, WaitingAsksNothing};
+ghost use Rattle.mount_replies.specs.PastLaws.{ErrorsAreOfInstances, LaterReadsGoOn, PastsAreDone, ReadsEndWithTheText, ReadsShowThePast, RemovedFilesAreMissing, SizesAreLengths, StatsShowThePast, WritesAreCommands};
 
 /// Reads of a file that go on one after another give together one part of the text that the first of them made, and so from the beginning on what
 /// one read gives.
@@ -13,9 +13,18 @@ pub fn reads_give_one_text()
     ensures all { NothingLeftIsAll }
 {}
 
-/// A request does one command of the tracer at most.
-pub fn requests_do_one_command()
-    ensures { StepsDoOneCommandAtMost }
+/// A request does one command of the tracer at most; a write does one for each of its lines at most.
+pub fn requests_do_commands()
+    ensures { StepsDoCommands }
+{}
+
+/// What is written to an open `inject` that is a stream is its lines, however it is cut into writes, and no byte is lost or done twice; what has not ended
+/// is nobody's but its writer's.
+pub fn streams_are_lines()
+    ensures cuts { CutsDontMatter }
+    ensures whole { StreamsLoseNothing }
+    ensures ends { LinesEndAtNewlines }
+    ensures others { OthersFlushNothing }
 {}
 
 /// Each read is answered once: of whatever was served, the reads that waited and those that were asked are those that were answered and those that wait
@@ -24,11 +33,11 @@ pub fn reads_are_answered_once()
     ensures { ReadsAreAnsweredOnce }
 {}
 
-/// No record is lost, and none goes to two readers, whatever reads wait, are interrupted or lose their file: only a read that is answered takes records,
-/// by one command, and what it took is its reply and what its open file keeps.
+/// Of a pipe that stays open nothing that was taken for its reads is lost or given twice. What is kept for them when it is closed is lost.
 ///
-/// `records`: of each pipe that stays open what was kept and what an exchange took for it is, in order, what the exchange gave of it and what is kept
-/// then.
+/// `records`: what was kept and what an exchange took for it is, in order, what the exchange gave of it and what is kept then. A read that begins to wait,
+/// or is interrupted, asks nothing; one that was interrupted, or that lost its file, takes nothing; what is told asks one command at most; and what a
+/// command took for a read is its reply and what its open file keeps.
 pub fn waiting_loses_nothing()
     ensures records { NoRecordIsLostOrToldTwice }
     ensures waiting { WaitingAsksNothing }
@@ -39,11 +48,18 @@ pub fn waiting_loses_nothing()
     ensures text { TakenTextIsGivenOrKept }
 {}
 
-/// Where something waits, no read does that could take it, and no poll that is to be told of it, whenever a request is answered.
+/// Where something waits, no read does that could take it, and no poll that is to be told of it, whenever a request is answered; but that a pipe ends is
+/// told a poll only if its last read was not told so.
 pub fn no_read_waits_for_what_is_there()
     ensures waits { NoReadWaitsForWhatIsThere }
     ensures polls { NoPollWaitsForWhatIsThere }
     ensures requests { NothingIsOwedToRequests }
+{}
+
+/// After a read of a pipe that was told data, its end or to come again, a poll that ever asked to be told is to be told again: no edge is lost.
+pub fn reads_arm_polls()
+    ensures asked { ReadsArmPolls }
+    ensures parked { ParkedReadsArmPolls }
 {}
 
 /// Of the parked reads that wait no more the oldest is answered first.
@@ -62,9 +78,22 @@ pub fn reads_show_the_past()
     ensures files { ReadsShowThePast }
     ensures stats { StatsShowThePast }
     ensures later { LaterReadsGoOn }
+    ensures ended { ReadsEndWithTheText }
 {}
 
-/// A write to a file of the tracer's own other than `inject` is one command, of what came without a last newline, or is refused with nothing changed.
+/// A write to a file of the tracer's own other than `inject` is one command, of what came without a last newline, or, of several lines to the
+/// declarations or to a trigger, one for each; where the first is refused, nothing has changed but that it is noted.
 pub fn writes_are_commands()
     ensures { WritesAreCommands }
+{}
+
+/// Of an instance that was removed nothing is read, written or noted, and no error is kept.
+pub fn removed_instances_are_gone()
+    ensures files { RemovedFilesAreMissing }
+    ensures errors { ErrorsAreOfInstances }
+{}
+
+/// The size that is told of a file that reads show whole is the length of what it shows then, whatever was served.
+pub fn sizes_are_lengths()
+    ensures { SizesAreLengths }
 {}

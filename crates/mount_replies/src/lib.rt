@@ -2,21 +2,32 @@
 #![tactic(auto)]
 
 mod asking;
+mod commands;
+mod counted;
 mod errno;
+mod fault;
 mod files;
 mod injection;
 pub mod laws;
 mod listing;
 mod mount;
+mod noting;
 mod open_file;
 mod opening;
 mod owed;
 mod parked;
 mod pipes;
+mod polls;
 mod reading;
+mod sizes;
+mod stream;
 mod telling;
 mod told;
 mod writing;
 
-pub use mount::Mount;
+pub use counted::Counted;
+pub use fault::LineFault;
+pub use mount::{Mount, Owners};
 pub use parked::Parked;
+pub use polls::Polls;
+pub use stream::Stream;

@@ -2,11 +2,12 @@
 
 ghost use Rattle.std.specs.Prelude.{◌≡◌, ◌+◌, ◌^◌, ◌<◌, ◌≤◌, ◌⊎◌, ℕ, [], length, true, false, vec_capacity, IfOk, OnOk};
 ghost use Rattle.fuse_wire.specs.Replies.{reply_bytes};
-ghost use Rattle.mount_tree.specs.Children.{children};
+ghost use Rattle.mount_tree.specs.FolderLists.{folder_list};
 ghost use Rattle.mount_replies.specs.Mounted.{most_reply};
+ghost use Rattle.mount_replies.specs.Services.{most_data};
+ghost use Rattle.mount_replies.specs.Told.{dirent_of as listed_entry, listed_from, read_folder as read_folder_reply};
 ghost use Rattle.mount_replies.specs.private.Pushed.{HasPushed};
 ghost use Rattle.mount_tree.specs.FolderEntries.{child_of};
-ghost use Rattle.mount_replies.specs.Told.{dirent_of as listed_entry, listed_from, most_data, read_folder as read_folder_reply};
 
 use crate::mount::Mount;
 use crate::telling::{MOST_DATA, tell, tell_error};
@@ -41,8 +42,8 @@ impl Mount {
     ) -> Result<bool, AllocError>
         requires { index < 2 ^ 33 }
         ensures ended { IfOk result (λ pushed. pushed ≡ false → (data.new.items ≡ data.old.items)
-            × ((room : ℕ) → length data.old.items + room ≡ size → listed_from room index (children self.now.scene folder) ≡ [])) }
-        ensures more { IfOk result (λ pushed. pushed ≡ true → HasPushed data.old.items data.new.items size index (children self.now.scene folder)) }
+            × ((room : ℕ) → length data.old.items + room ≡ size → listed_from room index (folder_list self.now.scene folder) ≡ [])) }
+        ensures more { IfOk result (λ pushed. pushed ≡ true → HasPushed data.old.items data.new.items size index (folder_list self.now.scene folder)) }
     {
         let Some(entry) = self.scene.entry(folder, index as usize) else {
             return Ok(false);
@@ -61,7 +62,7 @@ impl Mount {
         requires first { first ≤ 2 ^ 32 }
         requires size { size ≤ most_data }
         requires empty { data.old.items ≡ [] }
-        ensures entries { OnOk result (data.new.items ≡ listed_from size first (children self.now.scene folder)) }
+        ensures entries { OnOk result (data.new.items ≡ listed_from size first (folder_list self.now.scene folder)) }
         ensures few { OnOk result (length data.new.items ≤ size) }
     {
         for count in 0..MOST_LISTED {

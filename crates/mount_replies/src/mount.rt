@@ -4,14 +4,16 @@ ghost use Rattle.std.specs.Prelude.{◌≡◌, ◌≢◌, ◌≤◌, ℕ, true, 
 ghost use Rattle.trace_command.specs.Configs.{IsInRange};
 ghost use Rattle.trace_command.specs.Requests.{Request as Command};
 ghost use Rattle.trace_command.specs.declared.refusal.Refusal.TheVariants as refusals;
-ghost use Rattle.mount_replies.specs.Mounted.{HasLedTo, IsCalled, IsMounted, IsServed, IsServedBy, IsStep, IsSteppedBy, service_of, terms_of, most_reply};
+ghost use Rattle.mount_replies.specs.Mounted.{HasLedTo, IsCalled, IsMounted, IsServed, IsServedBy, IsStep, IsSteppedBy, most_reply, service_of, terms_of};
 ghost use Rattle.mount_replies.specs.Served.{step_of};
-ghost use Rattle.mount_replies.specs.private.StillReplies.{HasFewBytes, changes, is_change, is_still, still_reply};
 ghost use Rattle.mount_replies.specs.private.ShortReplies.{IsShort};
+ghost use Rattle.mount_replies.specs.private.StillReplies.{HasFewBytes, changes, is_change, is_still, may_owe, still_reply};
 
+use crate::counted::CountedTexts;
 use crate::errno::errno_of_other;
 use crate::files::OpenFiles;
 use crate::parked::{Parked, interrupt, read_of_pipe};
+use crate::reading::is_cached;
 use crate::telling::{tell_short, tell_wrong};
 use crate::told::agree;
 use error_log::ErrorLog;
@@ -22,8 +24,8 @@ use std::marker::Model;
 use trace_command::{Config, Refusal};
 use tracer_without_history::Live;
 
-/// A mounted tracer: the tracer, which folders and files it has, the open files, the reads that wait, the writes that were refused, whether something has
-/// to be told before the next request is answered, and whose the files are.
+/// A mounted tracer: the tracer, which folders and files it has, the open files, the reads that wait, the writes that were refused, the texts that were
+/// counted, whether something has to be told before the next request is answered, whose the files are, and their permissions.
 #[derive(Drop)]
 pub struct Mount {
     pub(crate) alloc: Global,
@@ -32,9 +34,11 @@ pub struct Mount {
     pub(crate) files: OpenFiles,
     pub(crate) parked: Vec<Parked>,
     pub(crate) errors: ErrorLog,
+    pub(crate) counted: CountedTexts,
     pub(crate) owes: bool,
     pub(crate) uid: u32,
     pub(crate) gid: u32,
+    pub(crate) mode: u16,
 }
 
 impl Model for Mount {
@@ -42,7 +46,15 @@ impl Model for Mount {
 
     ghost Value = { MountSeen };
 
-    ghost view = { λ m. record { live = m.live; scene = m.scene; files = m.files; parked = m.parked.items; errors = m.errors; owes = m.owes; uid = m.uid; gid = m.gid } };
+    ghost view = { λ m. record { live = m.live; scene = m.scene; files = m.files; parked = m.parked.items; errors = m.errors; counted = m.counted; owes = m.owes; uid = m.uid; gid = m.gid; mode = m.mode } };
+}
+
+/// Whose the files of a mount are, and their permissions, as far as each can be used at all: those of folders, such as 0o750.
+#[derive(Clone, Copy)]
+pub struct Owners {
+    pub uid: u32,
+    pub gid: u32,
+    pub mode: u16,
 }
 
 // Whether an operation may change something.
@@ -56,19 +68,36 @@ fn changes(operation: &Operation<'_>) -> bool
             | Operation::Open { .. }
             | Operation::Read { .. }
             | Operation::Write { .. }
+            | Operation::Flush { .. }
+            | Operation::Lookup { .. }
+            | Operation::GetAttr
+            | Operation::SetAttr { .. }
             | Operation::Release { .. }
             | Operation::Interrupt { .. }
             | Operation::Poll { .. }
     )
 }
 
+// Whether something may be owed after an operation that was not before. A poll waits only for what is not there.
+fn may_owe(operation: &Operation<'_>) -> bool
+    ensures { result ≡ may_owe operation.now }
+{
+    !matches!(
+        operation,
+        Operation::Lookup { .. }
+            | Operation::GetAttr
+            | Operation::SetAttr { .. }
+            | Operation::Poll { .. }
+    )
+}
+
 impl Mount {
-    /// A tracer that was just mounted: nothing was asked of it, and no file is open. Its files are this user's and this group's. Refused with
-    /// `BadValue` exactly if a number of the configuration is out of range, otherwise only with `Memory`.
-    pub fn new(alloc: Global, config: Config, uid: u32, gid: u32) -> Result<Mount, Refusal>
+    /// A tracer that was just mounted: nothing was asked of it, and no file is open. Its files are these people's. Refused with `BadValue` exactly if a
+    /// number of the configuration is out of range, otherwise only with `Memory`.
+    pub fn new(alloc: Global, config: Config, owners: Owners) -> Result<Mount, Refusal>
         ensures made { IfOk result (λ mount. IsMounted [] mount) }
-        ensures terms { IfOk result (λ mount. terms_of mount ≡ record { config = config; uid = uid; gid = gid }) }
-        ensures closed { IfOk result (λ mount. (mount.files ≡ []) × (mount.parked ≡ []) × (mount.errors ≡ [])) }
+        ensures terms { IfOk result (λ mount. terms_of mount ≡ record { config = config; uid = owners.uid; gid = owners.gid; mode = owners.mode }) }
+        ensures closed { IfOk result (λ mount. (mount.files ≡ []) × (mount.parked ≡ []) × (mount.errors ≡ []) × (mount.counted ≡ [])) }
         ensures nothing_owed { IfOk result (λ mount. mount.owes ≡ false) }
         ensures in_range { OnOk result (IsInRange config) }
         ensures out_of_range { ¬ IsInRange config → IfErr result (λ r. r ≡ refusals.BadValue) }
@@ -82,9 +111,11 @@ impl Mount {
             files: OpenFiles::new(alloc),
             parked: Vec::new(alloc),
             errors: ErrorLog::new(alloc),
+            counted: CountedTexts::new(alloc),
             owes: false,
-            uid,
-            gid,
+            uid: owners.uid,
+            gid: owners.gid,
+            mode: owners.mode,
         })
     }
 
@@ -117,7 +148,11 @@ impl Mount {
             return self.look(request, out);
         }
         self.act(request, out);
-        self.look_for_owed();
+        if may_owe(&request.operation) {
+            self.look_for_owed();
+        } else {
+            self.owes = false;
+        }
     }
 
     // Serves a request that may change something.
@@ -135,10 +170,11 @@ impl Mount {
                 handle,
                 offset,
                 size,
+                read_flags,
                 flags,
             } => {
                 let read = read_of_pipe(request.unique, *handle, *size);
-                self.read(read, *offset, *flags, out);
+                self.read(read, *offset, is_cached(*read_flags), *flags, out);
             }
             Operation::Interrupt { unique } => interrupt(&mut self.parked, *unique),
             operation => {
@@ -187,7 +223,16 @@ impl Mount {
             Operation::MkDir { name } => self.make_folder(node, name.as_slice()),
             Operation::RmDir { name } => self.remove_folder(node, name.as_slice()),
             Operation::Open { flags } => self.open(node, *flags),
-            Operation::Write { handle, bytes, .. } => self.write(*handle, pid, bytes.as_slice()),
+            Operation::Lookup { name } => self.look_up(node, name.as_slice()),
+            Operation::GetAttr => self.get_attributes(node),
+            Operation::SetAttr { valid, size } => self.set_attributes(node, *valid, *size),
+            Operation::Write {
+                handle,
+                lock_owner,
+                bytes,
+                ..
+            } => self.write(*handle, *lock_owner, pid, bytes.as_slice()),
+            Operation::Flush { handle, lock_owner } => self.flush(*handle, *lock_owner),
             Operation::Release { handle } => self.release(*handle),
             Operation::Poll {
                 handle,
@@ -206,9 +251,6 @@ impl Mount {
         ensures short { IsShort result }
     {
         match operation {
-            Operation::Lookup { name } => self.look_up(node, name.as_slice()),
-            Operation::GetAttr => self.get_attributes(node),
-            Operation::SetAttr { valid, size } => self.set_attributes(node, *valid, *size),
             Operation::OpenDir => self.open_folder(node),
             Operation::Access { mask } => self.check_access(node, *mask),
             Operation::Init {
@@ -221,10 +263,7 @@ impl Mount {
                 block_size: 4096,
                 name_length: 255,
             },
-            Operation::Flush { .. }
-            | Operation::Fsync
-            | Operation::ReleaseDir { .. }
-            | Operation::Destroy => Reply::Done,
+            Operation::Fsync | Operation::ReleaseDir { .. } | Operation::Destroy => Reply::Done,
             Operation::Other { opcode } => Reply::Error(errno_of_other(*opcode)),
             _ => Reply::Error(Errno::ENOSYS),
         }

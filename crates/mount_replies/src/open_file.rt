@@ -1,17 +1,22 @@
 //! An open file.
 
-ghost use Rattle.std.specs.Prelude.{◌≡◌, true, false, drop};
+ghost use Rattle.std.specs.Prelude.{◌≡◌, ℕ, List, true, false, drop, length, Some, None};
 ghost use Rattle.std.specs.Option.{option_map};
 ghost use Rattle.trace_command.specs.FileNames.{bytes_now};
 ghost use Rattle.mount_replies.specs.Pipes.{is_used_up};
-ghost use Rattle.mount_replies.specs.Services.{just_opened};
+ghost use Rattle.mount_replies.specs.Services.{after_reading, armed, is_read_out, just_opened, without_rest};
 
+use crate::polls::Polls;
+use crate::stream::Stream;
+use crate::telling::MOST_DATA;
 use mount_tree::{File, Owner};
+use std::alloc::Global;
 use std::marker::Model;
 use trace_lex::Text;
 
 /// An open file: whose it is and which, whether it was opened to be emptied and nothing was written yet, and the text that its reads give, of which
-/// so many bytes were given and won't be again; of a pipe also whether a read gave records, and the number by which a poll is to be told.
+/// so many bytes were given and won't be again, or the length of one that was read to its end; of a pipe also whether a read gave records, and its polls;
+/// of `inject` what was written.
 #[derive(Drop)]
 pub struct OpenFile {
     owner: Owner,
@@ -19,8 +24,17 @@ pub struct OpenFile {
     starts_over: bool,
     text: Option<Text>,
     given: usize,
+    ended: Option<u64>,
     has_read: bool,
-    wakeup: Option<u64>,
+    polls: Polls,
+    stream: Stream,
+}
+
+/// Whether a read of so many bytes at an offset comes to the end of a text.
+pub(crate) fn is_read_out(offset: u64, size: u32, text: &[u8]) -> bool
+    ensures { result ≡ is_read_out offset size text.now }
+{
+    text.len() as u64 <= offset || text.len() as u64 - offset <= u64::from(size.min(MOST_DATA))
 }
 
 impl Model for OpenFile {
@@ -30,14 +44,14 @@ impl Model for OpenFile {
 
     ghost Value = { OpenSeen };
 
-    ghost view = { λ f. record { owner = f.owner; file = f.file; starts_over = f.starts_over; text = option_map (drop f.given) f.text; has_read = f.has_read; wakeup = f.wakeup } };
+    ghost view = { λ f. record { owner = f.owner; file = f.file; starts_over = f.starts_over; text = option_map (drop f.given) f.text; ended = f.ended; has_read = f.has_read; polls = f.polls; stream = f.stream } };
 
     ghost invariant = { λ f. f.given ≤ length (unwrap_or f.text []) };
 }
 
 impl OpenFile {
     /// One that was just opened.
-    pub fn new(owner: Owner, file: File, starts_over: bool) -> OpenFile
+    pub fn new(alloc: Global, owner: Owner, file: File, starts_over: bool) -> OpenFile
         ensures { result ≡ just_opened owner file starts_over }
     {
         OpenFile {
@@ -46,8 +60,10 @@ impl OpenFile {
             starts_over,
             text: None,
             given: 0,
+            ended: None,
             has_read: false,
-            wakeup: None,
+            polls: Polls::new(),
+            stream: Stream::new(alloc),
         }
     }
 
@@ -99,40 +115,83 @@ impl OpenFile {
         }
     }
 
-    /// The number by which a poll is to be told that it is ready, if one is.
-    pub fn wakeup(&self) -> Option<u64>
-        ensures { result ≡ self.now.wakeup }
+    /// How long the text was that was read to its end, if one was.
+    pub fn ended(&self) -> Option<u64>
+        ensures { result ≡ self.now.ended }
     {
-        self.wakeup
+        self.ended
     }
 
-    /// With another text.
-    pub fn with_text(mut self, text: Text) -> OpenFile
-        ensures { result ≡ record self { text = Some text } }
+    /// Its polls.
+    pub fn polls(&self) -> Polls
+        ensures { result ≡ self.now.polls }
     {
-        self.text = Some(text);
+        self.polls
+    }
+
+    /// What was written to it, if it is `inject`.
+    pub fn stream(&self) -> &Stream
+        ensures { result.now ≡ self.now.stream }
+    {
+        &self.stream
+    }
+
+    /// After a read of so many bytes at an offset of this text, which later reads go on in, unless that came to its end.
+    pub fn after_reading(mut self, offset: u64, size: u32, text: Text) -> OpenFile
+        ensures { result ≡ after_reading offset size text self }
+    {
         self.given = 0;
+        if is_read_out(offset, size, text.as_bytes()) {
+            self.ended = Some(text.as_bytes().len() as u64);
+            self.text = None;
+        } else {
+            self.ended = None;
+            self.text = Some(text);
+        }
+        self
+    }
+
+    /// After its text was read to its end: only the length is kept.
+    pub fn without_text(mut self) -> OpenFile
+        ensures none { self.text ≡ None → result ≡ self }
+        ensures some { (text : List ℕ) → self.text ≡ Some text → result ≡ record self { text = None; ended = Some (length text) } }
+    {
+        if let Some(text) = &self.text {
+            self.ended = Some((text.as_bytes().len() - self.given) as u64);
+            self.text = None;
+            self.given = 0;
+        }
         self
     }
 
     /// With records that were taken, of whose text so many bytes were given.
     pub fn with_records(mut self, text: Text, given: usize) -> OpenFile
-        ensures { result ≡ record self { text = Some (drop given text); has_read = true } }
+        ensures { result ≡ record self { text = Some (drop given text); has_read = true; polls = armed false self.polls } }
     {
         self.given = given.min(text.as_bytes().len());
         self.text = Some(text);
         self.has_read = true;
+        self.polls = self.polls.armed(false);
         self
     }
 
     /// Without the first bytes of its text, which a read gave.
     pub fn after_giving(mut self, count: usize) -> OpenFile
-        ensures { result ≡ record self { text = option_map (drop count) self.text; has_read = true } }
+        ensures { result ≡ record self { text = option_map (drop count) self.text; has_read = true; polls = armed false self.polls } }
     {
         if let Some(text) = &self.text {
             self.given += count.min(text.as_bytes().len() - self.given);
         }
         self.has_read = true;
+        self.polls = self.polls.armed(false);
+        self
+    }
+
+    /// After a read that found no record: it was told the end, or to come again.
+    pub fn after_dry_read(mut self, told_end: bool) -> OpenFile
+        ensures { result ≡ record self { polls = armed told_end self.polls } }
+    {
+        self.polls = self.polls.armed(told_end);
         self
     }
 
@@ -144,11 +203,27 @@ impl OpenFile {
         self
     }
 
-    /// With another number by which a poll is to be told, or none.
-    pub fn with_wakeup(mut self, wakeup: Option<u64>) -> OpenFile
-        ensures { result ≡ record self { wakeup = wakeup } }
+    /// With other polls.
+    pub fn with_polls(mut self, polls: Polls) -> OpenFile
+        ensures { result ≡ record self { polls = polls } }
     {
-        self.wakeup = wakeup;
+        self.polls = polls;
+        self
+    }
+
+    /// Takes out what is kept of its stream.
+    pub fn take_rest(&mut self, alloc: Global) -> Text
+        ensures value { result ≡ self.old.stream.rest }
+        ensures after { self.new ≡ record self.old { stream = without_rest self.old.stream } }
+    {
+        self.stream.take_rest(alloc)
+    }
+
+    /// With another stream.
+    pub fn with_stream(mut self, stream: Stream) -> OpenFile
+        ensures { result ≡ record self { stream = stream } }
+    {
+        self.stream = stream;
         self
     }
 }

@@ -1,15 +1,17 @@
-//! Open files: their beginning and their end.
+//! Open files: their beginning and their end, and polls of them.
 
-ghost use Rattle.std.specs.Prelude.{◌≡◌, true, List, Some};
+ghost use Rattle.std.specs.Prelude.{◌≡◌, true, false, List, Some};
 ghost use Rattle.trace_command.specs.Requests.{Request};
+ghost use Rattle.tracer_specification.specs.Settings.{now_of};
 ghost use Rattle.mount_tree.specs.declared.node.Node.TheVariants as nodes;
 ghost use Rattle.mount_replies.specs.Mounted.{HasLedTo, IsStep, StepsBy, service_of, terms_of};
-ghost use Rattle.mount_replies.specs.Served.{Clears, clears as cleared_by, handed_out, disables as disabled_by, disabling, emptied, open_flags as flags_of, opened, poll_file, poll_pipe as polled, release as released};
-ghost use Rattle.mount_replies.specs.Services.{OpenSeen, file_at, just_opened};
+ghost use Rattle.mount_replies.specs.Served.{clears as cleared_by, emptied, emptying_of, handed_out, open_flags as flags_of, opened, poll_file, poll_pipe as polled};
+ghost use Rattle.mount_replies.specs.Services.{file_at, just_opened};
+ghost use Rattle.mount_replies.specs.Steps.{Forgets, Tells};
 ghost use Rattle.mount_replies.specs.Told.{empties, known};
+ghost use Rattle.mount_replies.specs.private.Emptyings.{Empties};
 ghost use Rattle.mount_replies.specs.private.ShortReplies.{IsShort};
 
-use crate::errno::{errno_of, errno_of_refused};
 use crate::mount::Mount;
 use crate::open_file::OpenFile;
 use crate::told::{empties, may_open};
@@ -17,24 +19,39 @@ use fuse_wire::{Errno, Reply};
 use mount_tree::{File, FileKind, Node, Owner, ToolFile};
 use trace_command::TopFile;
 
-/// The flags that a file is opened with: a kernel asks for each read, whatever the size, and a pipe has no places and several reads at once.
+/// The flags that a file is opened with: a kernel asks for each read, whatever the size, and a pipe has no places and several reads at once. Only of
+/// `inject` it tells that a descriptor is closed.
 fn open_flags(kind: FileKind) -> u32
     ensures { result ≡ flags_of kind }
 {
     match kind {
-        FileKind::Pipe => 21,
-        FileKind::Text | FileKind::Trace | FileKind::Inject | FileKind::Tool | FileKind::ErrorLog =>
-            1,
+        FileKind::Pipe => 53,
+        FileKind::Inject => 1,
+        FileKind::Text | FileKind::Trace | FileKind::Tool | FileKind::ErrorLog => 33,
     }
 }
 
-/// Whether opening a file so disables all events: `set_event`, to be emptied.
-fn disables(file: File, flags: u32) -> bool
-    ensures { result ≡ disabled_by file flags }
+/// What opening a file to be emptied asks: to write this to this file of the same instance.
+#[derive(Clone, Copy)]
+struct Emptying {
+    file: File,
+    text: &'static [u8],
+}
+
+/// What opening a file asks, if it is to be emptied and that asks something.
+fn emptying_of(file: File, flags: u32) -> Option<Emptying>
+    ensures { Empties (emptying_of file (empties flags)) result }
 {
-    match file {
-        File::Tool(ToolFile::SetEvent) => empties(flags),
-        _ => false,
+    if !empties(flags) {
+        return None;
+    }
+    match (file, file.kind()) {
+        (_, FileKind::Trace) => Some(Emptying { file, text: b"" }),
+        (File::Tool(ToolFile::SetEvent), _) => Some(Emptying {
+            file: File::OfInstance(TopFile::EventsEnable),
+            text: b"0",
+        }),
+        _ => None,
     }
 }
 
@@ -51,7 +68,8 @@ fn clears(file: File, flags: u32) -> bool
 impl Mount {
     /// OPEN.
     pub(crate) fn open(&mut self, node: Option<Node>, flags: u32) -> Reply<'static>
-        ensures step { StepsBy self.old self.new (opened self.old.scene flags (known self.old.scene node) self.old.files) result }
+        ensures step { (past : List Request) → HasLedTo past self.old
+            → IsStep past self.old self.new (opened self.old.scene (now_of past) flags (known self.old.scene node) self.old.files) (Some result) }
         ensures short { IsShort result }
     {
         match self.known(node) {
@@ -63,19 +81,20 @@ impl Mount {
 
     // OPEN of a file that is there.
     fn open_file(&mut self, owner: Owner, file: File, flags: u32) -> Reply<'static>
-        ensures step { StepsBy self.old self.new (opened self.old.scene flags (Some (nodes.File owner file)) self.old.files) result }
+        ensures step { (past : List Request) → HasLedTo past self.old
+            → IsStep past self.old self.new (opened self.old.scene (now_of past) flags (Some (nodes.File owner file)) self.old.files) (Some result) }
         ensures short { IsShort result }
     {
         if !may_open(file, flags) {
             return Reply::Error(Errno::EACCES);
         }
-        if disables(file, flags) {
-            return self.open_disabling(owner, file);
+        if let Some(emptying) = emptying_of(file, flags) {
+            return self.open_emptied(owner, file, emptying);
         }
         if clears(file, flags) {
             return self.open_clearing(owner, file, flags);
         }
-        let open_file = OpenFile::new(owner, file, empties(flags));
+        let open_file = OpenFile::new(self.alloc, owner, file, empties(flags));
         match self.files.open(open_file) {
             Ok(handle) => Reply::Opened {
                 handle,
@@ -88,10 +107,10 @@ impl Mount {
     // OPEN of `error_log` to be emptied.
     fn open_clearing(&mut self, owner: Owner, file: File, flags: u32) -> Reply<'static>
         ensures step { StepsBy self.old self.new
-            (Clears owner true (handed_out (just_opened owner file (empties flags)) self.old.files)) result }
+            (Tells (Forgets owner) true (handed_out (just_opened owner file (empties flags)) self.old.files)) result }
         ensures short { IsShort result }
     {
-        let open_file = OpenFile::new(owner, file, empties(flags));
+        let open_file = OpenFile::new(self.alloc, owner, file, empties(flags));
         match self.files.open(open_file) {
             Ok(handle) => {
                 self.errors.clear(owner);
@@ -104,24 +123,26 @@ impl Mount {
         }
     }
 
-    // OPEN of `set_event` to be emptied. It has its handle, which takes memory, before all events are disabled, and gives it back if they aren't.
-    fn open_disabling(&mut self, owner: Owner, file: File) -> Reply<'static>
-        ensures step { StepsBy self.old self.new (disabling self.old.scene (just_opened owner file true) self.old.files) result }
+    // OPEN of a file to be emptied, which asks to write something. It has its handle, which takes memory, before that is asked, and gives it back if that is
+    // refused.
+    fn open_emptied(&mut self, owner: Owner, file: File, emptying: Emptying) -> Reply<'static>
+        ensures step { (past : List Request) → HasLedTo past self.old → IsStep past self.old self.new
+            (emptied self.old.scene (now_of past) (just_opened owner file false) self.old.files emptying.file emptying.text.now) (Some result) }
         ensures short { IsShort result }
     {
         let count = self.files.count();
-        let Ok(handle) = self.files.open(OpenFile::new(owner, file, true)) else {
+        let open_file = OpenFile::new(self.alloc, owner, file, false);
+        let Ok(handle) = self.files.open(open_file) else {
             return Reply::Error(Errno::ENOMEM);
         };
-        let switch = File::OfInstance(TopFile::EventsEnable);
-        match self.ask_write(owner, switch, false, b"0".as_slice()) {
-            Ok(_) => Reply::Opened {
+        match self.ask_noted(owner, file, emptying.file, emptying.text, b"", 0) {
+            Ok(()) => Reply::Opened {
                 handle,
                 flags: open_flags(file.kind()),
             },
-            Err(refusal) => {
+            Err(errno) => {
                 self.files.take_back(handle, count);
-                Reply::Error(errno_of_refused(refusal))
+                Reply::Error(errno)
             }
         }
     }
@@ -153,45 +174,11 @@ impl Mount {
         ensures step { StepsBy self.old self.new (polled waits handle wakeup flags self.old.files) result }
         ensures short { IsShort result }
     {
-        if !waits {
-            return Reply::Poll { events: 65 };
-        }
         if flags % 2 == 1 {
-            self.files.keep_wakeup(handle, wakeup);
+            self.files.keep_poll(handle, wakeup, waits);
         }
-        Reply::Poll { events: 0 }
-    }
-
-    /// RELEASE: a trace that was opened to be emptied, and that nothing was written to, is emptied.
-    pub(crate) fn release(&mut self, handle: u64) -> Reply<'static>
-        ensures step { StepsBy self.old self.new
-            (released self.old.scene handle self.old.files (file_at handle self.old.files)) result }
-        ensures short { IsShort result }
-    {
-        let Some(open_file) = self.files.get(handle) else {
-            return Reply::Error(Errno::EBADF);
-        };
-        let owner = open_file.owner();
-        let file = open_file.file();
-        if open_file.starts_over() && file.kind() == FileKind::Trace {
-            return self.empty_at_end(handle, owner, file);
-        }
-        self.files.close(handle);
-        Reply::Done
-    }
-
-    // Empties a trace, and ends its open file.
-    #[tactic(auto, unfolding(crate::specs::Served::emptied))]
-    fn empty_at_end(&mut self, handle: u64, owner: Owner, file: File) -> Reply<'static>
-        ensures step { StepsBy self.old self.new
-            (emptied self.old.scene handle (nodes.File owner file) self.old.files) result }
-        ensures short { IsShort result }
-    {
-        let answer = self.ask_write(owner, file, false, &[]);
-        self.files.close(handle);
-        match answer {
-            Ok(_) => Reply::Done,
-            Err(refusal) => Reply::Error(errno_of(&refusal)),
+        Reply::Poll {
+            events: if waits { 0 } else { 65 },
         }
     }
 }

@@ -38,13 +38,13 @@ impl Mount {
         None
     }
 
-    // Whether a poll of the file of this handle is to be told, and the file is ready.
+    // Whether a poll of the file of this handle is to be told, and there is something to tell.
     fn is_ready(&self, handle: u64) -> bool
         ensures { (past : List Request) → HasLedTo past self.now
             → result ≡ is_ready (terms_of self.now) (service_of past self.now) (file_at handle self.now.files) }
     {
         match self.files.get(handle) {
-            Some(file) => file.wakeup().is_some() && !self.would_wait(file),
+            Some(file) => file.polls().wakeup.is_some() && self.has_news(file),
             None => false,
         }
     }
@@ -110,8 +110,9 @@ impl Mount {
         let read = self.parked.remove(index);
         if read.interrupted {
             tell_error(read.unique, Errno::EINTR, out);
+            self.files.note_dry_read(read.handle, false);
         } else {
-            self.read(read, 0, 0, out);
+            self.read(read, 0, false, 0, out);
         }
     }
 

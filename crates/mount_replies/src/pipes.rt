@@ -9,7 +9,7 @@ ghost use Rattle.tracer_without_history.specs.Lives.{IsLive};
 ghost use Rattle.mount_tree.specs.Children.{owner_is_there};
 ghost use Rattle.mount_tree.specs.NodePaths.{owner_name};
 ghost use Rattle.mount_replies.specs.Mounted.{HasLedTo, service_of, terms_of};
-ghost use Rattle.mount_replies.specs.Pipes.{is_dry, is_no, waits_at, would_wait};
+ghost use Rattle.mount_replies.specs.Pipes.{has_news, is_dry, is_no, waits_at, would_wait};
 ghost use Rattle.mount_replies.specs.Services.{file_at};
 ghost use Rattle.mount_replies.specs.private.Looks.{pipe_in};
 
@@ -94,6 +94,20 @@ impl Mount {
         match self.dry_pipe(file.owner(), file.file()) {
             Some(tracing) => tracing || !file.has_read(),
             None => false,
+        }
+    }
+
+    /// Whether something is there for a poll of an open file that is to be told.
+    pub(crate) fn has_news(&self, file: &OpenFile) -> bool
+        ensures { (past : List Request) → HasLedTo past self.now
+            → result ≡ has_news (terms_of self.now) (service_of past self.now) file.now }
+    {
+        if !file.is_used_up() {
+            return true;
+        }
+        match self.dry_pipe(file.owner(), file.file()) {
+            Some(tracing) => file.has_read() && !tracing && !file.polls().told_end,
+            None => true,
         }
     }
 

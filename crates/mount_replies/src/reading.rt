@@ -9,16 +9,19 @@ ghost use Rattle.mount_tree.specs.declared.node.Node.TheVariants as nodes;
 ghost use Rattle.error_log.specs.Logs.{log_text};
 ghost use Rattle.mount_stub_files.specs.ToolTexts.{tool_text};
 ghost use Rattle.mount_replies.specs.Mounted.{HasLedTo, IsTold, TellsBy, most_reply, service_of, terms_of};
-ghost use Rattle.mount_replies.specs.Served.{Parks, Plain, given_records, given_tool, is_nonblocking as nonblocking, part_of, read_anew as anew, read_dry as dry_step, read_file, read_pipe as pipe_step, read_records as taking, records_for as records, text_in as text_of};
-ghost use Rattle.mount_replies.specs.Services.{OpenSeen, file_at, text_at, with_text};
-ghost use Rattle.mount_replies.specs.private.TextReads.{text_made, text_read};
+ghost use Rattle.mount_replies.specs.Served.{given_records, given_tool, is_cached as of_page_cache, is_nonblocking as nonblocking, part_of, read_anew as anew, read_dry as dry_step, read_file, read_pipe as pipe_step, read_records as taking, records_for as records};
+ghost use Rattle.mount_replies.specs.Services.{OpenSeen, file_at, text_at, with_reading};
+ghost use Rattle.mount_replies.specs.Sizes.{text_in as text_of};
+ghost use Rattle.mount_replies.specs.Steps.{Parks, Plain};
+ghost use Rattle.mount_replies.specs.private.TextReads.{cached_read, text_made, text_read};
 
 use crate::errno::errno_of;
 use crate::mount::Mount;
+use crate::open_file::is_read_out;
 use crate::parked::{Parked, add};
 use crate::telling::{MOST_DATA, tell_error, tell_part};
 use fuse_wire::Errno;
-use mount_tree::{File, FileKind, Owner};
+use mount_tree::{File, FileKind, Node, Owner};
 use std::alloc::Global;
 use trace_command::Reply as Answer;
 use trace_lex::Text;
@@ -50,13 +53,27 @@ fn is_nonblocking(flags: u32) -> bool
     flags / 2048 % 2 == 1
 }
 
+/// Whether a READ with these flags is the page cache's (no FUSE_READ_LOCKOWNER).
+pub(crate) fn is_cached(read_flags: u32) -> bool
+    ensures { result ≡ of_page_cache read_flags }
+{
+    read_flags / 2 % 2 != 1
+}
+
 impl Mount {
-    /// READ, or a read that was parked.
-    pub(crate) fn read(&mut self, read: Parked, offset: u64, flags: u32, out: &mut Vec<u8>)
+    /// READ, or a read that was parked. `cached`: it is the page cache's.
+    pub(crate) fn read(
+        &mut self,
+        read: Parked,
+        offset: u64,
+        cached: bool,
+        flags: u32,
+        out: &mut Vec<u8>,
+    )
         requires room { most_reply ≤ vec_capacity out.old }
         requires empty { out.old.items ≡ [] }
         ensures told { (past : List Request) → HasLedTo past self.old → IsTold past self.old self.new
-            (read_file (terms_of self.old) (service_of past self.old) read offset flags (file_at read.handle self.old.files)) read.unique out.new.items }
+            (read_file (terms_of self.old) (service_of past self.old) read offset cached flags (file_at read.handle self.old.files)) read.unique out.new.items }
         ensures capacity { vec_capacity out.old ≤ vec_capacity out.new }
     {
         let Some(open_file) = self.files.get(read.handle) else {
@@ -64,13 +81,45 @@ impl Mount {
         };
         let owner = open_file.owner();
         let file = open_file.file();
+        if !self.scene.exists(Node::File(owner, file)) {
+            return tell_error(read.unique, Errno::ENOENT, out);
+        }
         match file.kind() {
+            FileKind::Pipe if cached => tell_error(read.unique, Errno::EINVAL, out),
             FileKind::Pipe => {
                 let has_read = open_file.has_read();
                 self.read_pipe(read, flags, owner, file, has_read, out);
             }
             FileKind::Inject => tell_error(read.unique, Errno::EACCES, out),
+            _ if cached => self.read_cached(read, owner, file, offset, out),
             _ => self.read_text(read, owner, file, offset, out),
+        }
+    }
+
+    // READ by the page cache of a file that is no pipe: of the text that was counted, if there is one.
+    fn read_cached(
+        &mut self,
+        read: Parked,
+        owner: Owner,
+        file: File,
+        offset: u64,
+        out: &mut Vec<u8>,
+    )
+        requires room { most_reply ≤ vec_capacity out.old }
+        ensures told { (past : List Request) (own : OpenSeen) → HasLedTo past self.old → file_at read.handle self.old.files ≡ Some own
+            → own.owner ≡ owner → own.file ≡ file → IsTold past self.old self.new
+            (cached_read (terms_of self.old) (service_of past self.old) self.old.scene read offset own) read.unique out.new.items }
+        ensures capacity { vec_capacity out.old ≤ vec_capacity out.new }
+    {
+        if offset != 0 {
+            return self.read_text(read, owner, file, offset, out);
+        }
+        match self.counted.text(Node::File(owner, file).number()) {
+            Some(text) => match text.clone() {
+                Ok(text) => self.give_text(read, text, 0, out),
+                Err(_) => tell_error(read.unique, Errno::ENOMEM, out),
+            },
+            None => self.read_text(read, owner, file, offset, out),
         }
     }
 
@@ -82,13 +131,20 @@ impl Mount {
             (text_read (terms_of self.old) (service_of past self.old) self.old.scene read offset own) read.unique out.new.items }
         ensures capacity { vec_capacity out.old ≤ vec_capacity out.new }
     {
-        if offset == 0 {
-            return self.make_text(read, owner, file, offset, out);
+        if offset != 0 {
+            if let Some(text) = self.files.text(read.handle) {
+                let is_read_out = is_read_out(offset, read.size, text);
+                tell_part(read.unique, text, offset, read.size, out);
+                if is_read_out {
+                    self.files.give_back(read.handle);
+                }
+                return;
+            }
+            if !self.files.is_before_end(read.handle, offset) {
+                return tell_part(read.unique, &[], offset, read.size, out);
+            }
         }
-        match self.files.text(read.handle) {
-            Some(text) => tell_part(read.unique, text, offset, read.size, out),
-            None => self.make_text(read, owner, file, offset, out),
-        }
+        self.make_text(read, owner, file, offset, out);
     }
 
     // Makes the text of a file that is no pipe.
@@ -152,12 +208,13 @@ impl Mount {
     // Gives a part of a text that was just made, in which later reads go on.
     fn give_text(&mut self, read: Parked, text: Text, offset: u64, out: &mut Vec<u8>)
         requires room { most_reply ≤ vec_capacity out.old }
-        ensures kept { self.new ≡ record self.old { files = with_text text read.handle self.old.files } }
+        ensures kept { self.new ≡ record self.old { files = with_reading offset read.size text read.handle self.old.files } }
         ensures bytes { out.new.items ≡ reply_bytes read.unique (replies.Data (part_of offset read.size text)) }
         ensures capacity { vec_capacity out.old ≤ vec_capacity out.new }
     {
         tell_part(read.unique, text.as_bytes(), offset, read.size, out);
-        self.files.keep_text(read.handle, text);
+        self.files
+            .note_reading(read.handle, offset, read.size, text);
     }
 
     // READ of a pipe.
@@ -199,8 +256,10 @@ impl Mount {
     {
         if ends {
             tell_part(read.unique, &[], 0, 0, out);
+            self.files.note_dry_read(read.handle, true);
         } else if is_nonblocking(flags) {
             tell_error(read.unique, Errno::EAGAIN, out);
+            self.files.note_dry_read(read.handle, false);
         } else {
             self.park(read, out);
         }

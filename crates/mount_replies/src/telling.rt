@@ -2,11 +2,10 @@
 
 ghost use Rattle.std.specs.Prelude.{◌≡◌, ◌+◌, ◌≤◌, [], ◌++◌, length, min, drop, vec_capacity, OnOk};
 ghost use Rattle.fuse_wire.specs.Replies.{reply_bytes, reply_size, wakeup_bytes, IsSendable};
-ghost use Rattle.mount_tree.specs.Children.{children};
 ghost use Rattle.mount_replies.specs.Mounted.{most_reply, wrong_reply};
-ghost use Rattle.mount_replies.specs.private.ShortReplies.{IsShort};
 ghost use Rattle.mount_replies.specs.Served.{part_of as part_of_text};
-ghost use Rattle.mount_replies.specs.Told.{listed_from, most_data};
+ghost use Rattle.mount_replies.specs.Services.{most_data};
+ghost use Rattle.mount_replies.specs.private.ShortReplies.{IsShort};
 
 use fuse_wire::{Bytes, DirectoryEntry, Errno, Reply, encode, encode_wakeup, has_reply};
 use mount_tree::Node;

@@ -2,9 +2,9 @@
 
 ghost use Rattle.std.specs.Prelude.{◌≡◌};
 ghost use Rattle.mount_replies.specs.Mounted.{terms_of};
+ghost use Rattle.mount_replies.specs.private.ShortReplies.{IsShort};
 ghost use Rattle.mount_tree.specs.FileKinds.{access_of_file};
 ghost use Rattle.mount_replies.specs.Told as told;
-ghost use Rattle.mount_replies.specs.private.ShortReplies.{IsShort};
 
 use crate::mount::Mount;
 use file_list::Access;
@@ -21,12 +21,12 @@ pub(crate) fn kind_of_node(node: Node) -> FileKind
     }
 }
 
-/// Its permission bits.
+/// The permissions that it can have at most.
 fn permissions_of(node: Node) -> u16
     ensures { result ≡ told.permissions_of node }
 {
     match node {
-        Node::Folder(_, _) => 0o750,
+        Node::Folder(_, _) => 0o777,
         Node::File(_, file) => file_permissions(file.access()),
     }
 }
@@ -35,9 +35,9 @@ fn file_permissions(access: Access) -> u16
     ensures { result ≡ told.file_permissions access }
 {
     match access {
-        Access::Read => 0o440,
-        Access::Write => 0o200,
-        Access::Both => 0o640,
+        Access::Read => 0o444,
+        Access::Write => 0o222,
+        Access::Both => 0o666,
     }
 }
 
@@ -128,56 +128,21 @@ impl Mount {
         }
     }
 
-    /// The attributes of a node.
-    pub(crate) fn attributes_of(&self, node: Node) -> Attributes
-        ensures { result ≡ told.attributes_of (terms_of self.now) node }
+    /// The attributes of a node of this size.
+    #[inline(always)]
+    pub(crate) fn attributes_of(&self, node: Node, size: u64) -> Attributes
+        ensures { result ≡ told.attributes_of (terms_of self.now) node size }
     {
         Attributes {
             node: node.number(),
-            size: 0,
+            size,
             kind: kind_of_node(node),
-            permissions: permissions_of(node),
+            permissions: self.mode & permissions_of(node),
             links: 1,
             uid: self.uid,
             gid: self.gid,
             block_size: 4096,
         }
-    }
-
-    /// LOOKUP: the node of this name in a folder.
-    pub(crate) fn look_up(&self, folder: Option<Node>, name: &[u8]) -> Reply<'static>
-        ensures reply { result ≡ told.look_up (terms_of self.now) self.now.scene folder name.now }
-        ensures short { IsShort result }
-    {
-        let Some(folder) = folder else {
-            return Reply::Error(Errno::ENOENT);
-        };
-        match self.scene.lookup(folder, name) {
-            Some(node) => Reply::Entry(self.attributes_of(node)),
-            None => Reply::Error(Errno::ENOENT),
-        }
-    }
-
-    /// GETATTR.
-    pub(crate) fn get_attributes(&self, node: Option<Node>) -> Reply<'static>
-        ensures reply { result ≡ told.get_attributes (terms_of self.now) self.now.scene node }
-        ensures short { IsShort result }
-    {
-        match self.known(node) {
-            Some(node) => Reply::Attributes(self.attributes_of(node)),
-            None => Reply::Error(Errno::ENOENT),
-        }
-    }
-
-    /// SETATTR: nothing is set, and no size but 0 is accepted.
-    pub(crate) fn set_attributes(&self, node: Option<Node>, valid: u32, size: u64) -> Reply<'static>
-        ensures reply { result ≡ told.set_attributes (terms_of self.now) self.now.scene node valid size }
-        ensures short { IsShort result }
-    {
-        if valid / 8 % 2 == 1 && size != 0 {
-            return Reply::Error(Errno::EINVAL);
-        }
-        self.get_attributes(node)
     }
 
     /// OPENDIR: a folder has no handle.

@@ -3,47 +3,31 @@
 ghost use Rattle.std.specs.Prelude.{◌≡◌, ◌<◌, ◌^◌, ◌++◌, ◌∷◌, [], List, Some, length};
 ghost use Rattle.trace_command.specs.Requests.{Request};
 ghost use Rattle.tracer_specification.specs.Settings.{now_of};
-ghost use Rattle.error_log.specs.Errors.{ErrorSeen};
 ghost use Rattle.mount_tree.specs.FileKinds.{kind_of_file};
-ghost use Rattle.mount_tree.specs.declared.node.Node.TheVariants as nodes;
 ghost use Rattle.mount_stub_files.specs.ToolWrites.{tool_write};
-ghost use Rattle.mount_replies.specs.Errnos.{errno_of as errno_is};
+ghost use Rattle.mount_replies.specs.FileWrites.{switch_text as text_of_switch, write_file, write_log as log_step, write_other as other_step, write_same, write_switch as switch_step, write_text as text_step, write_tool as tool_step};
 ghost use Rattle.mount_replies.specs.Mounted.{HasLedTo, IsStep, StepsBy, service_of, terms_of};
-ghost use Rattle.mount_replies.specs.Served.{errors_after, forgotten, make_folder as making, make_instance as making_instance, noted_refusal, remove_folder as removing, remove_instance, switch_text as text_of_switch, without_newline, write_file, write_log as log_step, write_other as other_step, write_same, write_switch as switch_step, write_text as text_step, write_tool as tool_step};
-ghost use Rattle.mount_replies.specs.Services.{file_at};
+ghost use Rattle.mount_replies.specs.Served.{make_folder as making, make_instance as making_instance, remove_folder as removing, remove_instance};
+ghost use Rattle.mount_replies.specs.Services.{OpenSeen, file_at};
 ghost use Rattle.mount_replies.specs.Told.{known};
 ghost use Rattle.mount_replies.specs.private.ShortReplies.{IsShort};
+ghost use Rattle.mount_replies.specs.private.Targets.{EndsCommands, IsTarget};
 
 use crate::errno::errno_of;
+use crate::fault::Progress;
 use crate::mount::Mount;
-use error_log::ErrorLog;
+use crate::noting::{forget, note_command, note_wrong};
 use fuse_wire::{Errno, Reply};
-use mount_stub_files::{ToolWrite, write_of};
+use mount_stub_files::{ToolWrite, write_of, wrong_offset};
 use mount_tree::{File, FileKind, Folder, Node, Owner};
-use refusal_explanations::{write_offset, write_words};
-use trace_command::Refusal;
 
 /// An open file that is written to: its handle, whose it is and which, and whether a write appends.
 #[derive(Clone, Copy)]
-struct Target {
-    handle: u64,
-    owner: Owner,
-    file: File,
-    append: bool,
-}
-
-/// What is written, without a last newline.
-fn without_newline(bytes: &[u8]) -> &[u8]
-    ensures { result.now ≡ without_newline bytes.now }
-{
-    let Some(last) = bytes.len().checked_sub(1) else {
-        return bytes;
-    };
-    if bytes[last] == b'\n' {
-        &bytes[..last]
-    } else {
-        bytes
-    }
+pub(crate) struct Target {
+    pub(crate) handle: u64,
+    pub(crate) owner: Owner,
+    pub(crate) file: File,
+    pub(crate) append: bool,
 }
 
 /// What is written to a switch.
@@ -53,78 +37,43 @@ fn switch_text(on: bool) -> &'static [u8]
     if on { b"1" } else { b"0" }
 }
 
-/// What was noted last was refused so.
-fn note_refusal(errors: &mut ErrorLog, path: &[u8], text: &[u8], refusal: &Refusal)
-    ensures { (before : List ErrorSeen) (error : ErrorSeen) → errors.old ≡ before ++ error ∷ []
-        → errors.new ≡ errors_after (noted_refusal error path.now text.now refusal.now) before }
-{
-    match refusal {
-        Refusal::Memory => errors.take_back(),
-        refusal => {
-            let words = write_words(path, text, refusal);
-            errors.finish(words, write_offset(path, text, refusal));
-        }
-    }
-}
-
-/// The error that is replied.
-fn refuse(errors: &mut ErrorLog, path: &[u8], text: &[u8], refusal: Refusal) -> Errno
-    ensures noted { (before : List ErrorSeen) (error : ErrorSeen) → errors.old ≡ before ++ error ∷ []
-        → errors.new ≡ errors_after (noted_refusal error path.now text.now refusal) before }
-    ensures errno { result ≡ errno_is refusal }
-{
-    note_refusal(errors, path, text, &refusal);
-    errno_of(&refusal)
-}
-
-/// Forgets the errors of an instance, by its folder.
-fn forget(errors: &mut ErrorLog, folder: Option<Node>)
-    ensures { errors.new ≡ errors_after (forgotten folder) errors.old }
-{
-    if let Some(Node::Folder(owner, _)) = folder {
-        errors.clear(owner);
-    }
-}
-
 impl Mount {
     /// WRITE.
-    pub(crate) fn write(&mut self, handle: u64, pid: u32, bytes: &[u8]) -> Reply<'static>
+    pub(crate) fn write(
+        &mut self,
+        handle: u64,
+        lock_owner: u64,
+        pid: u32,
+        bytes: &[u8],
+    ) -> Reply<'static>
         requires { length bytes.now < 2 ^ 32 }
-        ensures step { (past : List Request) → HasLedTo past self.old
-            → IsStep past self.old self.new (write_file (terms_of self.old) (service_of past self.old) handle pid bytes.now (file_at handle self.old.files)) (Some result) }
+        ensures step { (past : List Request) → HasLedTo past self.old → IsStep past self.old self.new
+            (write_file (terms_of self.old) (service_of past self.old) handle lock_owner pid bytes.now (file_at handle self.old.files)) (Some result) }
         ensures short { IsShort result }
     {
         let Some(open_file) = self.files.get(handle) else {
             return Reply::Error(Errno::EBADF);
         };
-        let owner = open_file.owner();
-        let file = open_file.file();
-        let append = !open_file.starts_over();
-        match file {
-            File::Inject(event) => {
-                if !self.scene.exists(Node::File(owner, file)) {
-                    return Reply::Error(Errno::ENOENT);
-                }
-                self.inject(handle, event, pid, bytes)
-            }
-            _ => {
-                let target = Target {
-                    handle,
-                    owner,
-                    file,
-                    append,
-                };
-                self.write_other(target, bytes)
-            }
+        let target = Target {
+            handle,
+            owner: open_file.owner(),
+            file: open_file.file(),
+            append: !open_file.starts_over(),
+        };
+        if !self.scene.exists(Node::File(target.owner, target.file)) {
+            return Reply::Error(Errno::ENOENT);
+        }
+        match target.file {
+            File::Inject(event) => self.inject(target, event, lock_owner, pid, bytes),
+            _ => self.write_other(target, bytes),
         }
     }
 
     // WRITE of a file other than `inject`.
     fn write_other(&mut self, target: Target, bytes: &[u8]) -> Reply<'static>
         requires { length bytes.now < 2 ^ 32 }
-        ensures step { (past : List Request) → HasLedTo past self.old → IsStep past self.old self.new
-            (other_step self.old.live.config self.old.scene (now_of past) target.handle target.owner target.file target.append bytes.now self.old.files
-            (kind_of_file target.file)) (Some result) }
+        ensures step { (past : List Request) (own : OpenSeen) → HasLedTo past self.old → IsTarget own target → IsStep past self.old self.new
+            (other_step (terms_of self.old) (service_of past self.old) target.handle own bytes.now (kind_of_file target.file)) (Some result) }
         ensures short { IsShort result }
     {
         match target.file.kind() {
@@ -151,7 +100,8 @@ impl Mount {
     // A write to `error_log`: the errors of its instance are forgotten.
     fn write_log(&mut self, handle: u64, owner: Owner, bytes: &[u8]) -> Reply<'static>
         requires { length bytes.now < 2 ^ 32 }
-        ensures step { StepsBy self.old self.new (log_step handle owner (length bytes.now) self.old.files) result }
+        ensures step { (past : List Request) (own : OpenSeen) → HasLedTo past self.old → own.owner ≡ owner
+            → IsStep past self.old self.new (log_step (service_of past self.old) handle own bytes.now) (Some result) }
         ensures short { IsShort result }
     {
         self.errors.clear(owner);
@@ -164,74 +114,118 @@ impl Mount {
     // WRITE of a file that tools ask for.
     fn write_tool(&mut self, target: Target, bytes: &[u8]) -> Reply<'static>
         requires { length bytes.now < 2 ^ 32 }
-        ensures step { StepsBy self.old self.new (tool_step self.old.scene target.handle target.owner (length bytes.now) self.old.files
-            (tool_write self.old.live.config self.old.scene target.owner target.file bytes.now)) result }
+        ensures step { (past : List Request) (own : OpenSeen) → HasLedTo past self.old → IsTarget own target → IsStep past self.old self.new
+            (tool_step (terms_of self.old) (service_of past self.old) target.handle own bytes.now
+            (tool_write self.old.live.config self.old.scene target.owner target.file bytes.now)) (Some result) }
         ensures short { IsShort result }
     {
-        let Target { handle, owner, .. } = target;
-        match write_of(self.live.config(), &self.scene, owner, target.file, bytes) {
+        let Target { owner, file, .. } = target;
+        match write_of(self.live.config(), &self.scene, owner, file, bytes) {
             ToolWrite::Missing => Reply::Error(Errno::ENOENT),
-            ToolWrite::Wrong => Reply::Error(Errno::EINVAL),
-            ToolWrite::Same => self.write_nothing(handle, bytes),
-            ToolWrite::Switch { file, on, size } => {
-                self.write_switch(handle, owner, file, on, size as u32)
-            }
+            ToolWrite::Wrong => self.refuse_wrong(owner, file, bytes),
+            ToolWrite::Same => self.write_nothing(target.handle, bytes),
+            ToolWrite::Switch {
+                file: switch,
+                on,
+                size,
+            } => self.write_switch(target, switch, on, size as u32, bytes),
         }
+    }
+
+    // Refuses what a file can't be set to.
+    fn refuse_wrong(&mut self, owner: Owner, file: File, bytes: &[u8]) -> Reply<'static>
+        ensures step { (past : List Request) (own : OpenSeen) → HasLedTo past self.old → own.owner ≡ owner → own.file ≡ file
+            → IsStep past self.old self.new
+            (tool_step (terms_of self.old) (service_of past self.old) 0 own bytes.now ToolWrite.Wrong) (Some result) }
+        ensures short { IsShort result }
+    {
+        let Ok(()) = self.begin_note(owner, file) else {
+            return Reply::Error(Errno::ENOMEM);
+        };
+        note_wrong(&mut self.errors, file, bytes);
+        Reply::Error(Errno::EINVAL)
     }
 
     // Writes to a switch what does so many bytes.
     fn write_switch(
         &mut self,
-        handle: u64,
-        owner: Owner,
-        file: File,
+        target: Target,
+        switch: File,
         on: bool,
         size: u32,
+        bytes: &[u8],
     ) -> Reply<'static>
-        ensures step { StepsBy self.old self.new
-            (switch_step self.old.scene handle (nodes.File owner file) on size self.old.files) result }
+        ensures step { (past : List Request) (own : OpenSeen) → HasLedTo past self.old → IsTarget own target → IsStep past self.old self.new
+            (switch_step (terms_of self.old) (service_of past self.old) target.handle own bytes.now switch on size) (Some result) }
         ensures short { IsShort result }
     {
-        match self.ask_write(owner, file, false, switch_text(on)) {
-            Ok(_) => {
-                self.files.note_write(handle);
+        let at = wrong_offset(bytes);
+        match self.ask_noted(
+            target.owner,
+            target.file,
+            switch,
+            switch_text(on),
+            bytes,
+            at,
+        ) {
+            Ok(()) => {
+                self.files.note_write(target.handle);
                 Reply::Written { size }
             }
-            Err(refusal) => Reply::Error(errno_of(&refusal)),
+            Err(errno) => Reply::Error(errno),
         }
     }
 
     // WRITE of a file that the tracer has.
     fn write_text(&mut self, target: Target, bytes: &[u8]) -> Reply<'static>
         requires { length bytes.now < 2 ^ 32 }
-        ensures step { (past : List Request) → HasLedTo past self.old → IsStep past self.old self.new (text_step self.old.scene (now_of past)
-            target.handle target.owner target.file target.append bytes.now self.old.files) (Some result) }
+        ensures step { (past : List Request) (own : OpenSeen) → HasLedTo past self.old → IsTarget own target → IsStep past self.old self.new
+            (text_step (terms_of self.old) (service_of past self.old) target.handle own bytes.now) (Some result) }
         ensures short { IsShort result }
     {
-        let Target {
-            handle,
-            owner,
-            file,
-            append,
-        } = target;
-        let text = without_newline(bytes);
-        let Ok(path) = self.path_of(owner, file) else {
+        let Target { owner, file, .. } = target;
+        let Ok(text) = self.path_of(owner, file) else {
             return Reply::Error(Errno::ENOMEM);
         };
+        let path = text.as_bytes();
         let time = self.live.now();
-        let Ok(()) = self.errors.begin(owner, time, path.as_bytes(), text) else {
+        let Ok(()) = self.errors.begin(owner, time, path) else {
             return Reply::Error(Errno::ENOMEM);
         };
-        match self.ask_write(owner, file, append, text) {
-            Ok(_) => {
+        let progress = self.do_commands(file, path, target.append, bytes);
+        self.end_commands(target, path, bytes.len() as u32, progress)
+    }
+
+    // Tells how many bytes were written of lines that are commands, or why none were, which is noted.
+    fn end_commands(
+        &mut self,
+        target: Target,
+        path: &[u8],
+        size: u32,
+        progress: Progress<'_>,
+    ) -> Reply<'static>
+        requires { progress.done < 2 ^ 32 }
+        ensures ends { EndsCommands self.old self.new target path.now size progress.entry result }
+        ensures short { IsShort result }
+    {
+        match progress.stop {
+            Some(stop) if progress.done == 0 => {
+                note_command(&mut self.errors, path, target.file, stop.line, &stop.fault);
+                Reply::Error(stop.fault.errno())
+            }
+            Some(_) => {
                 self.errors.take_back();
-                self.files.note_write(handle);
+                self.files.note_write(target.handle);
                 Reply::Written {
-                    size: bytes.len() as u32,
+                    size: progress.done as u32,
                 }
             }
-            Err(refusal) => {
-                Reply::Error(refuse(&mut self.errors, path.as_bytes(), text, refusal))
+            None => {
+                self.errors.take_back();
+                if progress.done > 0 {
+                    self.files.note_write(target.handle);
+                }
+                Reply::Written { size }
             }
         }
     }
@@ -260,7 +254,7 @@ impl Mount {
         match self.ask_mkdir(name) {
             Ok(_) => {
                 let node = Node::Folder(Owner::Made(serial), Folder::Root);
-                Reply::Entry(self.attributes_of(node))
+                Reply::Entry(self.attributes_of(node, 0))
             }
             Err(refusal) => Reply::Error(errno_of(&refusal)),
         }

@@ -11,8 +11,8 @@ use Rattle.fuse_serve.specs.Framing.{IsRequest}
 use Rattle.fuse_serve.specs.declared.fault.Ended.TheVariants.{AtEnd}
 use Rattle.mount_service.specs.TracerServices.{IsServing, has_destroy, owes_after}
 use Rattle.mount_replies.specs.Mounted.{Serves}
-use Rattle.mount_replies.specs.Services.{Service, Terms}
 use Rattle.mount_replies.specs.PastLaws.{just_mounted}
+use Rattle.mount_replies.specs.Services.{Service, Terms}
 
 -- a count that stayed 0
 none_counted : (count old new : ℕ) → HasRisenBy count old new → old ≡ 0 → new ≡ 0 → count ≡ 0

@@ -12,8 +12,8 @@ use Rattle.mount_tree.specs.declared.file.File.{File}
 use Rattle.mount_tree.specs.declared.file.File.TheVariants as files
 use Rattle.mount_tree.specs.declared.node.Node.TheVariants as nodes
 use Rattle.mount_service.specs.RecordLaws.{ServicesAreAccountedFor, StatsTellAllRecords, live_stats}
-use Rattle.mount_replies.specs.Services.{OpenSeen, Service, Terms, node_of, scene_of}
 use Rattle.mount_replies.specs.PastLaws.{PastsAreDone, ReadsAnew, StatsShowThePast, instance_of, read_whole}
+use Rattle.mount_replies.specs.Services.{OpenSeen, Service, Terms, node_of, scene_of}
 
 pub accounted_for : EmissionsAreAccountedFor → EmissionsAreShownOrCounted → PastsAreDone → ServicesAreAccountedFor
 accounted_for all shown pasts g old new exchanges left after serving = record {
@@ -41,9 +41,9 @@ unfolding cpu_stats_text
 stats-are g s file cpu = refl
 
 pub tell_all : ShownCountsAccountForEmissions → StatsShowThePast → StatsTellAllRecords
-tell_all shown stats g requests messages before after request bytes handle size flags cpu file ranges served is asks opened is_stats there unemptied unexchanged = (
+tell_all shown stats g requests messages before after request bytes handle size read_flags flags cpu file ranges served is asks direct opened is_stats there unemptied unexchanged = (
   live_stats g (instance_of g before file) cpu before.past,
   subst (λ (text : List ℕ). ReadsAnew g before (read_whole (instance_of g before file) (paths.OfCpu cpu per_cpu.Stats)) request.unique handle size text bytes after) (stats-are g before file cpu)
-      (stats g requests messages before after request bytes handle size flags cpu file ranges served is asks opened is_stats there),
+      (stats g requests messages before after request bytes handle size read_flags flags cpu file ranges served is asks direct opened is_stats there),
   shown g.config before.past (instance_of g before file) cpu (cpu-there g before file cpu is_stats there) unemptied unexchanged,
 )

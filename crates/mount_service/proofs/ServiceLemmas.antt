@@ -19,8 +19,8 @@ use Rattle.trace_command.specs.Requests.{Request}
 use Rattle.trace_command.specs.declared.refusal.Refusal.{Refusal}
 use Rattle.trace_command.specs.declared.refusal.Refusal.TheVariants as refusals
 use Rattle.mount_replies.specs.Mounted.{IsExchanged, IsMounted, MountSeen, Serves, service_of, terms_of}
-use Rattle.mount_replies.specs.Services.{Service, Terms}
 use Rattle.mount_replies.specs.PastLaws.{just_mounted}
+use Rattle.mount_replies.specs.Services.{Service, Terms}
 
 abbrev pub ends : MountServer → Bool
 ends server = server.is_destroyed
@@ -97,12 +97,13 @@ answered g past before (one ∷ more) after mounted terms h =
 
 -- what a service came to, from a tracer that was just mounted
 pub is_served : (g : Terms) (result : Result Ended Fault) (before after : MountServer) (old new : Devices) (exchanges : List Exchange) (left : List ℕ)
-    → IsMounted [] before.mount → terms_of before.mount ≡ g → before.mount.files ≡ [] → before.mount.parked ≡ [] → before.mount.errors ≡ [] → before.is_destroyed ≡ false
+    → IsMounted [] before.mount → terms_of before.mount ≡ g → before.mount.files ≡ [] → before.mount.parked ≡ [] → before.mount.errors ≡ [] → before.mount.counted ≡ []
+    → before.is_destroyed ≡ false
     → HasServed Answers ends owes before after old new exchanges left → EndsAs result after.is_destroyed after.mount.owes old new exchanges left
     → IsServed g result old new
-is_served g result before after old new exchanges left mounted terms closed unparked unrefused begun h ended =
+is_served g result before after old new exchanges left mounted terms closed unparked unrefused uncounted begun h ended =
     let all = answered g [] before exchanges after mounted terms h.answered in
-    let first : service_of [] before.mount ≡ just_mounted = rw (closed, unparked, unrefused) refl in (
+    let first : service_of [] before.mount ≡ just_mounted = rw (closed, unparked, unrefused, uncounted) refl in (
       exchanges,
       left,
       all.last,

@@ -19,8 +19,9 @@ use Rattle.mount_tree.specs.Children.{is_there}
 use Rattle.mount_tree.specs.declared.file.File.TheVariants as files
 use Rattle.mount_service.specs.TracerServices.{IsServing}
 use Rattle.mount_replies.specs.Mounted.{IsServed, Serves}
-use Rattle.mount_replies.specs.Services.{OpenSeen, Service, Terms, file_at, node_of, scene_of}
 use Rattle.mount_replies.specs.PastLaws.{ReadsAnew, instance_of, just_mounted, read_whole}
+use Rattle.mount_replies.specs.Served.{is_cached}
+use Rattle.mount_replies.specs.Services.{OpenSeen, Service, Terms, file_at, node_of, scene_of}
 
 -- the counts of a CPU's ring of the side that is live, and of the other side's
 abbrev pub live_stats : Terms → Option (List ℕ) → ℕ → List Request → RingStats
@@ -45,13 +46,14 @@ ServicesAreAccountedFor =
     (g : Terms) (old new : Devices) (exchanges : List Exchange) (left : List ℕ) (after : Service) → IsServing g old new exchanges left after
     → IsAccountedFor g after.past
 
--- A READ of `stats` from its beginning, whatever was served before it: the counts that it shows are together the records that the instance recorded on
--- the CPU by then, if its ring was not emptied and no snapshot taken.
+-- A READ of `stats` from its beginning, other than the page cache's, whatever was served before it: the counts that it shows are together the records
+-- that the instance recorded on the CPU by then, if its ring was not emptied and no snapshot taken.
 abbrev pub StatsTellAllRecords : Type 0
 StatsTellAllRecords =
-    (g : Terms) (requests messages : List (List ℕ)) (before after : Service) (request : Asked) (bytes : List ℕ) (handle size flags cpu : ℕ) (file : OpenSeen)
+    (g : Terms) (requests messages : List (List ℕ)) (before after : Service) (request : Asked) (bytes : List ℕ) (handle size read_flags flags cpu : ℕ) (file : OpenSeen)
     → IsInRange g.config → Serves g just_mounted requests messages before → IsServed g before request bytes after
-    → request.operation ≡ operations.Read handle 0 size flags → file_at handle before.files ≡ Some file → file.file ≡ files.OfCpu cpu per_cpu.Stats
+    → request.operation ≡ operations.Read handle 0 size read_flags flags → is_cached read_flags ≡ false → file_at handle before.files ≡ Some file
+    → file.file ≡ files.OfCpu cpu per_cpu.Stats
     → is_there (scene_of g before) (node_of file) ≡ true → was_emptied (instance_of g before file) cpu before.past ≡ false
     → exchange_count (instance_of g before file) before.past ≡ 0
     → (stats : RingStats)

@@ -7,8 +7,8 @@ use Rattle.fuse_serve.specs.Framing.{IsRequest}
 use Rattle.fuse_serve.specs.declared.fault.Ended.TheVariants.{AtEnd}
 use Rattle.mount_service.specs.TracerServices.{IsServing, has_destroy, owes_after}
 use Rattle.mount_replies.specs.Mounted.{Serves}
-use Rattle.mount_replies.specs.Services.{Service, Terms}
 use Rattle.mount_replies.specs.PastLaws.{just_mounted}
+use Rattle.mount_replies.specs.Services.{Service, Terms}
 
 -- If a reader has whole requests to give, and the service found its end, then a tracer that was just mounted served exactly these, and told in between
 -- what it owed; and a writer to which no write failed by ENOENT got exactly the replies and what was owed.

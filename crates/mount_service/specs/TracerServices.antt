@@ -16,8 +16,8 @@ use Rattle.trace_command.specs.declared.refusal.Refusal.{Refusal}
 use Rattle.trace_command.specs.declared.refusal.Refusal.TheVariants as refusals
 use Rattle.mount_replies.specs.Mounted.{Serves}
 use Rattle.mount_replies.specs.Owed.{owed}
-use Rattle.mount_replies.specs.Services.{Service, Terms}
 use Rattle.mount_replies.specs.PastLaws.{just_mounted}
+use Rattle.mount_replies.specs.Services.{Service, Terms}
 
 -- what a tracer that can't be made is told as
 abbrev pub failure_of : Refusal → Failure

@@ -11,7 +11,7 @@ pub fn known_bytes_are_served()
 
 /// Whatever was served, the tracer's commands were done, one after another; and as long as nothing empties a ring of a CPU, the records that pipes
 /// handed out, that are kept, and that were overwritten or refused are together all that were recorded there. The counts that a `stats` file shows,
-/// when it is read from its beginning, are together all that were recorded by then, until a snapshot is taken.
+/// when a program reads it from its beginning, and not the page cache for it, are together all that were recorded by then, until a snapshot is taken.
 pub fn records_are_accounted_for()
     ensures services { ServicesAreAccountedFor }
     ensures stats { StatsTellAllRecords }

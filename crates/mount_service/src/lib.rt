@@ -8,4 +8,5 @@ mod mount_server;
 mod service;
 
 pub use failure::Failure;
+pub use mount_replies::Owners;
 pub use service::serve_tracer;

@@ -8,22 +8,20 @@ ghost use Rattle.trace_command.specs.Configs.{IsInRange};
 use crate::failure::{Failure, failure_of};
 use crate::mount_server::MountServer;
 use fuse_serve::{Ended, Fault, Incoming, Outgoing, serve};
-use mount_replies::Mount;
+use mount_replies::{Mount, Owners};
 use std::alloc::Global;
 use trace_command::Config;
 
 /// Mounts a tracer and serves it: reads requests, does each and writes its reply, until the input ends, the device is gone, a DESTROY was answered,
-/// or a fault stops it. What is owed, as the reply of a read that waited, is written before the next request is done. The files are this user's and
-/// this group's.
+/// or a fault stops it. What is owed, as the reply of a read that waited, is written before the next request is done. The files are these people's.
 pub fn serve_tracer<R: Incoming, W: Outgoing>(
     alloc: Global,
     config: Config,
-    uid: u32,
-    gid: u32,
+    owners: Owners,
     reader: &mut R,
     writer: &mut W,
 ) -> Result<Ended, Failure>
-    ensures service { HasBeenServed (record { config = config; uid = uid; gid = gid }) result
+    ensures service { HasBeenServed (record { config = config; uid = owners.uid; gid = owners.gid; mode = owners.mode }) result
         (devices (R.remaining reader.old) (R.log reader.old) (W.contents writer.old) (W.offers writer.old) (W.log writer.old))
         (devices (R.remaining reader.new) (R.log reader.new) (W.contents writer.new) (W.offers writer.new) (W.log writer.new)) }
     ensures out_of_range { ¬ IsInRange config → result ≡ Err Failure.BadValue }
@@ -32,7 +30,7 @@ pub fn serve_tracer<R: Incoming, W: Outgoing>(
     ensures memory { result ≡ Err (Failure.Stopped Fault.Memory)
         → (reader.new ≡ reader.old) × (writer.new ≡ writer.old) }
 {
-    let mount = match Mount::new(alloc, config, uid, gid) {
+    let mount = match Mount::new(alloc, config, owners) {
         Ok(mount) => mount,
         Err(refusal) => return Err(failure_of(&refusal)),
     };

@@ -2,4 +2,5 @@ pub mod Words
 pub mod EventWords
 pub mod ToolTexts
 pub mod ToolWrites
+pub mod WrongWords
 pub mod private

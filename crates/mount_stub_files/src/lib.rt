@@ -5,6 +5,8 @@ mod config;
 mod text;
 mod word;
 mod write;
+mod wrong;
 
 pub use text::text_of;
 pub use write::{ToolWrite, write_of};
+pub use wrong::{wrong_offset, wrong_words};

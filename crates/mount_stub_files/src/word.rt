@@ -12,7 +12,7 @@ fn is_space(byte: u8) -> bool
 }
 
 /// How many spaces come first.
-fn spaces_len(bytes: &[u8]) -> usize
+pub(crate) fn spaces_len(bytes: &[u8]) -> usize
     ensures value { result ≡ prefix_len words.is_space bytes.now }
     ensures bound { result ≤ length bytes.now }
 {

@@ -3,10 +3,12 @@ use Rattle.std.proofs.Common.{◌≡◌, ℕ, zero, suc, ◌≤◌, Bool, true, 
 use Rattle.std.specs.List.{AllByRecursion, IsDistinct, find}
 use Rattle.std.specs.Fmt.{digits}
 use Rattle.std.specs.Str.{bytes_eq}
-use Rattle.std.proofs.lemmas.Bool.{not-true, or_parts}
-use Rattle.std.proofs.lemmas.Map.Keys.{IsDistinct-cons}
+use Rattle.std.proofs.lemmas.Bool.{false≢true, not-true, or_parts}
+use Rattle.std.proofs.lemmas.Map.Keys.{IsDistinct-cons, IsDistinct-tail}
 use Rattle.std.proofs.lemmas.Slice.Eq.{bytes_eq-Decides}
+use Rattle.trace_lex.specs.Names.{is_name}
 use Rattle.mount_tree.specs.Children.{Child, children, cpu_children, cpu_name, event_child, fixed_children, instance_child, is_there, made_children, node_named}
+use Rattle.mount_tree.specs.FolderLists.{dots, folder_list}
 use Rattle.mount_tree.specs.Scenes.{SceneSeen, has_folder}
 use Rattle.mount_tree.specs.TreeLaws.{IsSound}
 use Rattle.mount_tree.specs.declared.folder.Folder.{Folder}
@@ -22,9 +24,13 @@ use Rattle.mount_tree.proofs.ListLemmas.{all-weaker, are_apart, distinct_by, sel
 abbrev names_of : List Child → List (List ℕ)
 names_of entries = map (λ (c : Child). c.name) entries
 
+-- `.` and `..` beside other names
+abbrev with_dots : List (List ℕ) → List (List ℕ)
+with_dots names = codes "." ∷ codes ".." ∷ names
+
 -- ---- CPUs
 
-cpus_apart : (owner : Owner) (cpus : ℕ) → cpus ≤ 8 → are_apart (names_of (cpu_children owner cpus)) ≡ true
+cpus_apart : (owner : Owner) (cpus : ℕ) → cpus ≤ 8 → are_apart (with_dots (names_of (cpu_children owner cpus))) ≡ true
 unfolding cpu_name digits
 cpus_apart owner zero few = refl
 cpus_apart owner (suc zero) few = refl
@@ -64,6 +70,25 @@ not_filter : (name : List ℕ) → has_folder name ≡ true → bytes_eq (codes 
 not_filter name has =
     flips name (codes "filter") (or_parts (bytes_eq name (codes "enable")) (bytes_eq name (codes "filter")) (not-true _ has)).1
 
+-- no name has a dot
+no_dots : (dotted name : List ℕ) → is_name dotted ≡ false → is_name name ≡ true → bytes_eq dotted name ≡ false
+no_dots dotted name none is = by (bytes_eq dotted name) refl
+  where
+    by : (b : Bool) → bytes_eq dotted name ≡ b → b ≡ false
+    by false differs = refl
+    by true same =
+        absurd (false≢true (sym none ∙ subst (λ (n : List ℕ). is_name n ≡ true) (sym ((bytes_eq-Decides dotted name).0 same)) is))
+
+all_dotless : {X : Type 0} (name_of : X → List ℕ) (xs : List X) (dotted : List ℕ) → is_name dotted ≡ false
+    → AllByRecursion (λ x. is_name (name_of x) ≡ true) xs → AllByRecursion (λ name. bytes_eq dotted name ≡ false) (map name_of xs)
+all_dotless name_of [] dotted none all = tt
+all_dotless name_of (x ∷ xs) dotted none all = (no_dots dotted (name_of x) none all.0, all_dotless name_of xs dotted none all.1)
+
+dots_distinct : (names : List (List ℕ)) → AllByRecursion (λ name. bytes_eq (codes ".") name ≡ false) names
+    → AllByRecursion (λ name. bytes_eq (codes "..") name ≡ false) names → IsDistinct bytes_eq names → IsDistinct bytes_eq (with_dots names)
+dots_distinct names one two distinct =
+    IsDistinct-cons bytes_eq (codes ".") (codes ".." ∷ names) (refl, one) (IsDistinct-cons bytes_eq (codes "..") names two distinct)
+
 each_name : (Q : List ℕ → Type 0) (events : List Event) → AllByRecursion (λ (e : Event). has_folder e.name ≡ true) events
     → ((name : List ℕ) → has_folder name ≡ true → Q name) → AllByRecursion Q (map (λ (e : Event). e.name) events)
 each_name Q [] all holds = tt
@@ -82,7 +107,7 @@ system_distinct events folders_are distinct =
 -- ---- all folders
 
 folder_distinct : (scene : SceneSeen) (owner : Owner) (folder : Folder) → IsSound scene
-    → IsDistinct bytes_eq (names_of (fixed_children owner folder ++ made_children scene owner folder))
+    → IsDistinct bytes_eq (with_dots (names_of (fixed_children owner folder ++ made_children scene owner folder)))
 folder_distinct scene Top folders.Root sound = distinct_by _ refl
 folder_distinct scene (Made serial) folders.Root sound = distinct_by _ refl
 folder_distinct scene owner folders.Options sound = distinct_by _ refl
@@ -91,16 +116,34 @@ folder_distinct scene owner (folders.Cpu cpu) sound = distinct_by _ refl
 folder_distinct scene owner (folders.Event event) sound = distinct_by _ refl
 folder_distinct scene owner folders.PerCpu sound = distinct_by _ (cpus_apart owner scene.cpus sound.few_cpus)
 folder_distinct scene owner folders.Instances sound =
-    subst (IsDistinct bytes_eq) (sym (instance_names scene.instances)) sound.distinct_instances
+    subst (λ (names : List (List ℕ)). IsDistinct bytes_eq (with_dots names)) (sym (instance_names scene.instances))
+    (dots_distinct (map (λ (i : Instance). i.name) scene.instances)
+    (all_dotless (λ (i : Instance). i.name) scene.instances (codes ".") refl sound.instance_names)
+    (all_dotless (λ (i : Instance). i.name) scene.instances (codes "..") refl sound.instance_names)
+    sound.distinct_instances)
 folder_distinct scene owner folders.Synthetic sound =
-    subst (λ (names : List (List ℕ)). IsDistinct bytes_eq (codes "enable" ∷ codes "filter" ∷ names)) (sym (event_names owner scene.events))
-    (system_distinct scene.events sound.folders sound.distinct_events)
+    subst (λ (names : List (List ℕ)). IsDistinct bytes_eq (with_dots (codes "enable" ∷ codes "filter" ∷ names))) (sym (event_names owner scene.events))
+    (dots_distinct (codes "enable" ∷ codes "filter" ∷ map (λ (e : Event). e.name) scene.events)
+    (refl, (refl, all_dotless (λ (e : Event). e.name) scene.events (codes ".") refl sound.event_names))
+    (refl, (refl, all_dotless (λ (e : Event). e.name) scene.events (codes "..") refl sound.event_names))
+    (system_distinct scene.events sound.folders sound.distinct_events))
 
 pub children_distinct : (scene : SceneSeen) (folder : Node) → IsSound scene → IsDistinct bytes_eq (names_of (children scene folder))
 children_distinct scene (nodes.File owner file) sound = distinct_by _ refl
 children_distinct scene (nodes.Folder owner folder) sound = by (is_there scene (nodes.Folder owner folder))
   where
     by : (there : Bool) → IsDistinct bytes_eq (names_of (cond there (fixed_children owner folder ++ made_children scene owner folder) []))
+    by false = distinct_by _ refl
+    by true =
+        let names = names_of (fixed_children owner folder ++ made_children scene owner folder) in
+        IsDistinct-tail bytes_eq (codes "..") names (IsDistinct-tail bytes_eq (codes ".") (codes ".." ∷ names) (folder_distinct scene owner folder sound))
+
+pub list_distinct : (scene : SceneSeen) (folder : Node) → IsSound scene → IsDistinct bytes_eq (names_of (folder_list scene folder))
+list_distinct scene (nodes.File owner file) sound = distinct_by _ refl
+list_distinct scene (nodes.Folder owner folder) sound = by (is_there scene (nodes.Folder owner folder))
+  where
+    by : (there : Bool)
+        → IsDistinct bytes_eq (names_of (cond there (dots (nodes.Folder owner folder) ++ cond there (fixed_children owner folder ++ made_children scene owner folder) []) []))
     by false = distinct_by _ refl
     by true = folder_distinct scene owner folder sound
 

@@ -11,3 +11,4 @@ pub mod SoundLemmas
 pub mod TreeExamples
 pub mod WalkLemmas
 pub mod ReachLemmas
+pub mod ParentLemmas

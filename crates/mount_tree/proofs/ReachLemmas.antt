@@ -90,7 +90,7 @@ file_found owner (EventId event) scene there = refl
 file_found Top ErrorLog scene there = refl
 file_found (Made serial) ErrorLog scene there = refl
 
-parent_there : (scene : SceneSeen) (owner : Owner) (file : File) → file_is_there scene owner file ≡ true
+pub parent_there : (scene : SceneSeen) (owner : Owner) (file : File) → file_is_there scene owner file ≡ true
     → folder_is_there scene owner (file_parent file) ≡ true
 parent_there scene owner SyntheticEvents there = refl
 parent_there scene owner (OfInstance file) there = there
@@ -180,7 +180,7 @@ instance_found scene serial sound some = by (instance_at serial scene.instances)
 
 -- ---- all nodes
 
-own_there : (scene : SceneSeen) (owner : Owner) → owner_is_there scene owner ≡ true → (owner_is_there scene owner && true) ≡ true
+pub own_there : (scene : SceneSeen) (owner : Owner) → owner_is_there scene owner ≡ true → (owner_is_there scene owner && true) ≡ true
 own_there scene owner o = and_from (owner_is_there scene owner) true o refl
 
 in_root : (scene : SceneSeen) (owner : Owner) (folder : Folder) (name : List ℕ) → owner_is_there scene owner ≡ true

@@ -1,5 +1,7 @@
 -- How the files of a mounted tracer can be used, as docs/FILES.md says.
+use Rattle.std.specs.Prelude.{Bool, true, false}
 use Rattle.trace_command.specs.declared.file_name.CpuFile.TheVariants as per_cpu
+use Rattle.trace_command.specs.declared.file_name.EventFile.TheVariants as per_event
 use Rattle.trace_command.specs.declared.file_name.TopFile.TheVariants as top
 use Rattle.file_list.specs.Files.{cpu_access, event_access, top_access}
 use Rattle.file_list.specs.declared.access.Access.{Access}
@@ -56,3 +58,9 @@ kind_of_file (CpuSize cpu) = kinds.Tool
 kind_of_file (EventId event) = kinds.Tool
 kind_of_file ErrorLog = kinds.ErrorLog
 kind_of_file _ = kinds.Text
+
+-- whether a write of several lines is a command a line
+abbrev pub takes_lines : File → Bool
+takes_lines SyntheticEvents = true
+takes_lines (OfEvent event per_event.Trigger) = true
+takes_lines _ = false

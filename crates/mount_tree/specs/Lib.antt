@@ -3,6 +3,7 @@ pub mod TreeNames
 pub mod FileKinds
 pub mod Scenes
 pub mod Children
+pub mod FolderLists
 pub mod FolderEntries
 pub mod NodePaths
 pub mod private

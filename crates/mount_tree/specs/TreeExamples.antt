@@ -1,14 +1,16 @@
 -- A tracer of two CPUs with its folders, files and numbers, worked by hand. The checker computes them.
-use Rattle.std.specs.Prelude.{◌≡◌, ℕ, List, [], ◌∷◌, map, Option, Some, None, codes}
+use Rattle.std.specs.Prelude.{◌≡◌, ℕ, List, [], ◌∷◌, ◌++◌, map, take, Option, Some, None, codes}
 use Rattle.trace_command.specs.Requests.{Request, MakeInstance, RemoveInstance}
 use Rattle.trace_command.specs.declared.file_name.CpuFile.TheVariants as per_cpu
 use Rattle.trace_command.specs.declared.file_name.EventFile.TheVariants as per_event
-use Rattle.mount_tree.specs.Children.{Child, children, node_named}
+use Rattle.trace_command.specs.declared.file_name.TopFile.TheVariants as top_files
+use Rattle.mount_tree.specs.Children.{Child, children, file_child, node_named}
+use Rattle.mount_tree.specs.FolderLists.{folder_list}
 use Rattle.mount_tree.specs.NodePaths.{path_of}
 use Rattle.mount_tree.specs.Nodes.{number_of, top}
 use Rattle.mount_tree.specs.Scenes.{SceneSeen, new_scene, with_event, with_instance, without_instance}
 use Rattle.mount_tree.specs.ScenesAfter.{instances_after, made_after}
-use Rattle.mount_tree.specs.declared.file.File.TheVariants.{SyntheticEvents, OfCpu, OfEvent, Inject, Tool, OfTop}
+use Rattle.mount_tree.specs.declared.file.File.TheVariants.{SyntheticEvents, OfInstance, OfCpu, OfEvent, Inject, Tool, OfTop}
 use Rattle.mount_tree.specs.declared.folder.Folder.TheVariants as folders
 use Rattle.mount_tree.specs.declared.node.Node.{Node}
 use Rattle.mount_tree.specs.declared.node.Node.TheVariants as nodes
@@ -44,7 +46,7 @@ scene =
 abbrev pub names_in : Node → List (List ℕ)
 names_in folder = map (λ (c : Child). c.name) (children scene folder)
 
--- what `ls` of the mounted folder shows, and of `instances`, `events/synthetic` and `instances/b/per_cpu`
+-- what is found in the mounted folder, and of `instances`, `events/synthetic` and `instances/b/per_cpu`
 abbrev pub ListsOfFolders : Type 0
 ListsOfFolders =
     (names_in top
@@ -56,6 +58,20 @@ ListsOfFolders =
     × (names_in (nodes.Folder Top folders.Instances) ≡ codes "b" ∷ codes "a" ∷ [])
     × (names_in (nodes.Folder Top folders.Synthetic) ≡ codes "enable" ∷ codes "filter" ∷ codes "tick" ∷ [])
     × (names_in (nodes.Folder (Made 1) folders.PerCpu) ≡ codes "cpu0" ∷ codes "cpu1" ∷ [])
+
+-- what `.` and `..` are: of `options` with its one file, of the mounted folder, of `instances/b`; and nothing is in the list of what was removed, nor in
+-- that of a file
+abbrev pub dots_of : Node → Node → List Child
+dots_of folder above = record { name = codes "."; node = folder } ∷ record { name = codes ".."; node = above } ∷ []
+
+abbrev pub ListsWithDots : Type 0
+ListsWithDots =
+    (folder_list scene (nodes.Folder Top folders.Options)
+    ≡ dots_of (nodes.Folder Top folders.Options) top ++ file_child Top (OfInstance top_files.Overwrite) ∷ [])
+    × (take 2 (folder_list scene top) ≡ dots_of top top)
+    × (take 2 (folder_list scene (nodes.Folder (Made 1) folders.Root)) ≡ dots_of (nodes.Folder (Made 1) folders.Root) (nodes.Folder Top folders.Instances))
+    × (folder_list scene (nodes.Folder (Made 0) folders.Root) ≡ [])
+    × (folder_list scene (nodes.File Top SyntheticEvents) ≡ [])
 
 abbrev pub found : List ℕ → Node → Option Node
 found name folder = node_named name (children scene folder)

@@ -1,5 +1,5 @@
 -- What the numbers, entries and paths of nodes come to, and what requests do to a scene.
-use Rattle.std.specs.Prelude.{◌≡◌, ◌≢◌, ℕ, nat_eq, ◌<◌, ◌≤◌, true, false, List, [], ◌∷◌, ◌++◌, map, Some, None, codes}
+use Rattle.std.specs.Prelude.{◌≡◌, ◌≢◌, ℕ, zero, suc, nat_eq, ◌<◌, ◌≤◌, true, false, List, [], ◌∷◌, ◌++◌, map, take, drop, Some, None, codes}
 use Rattle.std.specs.List.{AllByRecursion, IsDistinct, filter}
 use Rattle.std.specs.Str.{bytes_eq}
 use Rattle.trace_command.specs.Paths.{address_of}
@@ -11,12 +11,14 @@ use Rattle.tracer_specification.specs.Pasts.{AreDone}
 use Rattle.tracer_specification.specs.Settings.{declared_events, declares, instance_names, made, removed}
 use Rattle.trace_lex.specs.Names.{is_name}
 use Rattle.mount_tree.specs.Children.{Child, children, is_there, node_named}
+use Rattle.mount_tree.specs.FolderLists.{dots, folder_list}
 use Rattle.mount_tree.specs.NodePaths.{address_meant, path_of}
 use Rattle.mount_tree.specs.Nodes.{FitsItsTypes, number_of, owner_of, top}
 use Rattle.mount_tree.specs.Scenes.{SceneSeen, has_folder, with_event, with_instance, without_instance}
 use Rattle.mount_tree.specs.ScenesAfter.{events_after, instances_after, made_after, scene_after}
 use Rattle.mount_tree.specs.TreeNames.{node_parent}
 use Rattle.mount_tree.specs.declared.file.File.{File}
+use Rattle.mount_tree.specs.declared.folder.Folder.{Folder}
 use Rattle.mount_tree.specs.declared.folder.Folder.TheVariants as folders
 use Rattle.mount_tree.specs.declared.node.Node.{Node}
 use Rattle.mount_tree.specs.declared.node.Node.TheVariants as nodes
@@ -111,6 +113,41 @@ pub record IsFoundIn (scene : SceneSeen) (folder node : Node) : Type 0 where
 abbrev pub NodesAreFound : Type 0
 NodesAreFound =
     (scene : SceneSeen) (node : Node) → IsSound scene → is_there scene node ≡ true → node ≢ top → IsFoundIn scene (node_parent node) node
+
+-- ---- `.` and `..`
+
+-- the list of a folder that is there begins with itself and the folder that it is in
+abbrev pub DotsComeFirst : Type 0
+DotsComeFirst =
+    (scene : SceneSeen) (owner : Owner) (folder : Folder) → is_there scene (nodes.Folder owner folder) ≡ true
+    → take 2 (folder_list scene (nodes.Folder owner folder)) ≡ dots (nodes.Folder owner folder)
+
+-- and goes on with what look-ups find in it
+abbrev pub ChildrenFollow : Type 0
+ChildrenFollow = (scene : SceneSeen) (folder : Node) → drop 2 (folder_list scene folder) ≡ children scene folder
+
+-- it has each name once: nothing else is called `.` or `..`
+abbrev pub ListsHaveNamesOnce : Type 0
+ListsHaveNamesOnce =
+    (scene : SceneSeen) (folder : Node) → IsSound scene → IsDistinct bytes_eq (map (λ (c : Child). c.name) (folder_list scene folder))
+
+-- `..` leads back: what is found in a folder is in that folder
+abbrev pub FoundNodesAreIn : Type 0
+FoundNodesAreIn =
+    (scene : SceneSeen) (folder node : Node) (name : List ℕ) → node_named name (children scene folder) ≡ Some node → node_parent node ≡ folder
+
+-- the folder that something is in is there with it
+abbrev pub ParentsAreThere : Type 0
+ParentsAreThere = (scene : SceneSeen) (node : Node) → is_there scene node ≡ true → is_there scene (node_parent node) ≡ true
+
+-- so many steps up
+abbrev pub above : ℕ → Node → Node
+above zero node = node
+above (suc steps) node = above steps (node_parent node)
+
+-- five steps up from any folder are the mounted one, the one that stays where it is
+abbrev pub StepsUpEnd : Type 0
+StepsUpEnd = (owner : Owner) (folder : Folder) → above 5 (nodes.Folder owner folder) ≡ top
 
 -- ---- paths
 

@@ -1,13 +1,14 @@
 //! The entries of folders: look-ups and lists.
 //!
 //! Some entries a folder always has (`fixed_entry`, `fixed_named`); others it has for the CPUs, events and instances that there are
-//! (`Scene::made_entry`, `made_named`), and these come last.
+//! (`Scene::made_entry`, `made_named`), and these come last. A list has `.` and `..` before them.
 
 ghost use Rattle.std.specs.Prelude.{◌≡◌, ◌≤◌, ◌-◌, ◌<◌, ◌++◌, bytes_eq, length, map, option_copied, slice_get};
 ghost use Rattle.std.specs.List.{find};
 ghost use Rattle.std.specs.Option.{option_map};
 ghost use Rattle.mount_tree.specs.Children.{children, cpu_children, cpu_name, event_child, fixed_children, instance_child, made_children, node_named};
 ghost use Rattle.mount_tree.specs.FolderEntries.{child_of};
+ghost use Rattle.mount_tree.specs.FolderLists.{dots, folder_list};
 ghost use Rattle.mount_tree.specs.declared.scene.Event.{Event as EventValue};
 ghost use Rattle.mount_tree.specs.declared.scene.Instance.{Instance as InstanceValue};
 
@@ -144,8 +145,8 @@ impl Scene {
         }
     }
 
-    // What is at this index in the list of a folder that is there.
-    fn listed_entry(&self, owner: Owner, folder: Folder, index: usize) -> Option<Entry<'_>>
+    // What is at this index among what look-ups find in a folder that is there.
+    fn child_entry(&self, owner: Owner, folder: Folder, index: usize) -> Option<Entry<'_>>
         ensures { option_map child_of result
             ≡ slice_get (fixed_children owner folder ++ made_children self.now owner folder) index }
     {
@@ -155,9 +156,29 @@ impl Scene {
         }
     }
 
-    /// The entry at this index in a folder's list; `None` beyond the last one, and of what is no folder or is not there.
+    // What is at this index in the list of a folder that is there.
+    fn listed_entry(&self, owner: Owner, folder: Folder, index: usize) -> Option<Entry<'_>>
+        ensures { option_map child_of result
+            ≡ slice_get (dots (Node.Folder owner folder) ++ (fixed_children owner folder ++ made_children self.now owner folder)) index }
+    {
+        let here = Node::Folder(owner, folder);
+        match index {
+            0 => Some(Entry {
+                name: ".".as_bytes(),
+                node: here,
+            }),
+            1 => Some(Entry {
+                name: "..".as_bytes(),
+                node: here.parent(),
+            }),
+            _ => self.child_entry(owner, folder, index - 2),
+        }
+    }
+
+    /// The entry at this index in a folder's list, in which `.` and `..` come first; `None` beyond the last one, and of what is no folder or is not
+    /// there.
     pub fn entry(&self, folder: Node, index: usize) -> Option<Entry<'_>>
-        ensures { option_map child_of result ≡ slice_get (children self.now folder) index }
+        ensures { option_map child_of result ≡ slice_get (folder_list self.now folder) index }
     {
         if !self.exists(folder) {
             return None;

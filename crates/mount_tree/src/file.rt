@@ -2,7 +2,7 @@
 
 ghost use Rattle.std.specs.Prelude.{◌≡◌};
 ghost use Rattle.mount_tree.specs.Nodes.{cpu_place, event_place, file_index, file_place, top_place};
-ghost use Rattle.mount_tree.specs.FileKinds.{access_of_file, kind_of_file};
+ghost use Rattle.mount_tree.specs.FileKinds.{access_of_file, kind_of_file, takes_lines};
 ghost use Rattle.mount_tree.specs.TreeNames.{cpu_file_name, event_file_name, file_name, file_parent, top_file_name};
 
 use crate::folder::Folder;
@@ -93,6 +93,16 @@ impl File {
             | File::OfCpu(_, CpuFile::Stats)
             | File::OfEvent(_, _) => FileKind::Text,
         }
+    }
+
+    /// Whether a write of several lines is a command a line.
+    pub fn takes_lines(self) -> bool
+        ensures { result ≡ takes_lines self }
+    {
+        matches!(
+            self,
+            File::SyntheticEvents | File::OfEvent(_, EventFile::Trigger)
+        )
     }
 
     /// Its name.

@@ -1,7 +1,7 @@
 //! What the numbers, entries and paths of nodes come to, and what requests do to a scene. Each function does nothing: its contract is a theorem.
 
-ghost use Rattle.mount_tree.specs.TreeExamples.{ListsOfFolders, LookUps, NumbersAndPaths, SecondOfItsName};
-ghost use Rattle.mount_tree.specs.TreeLaws.{DeclaringAddsAnEvent, EventsAreDeclared, FoundNodesAreThere, ListsAreLookups, MakingAddsAnInstance, NamesGoWithSerials, NodesAreFound, NumbersNameNodes, OthersLeaveTheScene, PathsAreJoined, PathsNameTheirFiles, RemovedNodesAreGone, RemovingTakesItOut, ScenesAreSound};
+ghost use Rattle.mount_tree.specs.TreeExamples.{ListsOfFolders, ListsWithDots, LookUps, NumbersAndPaths, SecondOfItsName};
+ghost use Rattle.mount_tree.specs.TreeLaws.{ChildrenFollow, DeclaringAddsAnEvent, DotsComeFirst, EventsAreDeclared, FoundNodesAreIn, FoundNodesAreThere, ListsAreLookups, ListsHaveNamesOnce, MakingAddsAnInstance, NamesGoWithSerials, NodesAreFound, NumbersNameNodes, OthersLeaveTheScene, ParentsAreThere, PathsAreJoined, PathsNameTheirFiles, RemovedNodesAreGone, RemovingTakesItOut, ScenesAreSound, StepsUpEnd};
 ghost use Rattle.mount_tree.specs.Walks.{TreesAreListed};
 
 /// Two nodes of one number are the same, so a number names one node.
@@ -45,6 +45,22 @@ pub fn lists_are_lookups()
     ensures { ListsAreLookups }
 {}
 
+/// The list of a folder that is there is `.`, itself, and `..`, the folder that it is in, and then what look-ups find; in a scene with names as a tracer
+/// has, nothing else is called so.
+pub fn lists_begin_with_dots()
+    ensures first { DotsComeFirst }
+    ensures rest { ChildrenFollow }
+    ensures once { ListsHaveNamesOnce }
+{}
+
+/// `..` leads from what a look-up finds back to where it was found; it is there with what is in it; and five steps up from any folder are the mounted
+/// one.
+pub fn parents_lead_up()
+    ensures back { FoundNodesAreIn }
+    ensures there { ParentsAreThere }
+    ensures ends { StepsUpEnd }
+{}
+
 /// The path of what a look-up finds is the folder's path and the name, and a slash if it is a folder.
 pub fn paths_are_joined()
     ensures { PathsAreJoined }
@@ -59,6 +75,7 @@ pub fn paths_name_their_files()
 pub fn examples_are_computed()
     ensures requests { SecondOfItsName }
     ensures lists { ListsOfFolders }
+    ensures dots { ListsWithDots }
     ensures found { LookUps }
     ensures numbers { NumbersAndPaths }
 {}

@@ -7,7 +7,9 @@ mod program;
 mod stop;
 mod words;
 
-pub use options::{add_config, add_number, config_of, number_of};
+pub use options::{
+    OutOfRange, add_config, add_number, add_option, check_config, config_of, number_of,
+};
 pub use program::Program;
 pub use stop::{Stop, told};
 pub use words::{Notes, Script, Words, words_of};

@@ -1,6 +1,8 @@
 //! The options that take a number, of which each program has those of a tracer's configuration.
 
-ghost use Rattle.std.specs.Prelude.{◌≡◌, ◌^◌};
+ghost use Rattle.std.specs.Prelude.{◌≡◌, ◌^◌, IfErr, IfOk};
+ghost use Rattle.program_arguments.specs.Ranges.{TellsWrong};
+ghost use Rattle.trace_command.specs.Configs.{IsInRange};
 
 use clap::{Arg, ArgMatches, value_parser};
 use std::alloc::{AllocError, Global};
@@ -12,12 +14,45 @@ const PAGES: &str = "pages";
 
 const PAGE_BYTES: &str = "page-bytes";
 
+const CPUS_RANGE: &str = "1 to 8";
+
+const PAGES_RANGE: &str = "2 to 1024";
+
+const PAGE_BYTES_RANGE: &str = "64 to 4080, a multiple of 8";
+
 /// More entries than a script has room for, and the greatest that a configuration may have.
 const HISTORY_LIMIT: u64 = 1 << 32;
+
+/// An option whose number is out of range.
+#[derive(Clone, Copy)]
+pub struct OutOfRange {
+    /// The name of the option, without its hyphens.
+    pub option: &'static str,
+    pub number: u32,
+    /// The numbers that it may have.
+    pub range: &'static str,
+}
 
 /// Appends an argument.
 pub(crate) fn add<'a>(arguments: &mut Vec<Arg<'a>>, argument: Arg<'a>) -> Result<(), AllocError> {
     Ok(arguments.push(argument)?)
+}
+
+/// Appends an option that takes a text. It has a default, which help shows.
+pub fn add_option<'a>(
+    alloc: Global,
+    arguments: &mut Vec<Arg<'a>>,
+    name: &'a str,
+    value: &'a str,
+    default: &'a str,
+    help: &'a str,
+) -> Result<(), AllocError> {
+    let option = Arg::new(alloc, name)
+        .long(name)
+        .value_name(value)
+        .default_value(default)
+        .help(help);
+    add(arguments, option)
 }
 
 /// Appends an option that takes a number. It has a default, which help shows.
@@ -65,4 +100,34 @@ pub fn config_of(matches: &ArgMatches<'_>) -> Config
         page_bytes: number_of(matches, PAGE_BYTES),
         history_limit: HISTORY_LIMIT,
     }
+}
+
+/// Whether a tracer can be made with a configuration that the words gave. If not, the first option, in the order of help, whose number is out of range.
+pub fn check_config(config: &Config) -> Result<(), OutOfRange>
+    ensures in_range { IfOk result (λ _. IsInRange config.now) }
+    ensures out_of_range { IfErr result (λ _. ¬ IsInRange config.now) }
+    ensures told { config.now.history_limit ≡ 2 ^ 32 → IfErr result (λ told. TellsWrong told config.now) }
+{
+    if !(1..=8).contains(&config.cpus) {
+        return Err(OutOfRange {
+            option: CPUS,
+            number: config.cpus,
+            range: CPUS_RANGE,
+        });
+    }
+    if !(2..=1024).contains(&config.pages) {
+        return Err(OutOfRange {
+            option: PAGES,
+            number: config.pages,
+            range: PAGES_RANGE,
+        });
+    }
+    if config.is_in_range() {
+        return Ok(());
+    }
+    Err(OutOfRange {
+        option: PAGE_BYTES,
+        number: config.page_bytes,
+        range: PAGE_BYTES_RANGE,
+    })
 }

@@ -8,6 +8,8 @@ use std::{env, io};
 
 const VERSION: &str = "0.1.0";
 
+const NOT_UNICODE: &str = "invalid UTF-8 was detected in one or more arguments";
+
 /// What a program says of itself. Each program has the version of all others.
 #[derive(Clone, Copy)]
 pub struct Program<'a> {
@@ -40,12 +42,11 @@ impl<'a> Program<'a> {
         self.bare_command(alloc).args(arguments)
     }
 
-    /// The error for words that are not all in UTF-8. No argument changes its text.
-    fn not_unicode(&self, alloc: Global) -> Result<Error, Error> {
-        let error = self.bare_command(alloc).error(
-            ErrorKind::ValueValidation,
-            "invalid UTF-8 was detected in one or more arguments",
-        );
+    /// The error for words with which this is wrong. No argument changes its text.
+    pub fn error(&self, alloc: Global, wrong: &str) -> Result<Error, Error> {
+        let error = self
+            .bare_command(alloc)
+            .error(ErrorKind::ValueValidation, wrong);
         Ok(error?)
     }
 
@@ -54,7 +55,7 @@ impl<'a> Program<'a> {
         match env::args(rt) {
             Ok(words) => Ok(words.collect(rt.alloc())?),
             Err(error) if error.kind() == io::ErrorKind::OutOfMemory => Err(Stop::Memory),
-            Err(_) => match self.not_unicode(rt.alloc()) {
+            Err(_) => match self.error(rt.alloc(), NOT_UNICODE) {
                 Ok(error) | Err(error) => Err(told(rt, &error)),
             },
         }

@@ -1,19 +1,21 @@
 //! What ends the program before its script does.
+use crate::options::OutOfRange;
 use clap::Error;
 use clap::error::ErrorKind;
 use std::alloc::AllocError;
+use std::io;
 use std::process::ExitCode;
 
 /// Why there was no session, or why it stopped.
 #[derive(Drop)]
 pub enum Stop {
-    /// The command line is wrong, or it asks for help or the version. That was told, and this is the exit status.
+    /// What was wrong, or the help or the version that was asked for, was told, and this is the exit status.
     Told(ExitCode),
     /// A number of the configuration is out of range.
-    BadValue,
+    BadValue(OutOfRange),
     Memory,
-    /// The script can't be opened, or reading or writing failed.
-    Device,
+    /// Standard output can't be written.
+    Output(io::Error),
 }
 
 impl From<AllocError> for Stop {
@@ -28,7 +30,7 @@ pub fn told(rt: &HostRuntime, error: &Error) -> Stop {
         return Stop::Memory;
     }
     match error.print(rt) {
-        Err(_) if !error.use_stderr() => Stop::Device,
+        Err(failure) if !error.use_stderr() => Stop::Output(failure),
         _ => Stop::Told(ExitCode::from(error.exit_code() as u8)),
     }
 }

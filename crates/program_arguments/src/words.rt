@@ -5,7 +5,7 @@ ghost use Rattle.std.specs.List.{flat_map};
 ghost use Rattle.trace_command.specs.Configs.{IsInRange};
 
 use crate::help::{ABOUT, MORE, USAGE};
-use crate::options::{add, add_config, config_of};
+use crate::options::{add, add_config, check_config, config_of};
 use crate::program::Program;
 use crate::stop::{Stop, told};
 use clap::{Arg, ArgAction, ArgMatches, Error};
@@ -196,9 +196,9 @@ impl<'a> Words<'a> {
             Ok(words) => words,
             Err(error) => return Err(told(rt, &error)),
         };
-        if !words.config.is_in_range() {
-            return Err(Stop::BadValue);
+        match check_config(&words.config) {
+            Ok(()) => Ok(words),
+            Err(wrong) => Err(Stop::BadValue(wrong)),
         }
-        Ok(words)
     }
 }

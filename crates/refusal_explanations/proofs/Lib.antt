@@ -1,4 +1,5 @@
 pub mod CaretLemmas
 pub mod HistLemmas
+pub mod InjectionLemmas
 pub mod LayoutLemmas
 pub mod OpeningLemmas

@@ -10,3 +10,4 @@ pub mod Places
 pub mod Layout
 pub mod Explanations
 pub mod Writes
+pub mod InjectionWords

@@ -9,6 +9,7 @@ mod explainer;
 mod fault;
 mod filter_due;
 mod hist_due;
+mod injection;
 mod layout;
 mod meant;
 mod near;
@@ -20,6 +21,7 @@ mod trigger_due;
 mod wording;
 
 pub use explainer::Explainer;
+pub use injection::{injection_offset, injection_words};
 pub use layout::ScriptLine;
 pub use place::write_offset;
 pub use wording::write_words;

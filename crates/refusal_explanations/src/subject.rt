@@ -1,6 +1,7 @@
 //! What a command is about: its file, its path, its event, and what it writes.
 
-ghost use Rattle.std.specs.Prelude.{◌≡◌};
+ghost use Rattle.std.specs.Prelude.{◌≡◌, option_copied};
+ghost use Rattle.trace_format.specs.Rows.{field_named};
 ghost use Rattle.refusal_explanations.specs.Wording as wording;
 
 use std::alloc::{AllocError, Global};
@@ -113,6 +114,8 @@ pub(crate) fn event_named<'a>(events: &'a [EventDef], name: &[u8]) -> Option<&'a
     events.iter().find(|event| event.name() == name)
 }
 
-pub(crate) fn field_named<'a>(fields: &'a [Field], name: &[u8]) -> Option<&'a Field> {
+pub(crate) fn field_named<'a>(fields: &'a [Field], name: &[u8]) -> Option<&'a Field>
+    ensures { option_copied result ≡ field_named fields.now name.now }
+{
     fields.iter().find(|field| field.name.as_bytes() == name)
 }

@@ -4,6 +4,7 @@ ghost use Rattle.std.specs.Prelude.{◌≡◌, OnOk};
 ghost use Rattle.std.specs.Io.KnownBytes.{Appends};
 ghost use Rattle.file_list.specs.Listings.{listing};
 
+use crate::stop::Failure;
 use file_list::Names;
 use std::alloc::Global;
 use std::io;
@@ -42,16 +43,21 @@ impl<S: Sink> Listed<S> {
 
     /// The status of a session that ended with this one, and of the list of the files that there are then. They are listed if that was asked for and
     /// the session was not cut off.
-    pub fn end<W: Write + Drop>(&self, cpus: u32, status: Status, mut output: W) -> Status {
+    pub fn end<W: Write + Drop>(
+        &self,
+        cpus: u32,
+        status: Status,
+        mut output: W,
+    ) -> Result<Status, Failure> {
         match status {
-            Status::Memory | Status::Device | Status::Stopped => status,
-            Status::Done | Status::Refused | Status::Fault if !self.lists => status,
-            Status::Done | Status::Refused | Status::Fault if self.has_failed => Status::Memory,
+            Status::Memory | Status::Device | Status::Stopped => Ok(status),
+            Status::Done | Status::Refused | Status::Fault if !self.lists => Ok(status),
+            Status::Done | Status::Refused | Status::Fault if self.has_failed => Ok(Status::Memory),
             Status::Done | Status::Refused | Status::Fault => {
                 match write_list(&self.names, cpus, &mut output) {
-                    Ok(()) => status,
-                    Err(error) if error.kind() == io::ErrorKind::OutOfMemory => Status::Memory,
-                    Err(_) => Status::Device,
+                    Ok(()) => Ok(status),
+                    Err(error) if error.kind() == io::ErrorKind::OutOfMemory => Ok(Status::Memory),
+                    Err(error) => Err(Failure::Write(error)),
                 }
             }
         }

@@ -4,6 +4,7 @@
 mod bars;
 mod drawn;
 mod explained;
+mod kept;
 mod listed;
 mod stop;
 
@@ -11,6 +12,7 @@ ghost use Rattle.trace_command.specs.Configs.{IsInRange};
 
 use drawn::Drawn;
 use explained::Explained;
+use kept::Kept;
 use listed::Listed;
 use program_arguments::{Notes, Script, Stop, Words, words_of};
 use std::fs::File;
@@ -18,10 +20,16 @@ use std::io::Read;
 use std::process::ExitCode;
 use std::sync::Wait;
 use std::thread::Threads;
-use stop::tell;
+use stop::{Failure, tell, tell_of_device, tell_of_script};
 use trace_book::Book;
 use trace_command::Config;
 use trace_session::{Input, OpenGate, Output, Sink, Status, run_session};
+
+/// What standard input is called, where a script's name is told.
+const STDIN: &str = "<stdin>";
+
+/// What the lines of the command line are called.
+const LINES: &str = "-c";
 
 /// Does the session of a script with this output, its parts on these threads, and lists the files after it, if that was asked for.
 fn session_to<R: Read + Drop, W: Sink + Drop>(
@@ -31,11 +39,11 @@ fn session_to<R: Read + Drop, W: Sink + Drop>(
     lists: bool,
     script: R,
     output: W,
-) -> Status
+) -> Result<Status, Failure>
     requires { IsInRange config }
 {
-    let mut input = Input::new(script);
-    let mut output = Listed::new(rt.alloc(), output, lists);
+    let mut input = Kept::new(Input::new(script));
+    let mut output = Kept::new(Listed::new(rt.alloc(), output, lists));
     let status = run_session::<Book, _, _, _, _>(
         threads,
         rt.alloc(),
@@ -44,7 +52,14 @@ fn session_to<R: Read + Drop, W: Sink + Drop>(
         &mut output,
         &OpenGate,
     );
-    output.end(config.cpus, status, rt.stdout())
+    if !matches!(status, Status::Device) {
+        return output.device.end(config.cpus, status, rt.stdout());
+    }
+    match (input.reason(), output.reason()) {
+        (Some(error), _) => Err(Failure::Read(error)),
+        (None, Some(error)) => Err(Failure::Write(error)),
+        (None, None) => Ok(status),
+    }
 }
 
 /// Does the session of a script, its parts on these threads, and tells what is asked for beside it.
@@ -55,7 +70,7 @@ fn session<R: Read + Drop>(
     notes: Notes,
     name: &str,
     script: R,
-) -> Status
+) -> Result<Status, Failure>
     requires { IsInRange config }
 {
     match (notes.explains, notes.draws) {
@@ -90,21 +105,31 @@ fn run(rt: &HostRuntime, threads: &(impl Threads + Wait + Sync)) -> Result<Statu
         notes,
         script,
     } = Words::read(rt, &words)?;
-    let status = match script {
-        Script::File(name) => {
-            let file = File::open(rt, name).map_err(|_| Stop::Device)?;
-            session(rt, threads, config, notes, name, file)
+    let (name, result) = match script {
+        Script::File(name) => match File::open(rt, name) {
+            Ok(file) => (name, session(rt, threads, config, notes, name, file)),
+            Err(error) => (name, Err(Failure::Read(error))),
+        },
+        Script::Input => {
+            let input = rt.stdin();
+            (STDIN, session(rt, threads, config, notes, STDIN, input))
         }
-        Script::Input => session(rt, threads, config, notes, "<stdin>", rt.stdin()),
-        Script::Lines(lines) => session(rt, threads, config, notes, "-c", lines.as_slice()),
+        Script::Lines(lines) => {
+            let result = session(rt, threads, config, notes, LINES, lines.as_slice());
+            (LINES, result)
+        }
     };
-    Ok(status)
+    match result {
+        Ok(status) => Ok(status),
+        Err(Failure::Read(error)) => Err(Stop::Told(tell_of_script(rt, name, &error))),
+        Err(Failure::Write(error)) => Err(Stop::Output(error)),
+    }
 }
 
 fn main(rt: HostRuntime) -> ExitCode {
     match run(&rt, &rt) {
         Ok(Status::Memory) => tell(&rt, Stop::Memory),
-        Ok(Status::Device) => tell(&rt, Stop::Device),
+        Ok(Status::Device) => tell_of_device(&rt),
         Ok(status) => ExitCode::from(status.code()),
         Err(stop) => tell(&rt, stop),
     }

@@ -9,7 +9,7 @@ pub(crate) const ABOUT: &str =
 pub(crate) const MORE: &str = "\
 ./tracectl-mount mounts a tracer on a folder and starts this program. By hand, as root:
   exec 3<>/dev/fuse
-  mount -i -t fuse -o fd=3,rootmode=40000,user_id=0,group_id=0 tracectl DIR
+  mount -i -t fuse -o fd=3,rootmode=40000,user_id=0,group_id=0 '#tracectl' DIR
   tracectl_mount <&3 >&3
 
 Exit status:

@@ -6,7 +6,7 @@ mod stop;
 mod words;
 
 use fuse_serve::Logged;
-use mount_service::serve_tracer;
+use mount_service::{Owners, serve_tracer};
 use std::process::ExitCode;
 use stop::{Stop, tell};
 use words::{Words, words_of};
@@ -14,10 +14,20 @@ use words::{Words, words_of};
 /// Serves the tracer that the command line asks for.
 fn run(rt: &HostRuntime) -> Result<(), Stop> {
     let words = words_of(rt)?;
-    let Words { config, uid, gid } = Words::read(rt, &words)?;
+    let Words {
+        config,
+        uid,
+        gid,
+        mode,
+    } = Words::read(rt, &words)?;
     let mut reader = Logged::new(rt.stdin());
     let mut writer = Logged::new(rt.stdout());
-    match serve_tracer(rt.alloc(), config, uid, gid, &mut reader, &mut writer) {
+    let owners = Owners {
+        uid,
+        gid,
+        mode: mode as u16,
+    };
+    match serve_tracer(rt.alloc(), config, owners, &mut reader, &mut writer) {
         Ok(_) => Ok(()),
         Err(failure) => Err(Stop::Failed(failure)),
     }

@@ -2,7 +2,7 @@
 
 use fuse_serve::Fault;
 use mount_service::Failure;
-use program_arguments::Stop as Early;
+use program_arguments::{OutOfRange, Stop as Early};
 use std::process::ExitCode;
 
 /// Why there was no service, or what stopped it.
@@ -24,9 +24,8 @@ impl From<Early> for Stop {
 pub(crate) fn tell(rt: &HostRuntime, stop: Stop) -> ExitCode {
     match stop {
         Stop::Words(Early::Told(status)) => status,
-        Stop::Words(Early::BadValue) | Stop::Failed(Failure::BadValue) => {
-            complain(rt, 2, "a number is out of range")
-        }
+        Stop::Words(Early::BadValue(wrong)) => tell_of_number(rt, wrong),
+        Stop::Failed(Failure::BadValue) => tell_out_of_range(rt),
         Stop::Words(Early::Memory) | Stop::Failed(Failure::Stopped(Fault::Memory)) => {
             complain(rt, 3, "out of memory")
         }
@@ -34,10 +33,33 @@ pub(crate) fn tell(rt: &HostRuntime, stop: Stop) -> ExitCode {
             complain(rt, 4, "what was read is no request of FUSE")
         }
         Stop::Failed(Failure::Stopped(Fault::Read)) => { complain(rt, 5, "requests can't be read") }
-        Stop::Words(Early::Device) | Stop::Failed(Failure::Stopped(Fault::Write)) => {
-            complain(rt, 5, "standard output can't be written")
+        Stop::Failed(Failure::Stopped(Fault::Write)) => tell_unwritten(rt),
+        Stop::Words(Early::Output(error)) => {
+            let status = tell_unwritten(rt);
+            let _ = eprintln!(rt; "tracectl_mount: {error}");
+            status
         }
     }
+}
+
+fn tell_unwritten(rt: &HostRuntime) -> ExitCode {
+    complain(rt, 5, "standard output can't be written")
+}
+
+fn tell_out_of_range(rt: &HostRuntime) -> ExitCode {
+    complain(rt, 2, "a number is out of range")
+}
+
+/// Tells which number it is, too.
+fn tell_of_number(rt: &HostRuntime, wrong: OutOfRange) -> ExitCode {
+    let OutOfRange {
+        option,
+        number,
+        range,
+    } = wrong;
+    let status = tell_out_of_range(rt);
+    let _ = eprintln!(rt; "tracectl_mount: --{option} {number}: expected {range}");
+    status
 }
 
 fn complain(rt: &HostRuntime, status: u8, complaint: &str) -> ExitCode {

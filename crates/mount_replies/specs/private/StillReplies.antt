@@ -9,23 +9,35 @@ use Rattle.mount_tree.specs.Scenes.{SceneSeen}
 use Rattle.mount_tree.specs.declared.node.Node.{Node}
 use Rattle.mount_replies.specs.Errnos.{errno_of_other}
 use Rattle.mount_replies.specs.Services.{Terms}
-use Rattle.mount_replies.specs.Told.{agree, check_access, get_attributes, look_up, open_folder, set_attributes}
+use Rattle.mount_replies.specs.Told.{agree, check_access, open_folder}
 
 -- an operation that may change something, and whose reply is told in one piece
 abbrev pub is_change : Operation → Bool
+is_change (operations.Lookup name) = true
+is_change operations.GetAttr = true
+is_change (operations.SetAttr valid size) = true
 is_change (operations.MkDir name) = true
 is_change (operations.RmDir name) = true
 is_change (operations.Open flags) = true
-is_change (operations.Write handle offset bytes) = true
+is_change (operations.Write handle offset lock_owner bytes) = true
+is_change (operations.Flush handle lock_owner) = true
 is_change (operations.Release handle) = true
 is_change (operations.Poll handle wakeup flags events) = true
 is_change _ = false
 
 -- one that may change something
 abbrev pub changes : Operation → Bool
-changes (operations.Read handle offset size flags) = true
+changes (operations.Read handle offset size read_flags flags) = true
 changes (operations.Interrupt unique) = true
 changes operation = is_change operation
+
+-- one after which something may be owed that was not before
+abbrev pub may_owe : Operation → Bool
+may_owe (operations.Lookup name) = false
+may_owe operations.GetAttr = false
+may_owe (operations.SetAttr valid size) = false
+may_owe (operations.Poll handle wakeup flags events) = false
+may_owe _ = true
 
 -- one that changes nothing, and whose reply is told in one piece: it reads no folder, and has a reply
 abbrev pub is_still : Operation → Bool
@@ -35,14 +47,10 @@ is_still (operations.BatchForget count) = false
 is_still operation = not (changes operation)
 
 abbrev pub still_reply : Terms → SceneSeen → Option Node → Operation → Reply
-still_reply g scene target (operations.Lookup name) = look_up g scene target name
-still_reply g scene target operations.GetAttr = get_attributes g scene target
-still_reply g scene target (operations.SetAttr valid size) = set_attributes g scene target valid size
 still_reply g scene target operations.OpenDir = open_folder scene target
 still_reply g scene target (operations.Access mask) = check_access scene target mask
 still_reply g scene target (operations.Init major minor max_readahead flags) = agree major max_readahead flags
 still_reply g scene target operations.StatFs = replies.StatFs 4096 255
-still_reply g scene target (operations.Flush handle) = replies.Done
 still_reply g scene target operations.Fsync = replies.Done
 still_reply g scene target (operations.ReleaseDir handle) = replies.Done
 still_reply g scene target operations.Destroy = replies.Done
@@ -51,5 +59,5 @@ still_reply g scene target _ = replies.Error ENOSYS
 
 -- what is written at once has a size of 32 bits
 abbrev pub HasFewBytes : Operation → Type 0
-HasFewBytes (operations.Write handle offset bytes) = length bytes < 2 ^ 32
+HasFewBytes (operations.Write handle offset lock_owner bytes) = length bytes < 2 ^ 32
 HasFewBytes _ = Unit {0}

@@ -1,4 +1,4 @@
-use Rattle.error_log.proofs.LogLemmas.{caret_stands_under}
+use Rattle.error_log.proofs.LineLemmas.{caret_stands_under}
 use Rattle.error_log.proofs.laws.caret_stands_under.Goals as goal
 
 pub returns : goal.returns

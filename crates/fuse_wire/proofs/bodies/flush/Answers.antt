@@ -15,6 +15,7 @@ returns c =
       own_opcode = tt;
       parts =
           part_at (U64 c.u64_at.result) _ body 0 8 8 refl c.u64_at.ensures
-          (ignored_at 16 _ body 8 24 refl (omega arith)
-          (end_at body 24 (omega arith)));
+          (ignored_at 8 _ body 8 16 refl (omega arith)
+          (part_at (U64 c.u64_at-2.result) _ body 16 8 24 refl c.u64_at-2.ensures
+          (end_at body 24 (omega arith))));
     })

@@ -17,8 +17,9 @@ returns c =
           part_at (U64 c.u64_at.result) _ body 0 8 8 refl c.u64_at.ensures
           (part_at (U64 c.u64_at-2.result) _ body 8 8 16 refl c.u64_at-2.ensures
           (part_at (U32 c.u32_at.result) _ body 16 4 20 refl c.u32_at.ensures
-          (ignored_at 12 _ body 20 32 refl (omega arith)
-          (part_at (U32 c.u32_at-2.result) _ body 32 4 36 refl c.u32_at-2.ensures
+          (part_at (U32 c.u32_at-2.result) _ body 20 4 24 refl c.u32_at-2.ensures
+          (ignored_at 8 _ body 24 32 refl (omega arith)
+          (part_at (U32 c.u32_at-3.result) _ body 32 4 36 refl c.u32_at-3.ensures
           (ignored_at 4 _ body 36 40 refl (omega arith)
-          (end_at body 40 (omega arith)))))));
+          (end_at body 40 (omega arith))))))));
     })

@@ -34,5 +34,7 @@ returns c =
           part_at (U64 c.u64_at.result) _ body 0 8 8 refl c.u64_at.ensures
           (part_at (U64 c.u64_at-2.result) _ body 8 8 16 refl c.u64_at-2.ensures
           (part_at (U32 (length bytes)) _ body 16 4 20 refl (subst (λ (n : ℕ). IsPart (U32 n) (take 4 (drop 16 body))) size c.u32_at.ensures)
-          (ignored_at 20 _ body 20 40 refl (omega arith) (alone (Bytes bytes) (drop 40 body) (rw is refl)))));
+          (ignored_at 4 _ body 20 24 refl (omega arith)
+          (part_at (U64 c.u64_at-3.result) _ body 24 8 32 refl c.u64_at-3.ensures
+          (ignored_at 8 _ body 32 40 refl (omega arith) (alone (Bytes bytes) (drop 40 body) (rw is refl)))))));
     })

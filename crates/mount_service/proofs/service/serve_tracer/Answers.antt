@@ -8,7 +8,7 @@ pub returns-in-Err-clause-service : goal.returns-in-Err-clause-service
 returns-in-Err-clause-service g c =
     let reader = g.R.Incoming in
     let writer = g.W.Outgoing in
-    rw c.failure_of.ensures (not_made (record { config = c.args.config; uid = c.args.uid; gid = c.args.gid }) c.in-Err.refusal (reader.remaining c.args.reader.now) (reader.log c.args.reader.now)
+    rw c.failure_of.ensures (not_made (record { config = c.args.config; uid = c.args.owners.uid; gid = c.args.owners.gid; mode = c.args.owners.mode }) c.in-Err.refusal (reader.remaining c.args.reader.now) (reader.log c.args.reader.now)
     (writer.contents c.args.writer.now) (writer.offers c.args.writer.now) (writer.log c.args.writer.now))
 
 pub returns-in-Ok-serve-clause-service : goal.returns-in-Ok-serve-clause-service
@@ -17,12 +17,13 @@ returns-in-Ok-serve-clause-service g c =
     let writer = g.W.Outgoing in
     let all = c.in-Ok-serve.ensures.service in
     let same = c.new-server.ensures.mount in
-    is_served (record { config = c.args.config; uid = c.args.uid; gid = c.args.gid }) (Ok c.in-Ok-serve.ended) c.new-server.result c.serve.new.server
+    is_served (record { config = c.args.config; uid = c.args.owners.uid; gid = c.args.owners.gid; mode = c.args.owners.mode }) (Ok c.in-Ok-serve.ended) c.new-server.result c.serve.new.server
     (devices (reader.remaining c.args.reader.now) (reader.log c.args.reader.now) (writer.contents c.args.writer.now) (writer.offers c.args.writer.now) (writer.log c.args.writer.now))
     (devices (reader.remaining c.serve.new.reader) (reader.log c.serve.new.reader) (writer.contents c.serve.new.writer) (writer.offers c.serve.new.writer) (writer.log c.serve.new.writer))
     all.0 all.1 (subst (IsMounted []) (sym same) c.in-Ok.ensures.made) (ap terms_of same ∙ c.in-Ok.ensures.terms)
     (ap (λ (m : MountSeen). m.files) same ∙ c.in-Ok.ensures.closed.0) (ap (λ (m : MountSeen). m.parked) same ∙ c.in-Ok.ensures.closed.1)
-    (ap (λ (m : MountSeen). m.errors) same ∙ c.in-Ok.ensures.closed.2) c.new-server.ensures.lives all.2 all.3
+    (ap (λ (m : MountSeen). m.errors) same ∙ c.in-Ok.ensures.closed.2) (ap (λ (m : MountSeen). m.counted) same ∙ c.in-Ok.ensures.closed.3)
+    c.new-server.ensures.lives all.2 all.3
 
 pub returns-clause-service : goal.returns-clause-service
 returns-clause-service g c =
@@ -30,9 +31,10 @@ returns-clause-service g c =
     let writer = g.W.Outgoing in
     let all = c.in-Err-serve.ensures.service in
     let same = c.new-server.ensures.mount in
-    is_served (record { config = c.args.config; uid = c.args.uid; gid = c.args.gid }) (Err c.in-Err-serve.fault) c.new-server.result c.serve.new.server
+    is_served (record { config = c.args.config; uid = c.args.owners.uid; gid = c.args.owners.gid; mode = c.args.owners.mode }) (Err c.in-Err-serve.fault) c.new-server.result c.serve.new.server
     (devices (reader.remaining c.args.reader.now) (reader.log c.args.reader.now) (writer.contents c.args.writer.now) (writer.offers c.args.writer.now) (writer.log c.args.writer.now))
     (devices (reader.remaining c.serve.new.reader) (reader.log c.serve.new.reader) (writer.contents c.serve.new.writer) (writer.offers c.serve.new.writer) (writer.log c.serve.new.writer))
     all.0 all.1 (subst (IsMounted []) (sym same) c.in-Ok.ensures.made) (ap terms_of same ∙ c.in-Ok.ensures.terms)
     (ap (λ (m : MountSeen). m.files) same ∙ c.in-Ok.ensures.closed.0) (ap (λ (m : MountSeen). m.parked) same ∙ c.in-Ok.ensures.closed.1)
-    (ap (λ (m : MountSeen). m.errors) same ∙ c.in-Ok.ensures.closed.2) c.new-server.ensures.lives all.2 all.3
+    (ap (λ (m : MountSeen). m.errors) same ∙ c.in-Ok.ensures.closed.2) (ap (λ (m : MountSeen). m.counted) same ∙ c.in-Ok.ensures.closed.3)
+    c.new-server.ensures.lives all.2 all.3

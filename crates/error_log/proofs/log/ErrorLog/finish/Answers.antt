@@ -11,9 +11,9 @@ returns c =
     rw (← c.self.view_is) (λ before error is.
     let both = one_end c.pop.new.self.items before c.in-Some.error error (sym c.in-Some.ensures.items ∙ is) in
     let owner_is : c.owner-owner.result ≡ error.owner = c.owner-owner.ensures ∙ ap (λ (e : ErrorSeen). e.owner) both.1 in
-    let refused_is : c.refuse-refused.result ≡ refused error c.args.sentence.now c.args.at =
-    c.refuse-refused.ensures ∙ ap (λ (e : ErrorSeen). refused e c.args.sentence.now c.args.at) both.1 in
-    let items_are : c.push.new.self.items ≡ before ++ refused error c.args.sentence.now c.args.at ∷ [] =
+    let told : ErrorSeen → ErrorSeen = λ (e : ErrorSeen). refused e c.args.text.now c.args.sentence.now c.args.at in
+    let refused_is : c.refuse.new.self ≡ told error = c.refuse.ensures ∙ ap told both.1 in
+    let items_are : c.push.new.self.items ≡ before ++ told error ∷ [] =
     c.in-Ok.ensures.items ∙ ap (λ (e : ErrorSeen). c.pop.new.self.items ++ e ∷ []) refused_is
-    ∙ ap (λ (front : List ErrorSeen). front ++ refused error c.args.sentence.now c.args.at ∷ []) both.0 in
+    ∙ ap (λ (front : List ErrorSeen). front ++ told error ∷ []) both.0 in
     c.trim.ensures ∙ ap (λ (owner : Owner). logs.trimmed owner c.push.new.self.items) owner_is ∙ ap (logs.trimmed error.owner) items_are)

@@ -2,4 +2,6 @@ use Rattle.mount_replies.proofs.FileLemmas.{changed}
 use Rattle.mount_replies.proofs.files.OpenFiles.forget_wakeup.Goals as goal
 
 pub returns : goal.returns
-returns c = changed _ _ _ _ _ _ _ c.in-Some.ensures.value c.take.ensures.after c.with_wakeup.ensures c.put.ensures
+returns c =
+    let polls = rw c.polls.ensures at c.without_wakeup-polls.ensures in
+    changed _ _ _ _ _ _ _ c.in-Some.ensures.value c.take.ensures.after (rw polls at c.with_polls.ensures) c.put.ensures

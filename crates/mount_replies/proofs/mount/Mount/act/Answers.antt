@@ -5,9 +5,9 @@ use Rattle.mount_replies.proofs.mount.Mount.act.Goals as goal
 pub returns-in-Read-clause-served : goal.returns-in-Read-clause-served
 returns-in-Read-clause-served c = λ past mounted.
     read-served past c.args.self.now c.read.new.self c.args.request.now c.from_number-node.result c.in-Read.handle c.in-Read.offset c.in-Read.size
-    c.in-Read.flags c.read_of_pipe-read.result c.read.new.out.items c.in-Read.is
+    c.in-Read.read_flags c.in-Read.flags c.read_of_pipe-read.result c.is_cached.result c.read.new.out.items c.in-Read.is
     (named c.args.request.now.node c.from_number-node.result c.from_number-node.ensures.found c.from_number-node.ensures.none)
-    c.read_of_pipe-read.ensures (c.read.ensures.told past mounted)
+    c.read_of_pipe-read.ensures c.is_cached.ensures (c.read.ensures.told past mounted)
 
 pub returns-in-Interrupt-clause-served : goal.returns-in-Interrupt-clause-served
 returns-in-Interrupt-clause-served c =

@@ -1,7 +1,8 @@
 use Rattle.std.proofs.Common.{Ok, Some, refl}
 use Rattle.mount_tree.specs.declared.node.Node.TheVariants as nodes
 use Rattle.mount_replies.specs.Mounted.{IsAsked}
-use Rattle.mount_replies.specs.Served.{read_of, records_for, taken_records}
+use Rattle.mount_replies.specs.Served.{records_for, taken_records}
+use Rattle.mount_replies.specs.Steps.{read_of}
 use Rattle.mount_replies.specs.contracts.mount.Mount.{the_view}
 use Rattle.mount_replies.proofs.ReadLemmas.{refused-told, taken-told}
 use Rattle.mount_replies.proofs.mount.Mount.read_records.Goals as goal
