@@ -109,9 +109,6 @@ parked-step g s read =
 
 -- ---- how often a number is there
 
-own-number : Parked → ℕ
-own-number read = read.unique
-
 interrupted-number : (number : ℕ) (reads : List Parked) → numbers_of (map (interrupted_if number) reads) ≡ numbers_of reads
 interrupted-number number [] = refl
 interrupted-number number (read ∷ reads) =

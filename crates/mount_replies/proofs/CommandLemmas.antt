@@ -1,21 +1,17 @@
 -- Lines that are commands, one after another.
-use Rattle.std.proofs.Common.{◌≡◌, ℕ, ◌+◌, ◌<◌, ◌≤◌, ◌&&◌, Bool, true, false, if◌then◌else◌, is_some, List, [], ◌∷◌, length, drop, take, get_or, Option, Some, None, Ok, Err, refl, sym, ap, subst, ◌∙◌, arith}
-use Rattle.std.specs.List.{list_any, onto_first, position, position_or_len, slice_split}
+use Rattle.std.proofs.Common.{◌≡◌, ℕ, ◌+◌, ◌<◌, ◌≤◌, ◌&&◌, Bool, true, false, if◌then◌else◌, List, [], ◌∷◌, length, drop, take, get_or, Some, None, refl, sym, ap, subst, ◌∙◌, arith}
+use Rattle.std.specs.List.{onto_first, position, position_or_len, slice_split}
 use Rattle.std.proofs.lemmas.List.{length-take-le}
-use Rattle.std.proofs.lemmas.List.Folds.{list_any_at, list_any_none}
 use Rattle.std.proofs.lemmas.List.Quantifiers.{position-Some}
 use Rattle.std.proofs.lemmas.List.Splits.{slice_split_first, slice_split_none}
 use Rattle.std.proofs.lemmas.List.Sums.{fails_before_first, position_or_len_is}
 use Rattle.trace_command.specs.Requests.{Request}
-use Rattle.trace_command.specs.declared.command.Reply.{Reply as Answer}
-use Rattle.trace_command.specs.declared.refusal.Refusal.{Refusal}
 use Rattle.mount_tree.specs.FileKinds.{takes_lines}
 use Rattle.mount_tree.specs.declared.file.File.{File}
 use Rattle.mount_replies.specs.Lines.{command_lines, has_newline, is_blank_line, is_newline, lines_of, one_command, pieces_of, without_newline}
-use Rattle.mount_replies.specs.Mounted.{HasLedTo, IsAsked, IsLineRun, IsRun, MountSeen, all_done, stopped_at, terms_of}
+use Rattle.mount_replies.specs.Mounted.{HasLedTo, IsRun, MountSeen, all_done, stopped_at, terms_of}
 use Rattle.mount_replies.specs.Services.{Terms}
-use Rattle.mount_replies.specs.Steps.{Asking, AsksFor, LineAsked, Ran}
-use Rattle.mount_replies.specs.declared.fault.LineFault.TheVariants.{Refused}
+use Rattle.mount_replies.specs.Steps.{Asking, LineAsked, Ran}
 use Rattle.mount_replies.specs.declared.fault.Progress.{Progress}
 use Rattle.mount_replies.specs.declared.fault.Stop.{Stop}
 use Rattle.mount_replies.specs.private.LineRuns.{IsKept, IsLineDone, IsLineStopped, RunsFrom, RunsTo, refused_line}
@@ -33,31 +29,6 @@ kept-more old mid new first second = record {
   parked = second.parked ∙ first.parked;
   errors = second.errors ∙ first.errors;
   counted = second.counted ∙ first.counted;
-}
-
--- a line's command was done
-pub line-done : (past : List Request) (old new : MountSeen) (request : Request) (answer : Answer) → IsAsked past old new request (Ok answer)
-    → IsLineDone past old new (AsksFor request)
-line-done past old new request answer asked = record {
-  after = request ∷ past;
-  mounted = asked.mounted;
-  kept = record { terms = asked.terms; files = asked.files; parked = asked.parked; errors = asked.errors; counted = asked.counted };
-  runs = λ done line lines ran is rest.
-      subst (λ (a : Asking). IsLineRun (terms_of old) past done line.text (λ (now : List Request). IsRun (terms_of old) now line.end lines ran) ran a)
-      (sym is) (Ok answer, asked.answered, rest);
-}
-
--- or refused
-pub line-stopped : (past : List Request) (old new : MountSeen) (request : Request) (refusal : Refusal) → IsAsked past old new request (Err refusal)
-    → IsLineStopped past old new (AsksFor request) (Refused refusal)
-line-stopped past old new request refusal asked = record {
-  mounted = asked.mounted;
-  kept = record { terms = asked.terms; files = asked.files; parked = asked.parked; errors = asked.errors; counted = asked.counted };
-  runs = λ done line lines is.
-      subst (λ (a : Asking). IsLineRun (terms_of old) past done line.text
-      (λ (now : List Request). IsRun (terms_of old) now line.end lines (stopped_at past done line.text (Refused refusal)))
-      (stopped_at past done line.text (Refused refusal)) a)
-      (sym is) (Err refusal, asked.answered, refl);
 }
 
 -- no line is there
@@ -95,9 +66,6 @@ pub record IsUnderWay (past : List Request) (old new : MountSeen) (all : List Li
   pub kept : IsKept old new
   pub runs : (ran : Ran) → IsRun (terms_of old) now done left ran → IsRun (terms_of old) past 0 all ran
 
-pub way-begins : (past : List Request) (old : MountSeen) (all : List LineAsked) → HasLedTo past old → IsUnderWay past old old all 0 all
-way-begins past old all mounted = record { now = past; mounted = mounted; kept = kept-none old; runs = λ ran is. is }
-
 -- the lines that are left, written otherwise
 pub way-same : (past : List Request) (old new : MountSeen) (all : List LineAsked) (done : ℕ) (left other : List LineAsked) → left ≡ other
     → IsUnderWay past old new all done left → IsUnderWay past old new all done other
@@ -133,17 +101,6 @@ beyond bytes none = grind (arith, none)
 
 no-newline : (bytes : List ℕ) → position is_newline bytes ≡ None → (k d : ℕ) → k < length bytes → is_newline (get_or bytes k d) ≡ false
 no-newline bytes none k d low = fails_before_first is_newline bytes k d (omega (arith, beyond bytes none, low))
-
--- a newline is found exactly where there is one
-pub newline-found : (bytes : List ℕ) → is_some (position is_newline bytes) ≡ list_any is_newline bytes
-newline-found bytes = by (position is_newline bytes) refl
-  where
-    by : (found : Option ℕ) → position is_newline bytes ≡ found → is_some (position is_newline bytes) ≡ list_any is_newline bytes
-    by (Some at) is =
-        let some = position-Some is_newline bytes at 0 is in
-        ap (λ (o : Option ℕ). is_some o) is ∙ sym (list_any_at is_newline bytes at 0 some.0 some.1)
-    by None is =
-        ap (λ (o : Option ℕ). is_some o) is ∙ sym (list_any_none is_newline bytes (no-newline bytes is))
 
 -- there is a piece always
 some-piece : (bytes : List ℕ) → (first : List ℕ) × (more : List (List ℕ)) × (pieces_of bytes ≡ first ∷ more)

@@ -1,11 +1,11 @@
 -- Open files that change.
-use Rattle.std.proofs.Common.{◌≡◌, ℕ, zero, suc, Bool, true, false, if◌then◌else◌, is_none, is_some, nat_lt, ◌<◌, List, [], ◌∷◌, ◌++◌, length, drop, get_or, unwrap_or, Option, Some, None, set, refl, sym, ap, ◌∙◌, arith}
+use Rattle.std.proofs.Common.{◌≡◌, ℕ, zero, suc, Bool, true, false, if◌then◌else◌, is_none, is_some, nat_lt, ◌<◌, List, [], ◌∷◌, ◌++◌, length, get_or, unwrap_or, Option, Some, None, set, refl, sym, ap, ◌∙◌, arith}
 use Rattle.std.specs.List.{list_any, position}
 use Rattle.std.proofs.lemmas.Bool.{lt-ltb}
 use Rattle.std.proofs.lemmas.List.{set-get_or, set-set}
 use Rattle.std.proofs.lemmas.List.Quantifiers.{position-Some}
 use Rattle.std.specs.Option.{option_and_then, option_map}
-use Rattle.mount_replies.specs.Services.{OpenSeen, after_reading, armed, file_at, free_handle, has_wakeup, is_read_out, text_at, with_change, with_file, with_reading, with_records, without_file}
+use Rattle.mount_replies.specs.Services.{OpenSeen, after_reading, file_at, free_handle, has_wakeup, is_read_out, text_at, with_change, with_file, with_reading, without_file}
 
 -- a file is taken out, changed and put back
 pub changed : (change : OpenSeen → OpenSeen) (files now after : List (Option OpenSeen)) (handle : ℕ) (file other : OpenSeen)
@@ -14,19 +14,6 @@ pub changed : (change : OpenSeen → OpenSeen) (files now after : List (Option O
 changed change files now after handle file other found taken is put =
     put ∙ ap (λ (f : List (Option OpenSeen)). set f handle (Some other)) taken ∙ set-set files handle None (Some other)
     ∙ ap (λ (f : OpenSeen). set files handle (Some f)) is ∙ ap (λ (o : Option OpenSeen). set files handle (option_map change o)) found
-
--- a part of the text of a file was given
-pub given-text : (files : List (Option OpenSeen)) (handle count : ℕ) (text : List ℕ) → text_at handle files ≡ Some text
-    → with_change (λ (file : OpenSeen). record file { text = option_map (drop count) file.text; has_read = true; polls = armed false file.polls }) handle files
-    ≡ with_records (drop count text) handle files
-given-text files handle count text has = ap (λ (o : Option OpenSeen). set files handle o) (by (file_at handle files) has)
-  where
-    by : (o : Option OpenSeen) → option_and_then (λ (file : OpenSeen). file.text) o ≡ Some text
-        → option_map (λ (file : OpenSeen). record file { text = option_map (drop count) file.text; has_read = true; polls = armed false file.polls }) o
-        ≡ option_map (λ (file : OpenSeen). record file { text = Some (drop count text); has_read = true; polls = armed false file.polls }) o
-    by None h = refl
-    by (Some file) h =
-        ap (λ (t : Option (List ℕ)). Some (record file { text = option_map (drop count) t; has_read = true; polls = armed false file.polls })) h
 
 -- a text that was read to its end is given back
 pub given-back : (files now after : List (Option OpenSeen)) (handle offset size : ℕ) (text : List ℕ) (file other : OpenSeen)

@@ -1,5 +1,5 @@
 -- Entries of a folder, one after another.
-use Rattle.std.proofs.Common.{◌≡◌, ◌↔◌, ℕ, ◌<◌, ◌≤◌, ◌+◌, ◌-◌, zero, suc, Bool, true, false, nat_le, if◌then◌else◌, IsTrue, IfOk, Result, Ok, Err, append-nil, append_assoc, List, [], ◌∷◌, ◌++◌, length, drop, Some, None, refl, sym, ap, ◌∙◌, arith, length-append}
+use Rattle.std.proofs.Common.{◌≡◌, ◌↔◌, ℕ, ◌<◌, ◌≤◌, ◌+◌, ◌-◌, zero, suc, Bool, true, false, nat_le, if◌then◌else◌, IsTrue, IfOk, Result, Ok, Err, append-nil, List, [], ◌∷◌, ◌++◌, length, drop, Some, None, refl, sym, ap, ◌∙◌, arith, length-append}
 use Rattle.std.proofs.lemmas.Bool.Decides.{nat_tests}
 use Rattle.std.specs.List.{slice_get}
 use Rattle.std.specs.declared.alloc.AllocError.{AllocError}
@@ -94,19 +94,6 @@ pub all-listed : (old now : List ℕ) (size first index : ℕ) (entries : List C
 all-listed old now size first index entries same fits ended so_far =
     let left : length old + (size - length old) ≡ size = omega (arith, fits) in
     same ∙ sym (append-nil old) ∙ ap (λ (l : List ℕ). old ++ l) (sym (ended (size - length old) left)) ∙ so_far (size - length old) left
-
--- one more is listed
-pub more-listed : (old now : List ℕ) (size first count : ℕ) (entries : List Child) → HasPushed old now size (first + count) entries
-    → ((room : ℕ) → length old + room ≡ size → old ++ listed_from room (first + count) entries ≡ listed_from size first entries)
-    → (room : ℕ) → length now + room ≡ size → now ++ listed_from room (first + (count + 1)) entries ≡ listed_from size first entries
-more-listed old now size first count entries has so_far room left =
-    let next : first + (count + 1) ≡ first + count + 1 = omega arith in
-    let wide : length old + (length has.bytes + room) ≡ size =
-    omega (arith, left, ap length has.appended, length-append old has.bytes) in
-    rw next (
-    ap (λ (l : List ℕ). l ++ listed_from room (first + count + 1) entries) has.appended
-    ∙ append_assoc old has.bytes (listed_from room (first + count + 1) entries)
-    ∙ ap (λ (l : List ℕ). old ++ l) (has.rest room left) ∙ so_far (length has.bytes + room) wide)
 
 pub longer : (old now : List ℕ) (size index count : ℕ) (entries : List Child) → HasPushed old now size index entries → count ≤ length old
     → count + 1 ≤ length now

@@ -3,7 +3,7 @@ use Rattle.std.proofs.Common.{◌≡◌, ◌≢◌, inl, inr, ℕ, ◌<◌, ◌=
 use Rattle.std.proofs.lemmas.List.Quantifiers.{position-Some}
 use Rattle.std.specs.List.{position, remove, slice_get, slice_index_or}
 use Rattle.std.specs.Option.{option_and_then}
-use Rattle.fuse_wire.specs.Replies.{reply_bytes, wakeup_bytes}
+use Rattle.fuse_wire.specs.Replies.{reply_bytes}
 use Rattle.fuse_wire.specs.declared.errno.Errno.TheVariants.{EINTR, ENOENT}
 use Rattle.fuse_wire.specs.declared.reply.Reply.{Reply}
 use Rattle.fuse_wire.specs.declared.reply.Reply.TheVariants as replies
@@ -20,7 +20,7 @@ use Rattle.mount_replies.specs.Mounted.{Does, HasLedTo, IsMounted, IsOwedCalled,
 use Rattle.mount_replies.specs.Owed.{first_owed, is_due, is_ready, owed, step_of_parked}
 use Rattle.mount_replies.specs.Pipes.{ends, has_news, is_dry, is_used_up, waits_at, would_wait}
 use Rattle.mount_replies.specs.Served.{given_counted, given_records, given_text, given_tool, goes_on_in, makes_text, read_anew, read_dry, read_file, read_kind, read_log, read_pipe, read_pipe_directly, read_records, read_shown, read_text, read_there, read_tool, taken_records, text_counted, unless_counted}
-use Rattle.mount_replies.specs.Services.{OpenSeen, Service, Terms, file_at, node_of, scene_of, wakeup_at, with_dry_read, without_read, without_wakeup}
+use Rattle.mount_replies.specs.Services.{OpenSeen, Service, Terms, file_at, node_of, scene_of, wakeup_at, with_dry_read, without_read}
 use Rattle.mount_replies.specs.Steps.{Asks, Outcome, Plain, Step, failed}
 use Rattle.mount_replies.specs.declared.parked.Parked.{Parked}
 
@@ -213,20 +213,6 @@ read-replying past old new index read now bytes within is left going first told 
     no-wait true true going due = absurd (cc)
 
 -- ---- a poll is told
-
-pub woken : (past : List Request) (old : MountSeen) (handle wakeup : ℕ) (now : List (Option OpenSeen)) (bytes : List ℕ) → HasLedTo past old
-    → Some wakeup ≡ wakeup_at handle old.files → bytes ≡ wakeup_bytes wakeup → now ≡ without_wakeup handle old.files
-    → IsWaking past old (record old { files = now }) handle bytes
-woken past old handle wakeup now bytes mounted is said are = record {
-  mounted = record { lives = mounted.lives; scene = mounted.scene };
-  terms = refl;
-  told = record {
-    wakeup = wakeup;
-    is = sym is;
-    told = said;
-    now = ap (λ (f : List (Option OpenSeen)). record { past = past; files = f; parked = old.parked; errors = old.errors; counted = old.counted }) are;
-  };
-}
 
 -- the first file that is ready has a poll that is to be told
 pub has-wakeup : (g : Terms) (s : Service) (files : List (Option OpenSeen)) (handle : ℕ) → position (is_ready g s) files ≡ Some handle

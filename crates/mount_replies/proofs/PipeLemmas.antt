@@ -1,5 +1,5 @@
 -- Looks at pipes.
-use Rattle.std.proofs.Common.{◌≡◌, ℕ, Bool, true, false, ◌&&◌, nat_lt, if◌then◌else◌, IfSome, zero, suc, get_or, List, [], ◌∷◌, Option, Some, None, Result, Err, refl, sym, ap, ◌∙◌, ◌<◌, arith}
+use Rattle.std.proofs.Common.{◌≡◌, ℕ, Bool, true, false, ◌&&◌, nat_lt, if◌then◌else◌, IfSome, zero, suc, get_or, List, [], ◌∷◌, Option, Some, None, Result, Err, refl, sym, ap, ◌∙◌, arith}
 use Rattle.std.specs.List.{list_any}
 use Rattle.std.specs.Option.{option_map}
 use Rattle.trace_command.specs.Paths as paths
@@ -13,8 +13,7 @@ use Rattle.trace_command.specs.declared.refusal.Refusal.TheVariants.{BadValue, N
 use Rattle.tracer_specification.specs.History.{missing, missing_cpu, unless_refused}
 use Rattle.tracer_specification.specs.Settings.{is_there as exists}
 use Rattle.tracer_specification.specs.Waiting.{waiting, waits_in}
-use Rattle.std.proofs.lemmas.Bool.Decides.{nat_tests}
-use Rattle.trace_instance.specs.Files.{HasCpu, file_at as path_at}
+use Rattle.trace_instance.specs.Files.{file_at as path_at}
 use Rattle.trace_instance.specs.declared.file.File.{File as Opened}
 use Rattle.trace_instance.specs.declared.file.File.TheVariants as opened
 use Rattle.mount_tree.specs.Children.{file_is_there, is_there, owner_is_there}
@@ -155,36 +154,6 @@ pipe-dry g s owner (files.OfTop file) pipe told is there lives says = absurd (cc
 pipe-dry g s owner (files.CpuSize cpu) pipe told is there lives says = absurd (cc)
 pipe-dry g s owner (files.EventId event) pipe told is there lives says = absurd (cc)
 pipe-dry g s owner files.ErrorLog pipe told is there lives says = absurd (cc)
-
--- its CPU is there
-pub has-cpu : (cpus own : ℕ) (file : File) (pipe : Opened) → Some pipe ≡ pipe_in cpus file → own ≡ cpus → HasCpu own pipe
-has-cpu cpus own files.SyntheticEvents pipe is same = absurd (cc)
-has-cpu cpus own (files.OfInstance top.TracePipe) pipe is same = let e : pipe ≡ opened.OfInstance top.TracePipe = cc in rw e tt
-has-cpu cpus own (files.OfInstance top.Trace) pipe is same = absurd (cc)
-has-cpu cpus own (files.OfInstance top.Overwrite) pipe is same = absurd (cc)
-has-cpu cpus own (files.OfInstance top.TraceOptions) pipe is same = absurd (cc)
-has-cpu cpus own (files.OfInstance top.TracingOn) pipe is same = absurd (cc)
-has-cpu cpus own (files.OfInstance top.Snapshot) pipe is same = absurd (cc)
-has-cpu cpus own (files.OfInstance top.EventsEnable) pipe is same = absurd (cc)
-has-cpu cpus own (files.OfInstance top.EventsFilter) pipe is same = absurd (cc)
-has-cpu cpus own files.SystemEnable pipe is same = absurd (cc)
-has-cpu cpus own (files.OfCpu cpu per_cpu.TracePipe) pipe is same = by (nat_lt cpu cpus) refl is
-  where
-    by : (t : Bool) → nat_lt cpu cpus ≡ t → Some pipe ≡ (if t then Some (opened.OfCpu cpu per_cpu.TracePipe) else None) → HasCpu own pipe
-    by false e found = absurd (cc)
-    by true e found =
-        let this : pipe ≡ opened.OfCpu cpu per_cpu.TracePipe = cc in
-        let low : cpu < own = grind (arith, nat_tests, e, same) in
-        rw this low
-has-cpu cpus own (files.OfCpu cpu per_cpu.Trace) pipe is same = absurd (cc)
-has-cpu cpus own (files.OfCpu cpu per_cpu.Stats) pipe is same = absurd (cc)
-has-cpu cpus own (files.OfEvent event f) pipe is same = absurd (cc)
-has-cpu cpus own (files.Inject event) pipe is same = absurd (cc)
-has-cpu cpus own (files.Tool file) pipe is same = absurd (cc)
-has-cpu cpus own (files.OfTop file) pipe is same = absurd (cc)
-has-cpu cpus own (files.CpuSize cpu) pipe is same = absurd (cc)
-has-cpu cpus own (files.EventId event) pipe is same = absurd (cc)
-has-cpu cpus own files.ErrorLog pipe is same = absurd (cc)
 
 -- ---- what is told of a mounted tracer
 

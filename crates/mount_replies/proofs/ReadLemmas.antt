@@ -1,5 +1,5 @@
 -- What reads come to.
-use Rattle.std.proofs.Common.{◌≡◌, ◌≢◌, ℕ, ◌==◌, Bool, true, false, not, ◌&&◌, ◌||◌, if◌then◌else◌, List, [], length, drop, min, set, Option, Some, None, unwrap_or, Result, Ok, Err, refl, sym, ap, ◌∙◌}
+use Rattle.std.proofs.Common.{◌≡◌, ◌≢◌, ℕ, ◌==◌, Bool, true, false, ◌||◌, if◌then◌else◌, List, [], drop, min, set, Option, Some, None, Result, Ok, Err, refl, sym, ap, ◌∙◌}
 use Rattle.std.specs.Option.{option_and_then, option_map}
 use Rattle.fuse_wire.specs.Replies.{reply_bytes}
 use Rattle.fuse_wire.specs.declared.errno.Errno.{Errno}
@@ -9,10 +9,8 @@ use Rattle.fuse_wire.specs.declared.reply.Reply.TheVariants as replies
 use Rattle.trace_command.specs.Requests.{Request}
 use Rattle.trace_command.specs.declared.command.Reply.{Reply as Answer}
 use Rattle.trace_command.specs.declared.refusal.Refusal.{Refusal}
-use Rattle.tracer_specification.specs.Settings.{is_tracing}
 use Rattle.mount_tree.specs.Children.{is_there}
 use Rattle.mount_tree.specs.FileKinds.{kind_of_file}
-use Rattle.mount_tree.specs.NodePaths.{owner_name}
 use Rattle.mount_tree.specs.Nodes.{number_of}
 use Rattle.mount_tree.specs.Scenes.{SceneSeen}
 use Rattle.mount_tree.specs.declared.file.File.{File}
@@ -23,8 +21,7 @@ use Rattle.mount_tree.specs.declared.node.Node.TheVariants as nodes
 use Rattle.mount_tree.specs.declared.node.Owner.{Owner}
 use Rattle.mount_replies.specs.Errnos.{errno_of}
 use Rattle.mount_replies.specs.Mounted.{HasLedTo, IsAsked, IsStep, IsTold, MountSeen, service_of, terms_of}
-use Rattle.mount_replies.specs.Pipes.{is_dry, is_used_up}
-use Rattle.mount_replies.specs.Served.{given_records, given_text, goes_on_in, is_before_end, makes_text, part_of, read_anew, read_dry, read_file, read_kind, read_new, read_pipe, read_records, records_for, taken_records, text_counted, unless_counted, with_going_on}
+use Rattle.mount_replies.specs.Served.{given_records, given_text, goes_on_in, is_before_end, makes_text, part_of, read_anew, read_file, read_kind, read_records, records_for, taken_records, text_counted, unless_counted, with_going_on}
 use Rattle.mount_replies.specs.Services.{OpenSeen, armed, count_of, file_at, is_read_out, most_data, node_of, scene_of, text_at, with_change, with_reading, with_records}
 use Rattle.mount_replies.specs.Sizes.{text_in}
 use Rattle.mount_replies.specs.Steps.{Asks, Outcome, Plain, failed, plain, read_of, taking, told}
@@ -184,12 +181,6 @@ makes-anew offset handle own files found has before =
 
 -- ---- READ by the page cache
 
--- not at the beginning
-pub later-told : (past : List Request) (old new : MountSeen) (read : Parked) (offset : ℕ) (own : OpenSeen) (bytes : List ℕ) → (offset == 0) ≡ false
-    → IsTold past old new (text_read (terms_of old) (service_of past old) old.scene read offset own) read.unique bytes
-    → IsTold past old new (cached_read (terms_of old) (service_of past old) old.scene read offset own) read.unique bytes
-later-told past old new read offset own bytes later text = rw later (rw later at text)
-
 -- the text that was counted for a file
 pub counted-is : (own : OpenSeen) (owner : Owner) (file : File) (node : ℕ) (counted : List Counted) (text : Option (List ℕ)) → own.owner ≡ owner
     → own.file ≡ file → node ≡ number_of (nodes.File owner file)
@@ -218,13 +209,6 @@ uncopied-told past old read own text bytes mounted has said =
     rw has (told-step past old old
     (taking (replies.Data (part_of 0 read.size text)) (with_reading 0 read.size text read.handle old.files)) read.unique bytes (replies.Error ENOMEM)
     (memory-step past old _ mounted) said)
-
--- none was counted
-pub uncounted-told : (past : List Request) (old new : MountSeen) (read : Parked) (own : OpenSeen) (bytes : List ℕ)
-    → text_counted own old.counted ≡ None
-    → IsTold past old new (text_read (terms_of old) (service_of past old) old.scene read 0 own) read.unique bytes
-    → IsTold past old new (cached_read (terms_of old) (service_of past old) old.scene read 0 own) read.unique bytes
-uncounted-told past old new read own bytes none told = rw none told
 
 -- ---- READ of any file
 
@@ -291,46 +275,3 @@ text-told past old new read offset cached flags own kind bytes mounted has there
     by kinds.Inject no_pipe no_inject told = absurd (no_inject refl)
 
 -- ---- READ of a pipe
-
-used-up : (handle : ℕ) (files : List (Option OpenSeen)) (own : OpenSeen) (rest : List ℕ) → file_at handle files ≡ Some own
-    → rest ≡ unwrap_or (text_at handle files) [] → rest ≡ unwrap_or own.text []
-used-up handle files own rest found is =
-    is ∙ ap (λ (o : Option OpenSeen). unwrap_or (option_and_then (λ (file : OpenSeen). file.text) o) []) found
-
--- something is kept
-pub kept-told : (past : List Request) (old new : MountSeen) (read : Parked) (flags : ℕ) (own : OpenSeen) (rest bytes : List ℕ)
-    → file_at read.handle old.files ≡ Some own → rest ≡ unwrap_or (text_at read.handle old.files) [] → (length rest == 0) ≡ false
-    → ((text : List ℕ) → text_at read.handle old.files ≡ Some text
-    → IsTold past old new (Plain (given_records read.handle read.size text old.files)) read.unique bytes)
-    → IsTold past old new (read_pipe (terms_of old) (service_of past old) read flags own) read.unique bytes
-kept-told past old new read flags own rest bytes found is some told =
-    by own.text (ap (λ (o : Option OpenSeen). option_and_then (λ (file : OpenSeen). file.text) o) found) (used-up read.handle old.files own rest found is)
-  where
-    by : (t : Option (List ℕ)) → text_at read.handle old.files ≡ t → rest ≡ unwrap_or t []
-        → IsTold past old new (if length (unwrap_or t []) == 0 then read_new (terms_of old) (service_of past old) read flags own
-        else Plain (given_records read.handle read.size (unwrap_or t []) old.files)) read.unique bytes
-    by None has same = absurd (let no : (length {A = ℕ} [] == 0) ≡ false = ap (λ (r : List ℕ). length r == 0) (sym same) ∙ some in cc)
-    by (Some text) has same =
-        let left : (length text == 0) ≡ false = ap (λ (r : List ℕ). length r == 0) (sym same) ∙ some in rw left (told text has)
-
--- nothing is kept, and a record waits, or the pipe is gone
-pub new-told : (past : List Request) (old new : MountSeen) (read : Parked) (flags : ℕ) (own : OpenSeen) (owner : Owner) (file : File) (rest bytes : List ℕ)
-    → HasLedTo past old → file_at read.handle old.files ≡ Some own → own.owner ≡ owner → own.file ≡ file
-    → rest ≡ unwrap_or (text_at read.handle old.files) [] → (length rest == 0) ≡ true
-    → is_dry (terms_of old) (service_of past old) owner file ≡ false
-    → IsTold past old new (read_records old.scene read.handle read.size (nodes.File owner file) old.files) read.unique bytes
-    → IsTold past old new (read_pipe (terms_of old) (service_of past old) read flags own) read.unique bytes
-new-told past old new read flags own owner file rest bytes mounted found is_owner is_file is none wet told =
-    let left : is_used_up own ≡ true = ap (λ (r : List ℕ). length r == 0) (sym (used-up read.handle old.files own rest found is)) ∙ none in
-    rw (left, is_owner, is_file, wet, sym mounted.scene) told
-
--- nothing is kept, and no record waits
-pub dry-told : (past : List Request) (old new : MountSeen) (read : Parked) (flags : ℕ) (own : OpenSeen) (owner : Owner) (file : File)
-    (has_read tracing : Bool) (rest bytes : List ℕ) → HasLedTo past old → file_at read.handle old.files ≡ Some own → own.owner ≡ owner → own.file ≡ file
-    → own.has_read ≡ has_read → rest ≡ unwrap_or (text_at read.handle old.files) [] → (length rest == 0) ≡ true
-    → is_dry (terms_of old) (service_of past old) owner file ≡ true → tracing ≡ is_tracing (owner_name old.scene owner) past
-    → IsTold past old new (read_dry read flags (has_read && not tracing) old.files) read.unique bytes
-    → IsTold past old new (read_pipe (terms_of old) (service_of past old) read flags own) read.unique bytes
-dry-told past old new read flags own owner file has_read tracing rest bytes mounted found is_owner is_file is_read is none dry traces told =
-    let left : is_used_up own ≡ true = ap (λ (r : List ℕ). length r == 0) (sym (used-up read.handle old.files own rest found is)) ∙ none in
-    rw (left, is_owner, is_file, dry, is_read, sym mounted.scene, sym traces) told

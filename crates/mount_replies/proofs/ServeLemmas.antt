@@ -15,7 +15,7 @@ use Rattle.trace_command.specs.Requests.{Request}
 use Rattle.mount_tree.specs.Nodes.{FitsItsTypes, number_of}
 use Rattle.mount_tree.specs.Scenes.{SceneSeen}
 use Rattle.mount_tree.specs.declared.node.Node.{Node}
-use Rattle.mount_replies.specs.Mounted.{HasLedTo, IsCalled, IsMounted, IsNamed, IsServed, IsServedBy, IsStep, IsSteppedBy, IsTold, MountSeen, Right, Unframed, Wrong, service_of, terms_of, wrong_reply}
+use Rattle.mount_replies.specs.Mounted.{HasLedTo, IsCalled, IsMounted, IsNamed, IsServed, IsServedBy, IsStep, IsSteppedBy, IsTold, MountSeen, Right, Wrong, service_of, terms_of, wrong_reply}
 use Rattle.mount_replies.specs.Owed.{Owed, owed}
 use Rattle.mount_replies.specs.Served.{is_cached, read_file, step_of}
 use Rattle.mount_replies.specs.Services.{Service, Terms, file_at, interrupted_if, read_of_pipe, scene_of}
@@ -81,35 +81,6 @@ still-left (operations.Poll handle wakeup flags events) still a b d = absurd (cc
 still-left (operations.BatchForget count) still a b d = absurd (d count refl)
 still-left (operations.Other opcode) still a b d = refl
 
-pub change-left : (operation : Operation) → changes operation ≡ true
-    → ((handle offset size read_flags flags : ℕ) → operation ≢ operations.Read handle offset size read_flags flags) → ((unique : ℕ) → operation ≢ operations.Interrupt unique)
-    → is_change operation ≡ true
-change-left (operations.Lookup name) changes a b = refl
-change-left operations.Forget changes a b = absurd (cc)
-change-left operations.GetAttr changes a b = refl
-change-left (operations.SetAttr valid size) changes a b = refl
-change-left (operations.MkDir name) changes a b = refl
-change-left (operations.RmDir name) changes a b = refl
-change-left (operations.Open flags) changes a b = refl
-change-left (operations.Read handle offset size read_flags flags) changes a b = absurd (a handle offset size read_flags flags refl)
-change-left (operations.Write handle offset lock_owner bytes) changes a b = refl
-change-left operations.StatFs changes a b = absurd (cc)
-change-left (operations.Release handle) changes a b = refl
-change-left operations.Fsync changes a b = absurd (cc)
-change-left (operations.GetXAttr name) changes a b = absurd (cc)
-change-left operations.ListXAttr changes a b = absurd (cc)
-change-left (operations.Flush handle lock_owner) changes a b = refl
-change-left (operations.Init major minor max_readahead flags) changes a b = absurd (cc)
-change-left operations.OpenDir changes a b = absurd (cc)
-change-left (operations.ReadDir handle offset size) changes a b = absurd (cc)
-change-left (operations.ReleaseDir handle) changes a b = absurd (cc)
-change-left (operations.Access mask) changes a b = absurd (cc)
-change-left (operations.Interrupt number) changes a b = absurd (b number refl)
-change-left operations.Destroy changes a b = absurd (cc)
-change-left (operations.Poll handle wakeup flags events) changes a b = refl
-change-left (operations.BatchForget count) changes a b = absurd (cc)
-change-left (operations.Other opcode) changes a b = absurd (cc)
-
 pub none-left : (operation : Operation) → is_change operation ≡ true → ((name : List ℕ) → operation ≢ operations.Lookup name)
     → operation ≢ operations.GetAttr → ((valid size : ℕ) → operation ≢ operations.SetAttr valid size)
     → ((name : List ℕ) → operation ≢ operations.MkDir name) → ((name : List ℕ) → operation ≢ operations.RmDir name)
@@ -158,18 +129,6 @@ still-served past old request node reply bytes mounted still name is told =
       does = rw (still-step g s request.unique request.pid node request.operation still) (refl, refl);
       told = told ∙ ap (λ (r : Reply). reply_bytes request.unique r) same;
     }
-
--- and has no reply
-pub forget-served : (past : List Request) (old : MountSeen) (request : Asked) (node : Option Node) (bytes : List ℕ) → IsNamed request.node node
-    → request.operation ≡ operations.Forget → bytes ≡ [] → IsServed (terms_of old) (service_of past old) request bytes (service_of past old)
-forget-served past old request node bytes name is told =
-    record { node = node; named = name; reply = None; does = rw is (refl, refl); told = told }
-
-pub forgets-served : (past : List Request) (old : MountSeen) (request : Asked) (node : Option Node) (count : ℕ) (bytes : List ℕ) → IsNamed request.node node
-    → request.operation ≡ operations.BatchForget count → bytes ≡ []
-    → IsServed (terms_of old) (service_of past old) request bytes (service_of past old)
-forgets-served past old request node count bytes name is told =
-    record { node = node; named = name; reply = None; does = rw is (refl, refl); told = told }
 
 -- ---- requests that may change something
 
@@ -333,15 +292,4 @@ wrong-called past old asked bytes error opcode unique mounted quiet framed only 
   terms = refl;
   nothing_owed = none-owed past old mounted quiet;
   served = Wrong opcode unique framed (λ request is. absurd (let no : Err error ≡ Ok request = only request is in cc)) told refl;
-}
-
--- bytes that are not framed
-pub unframed-called : (past : List Request) (old : MountSeen) (asked bytes : List ℕ) → IsMounted past old → old.owes ≡ false
-    → ((opcode unique : ℕ) → IsFramed asked opcode unique → ⊥) → bytes ≡ [] → IsCalled past old old asked bytes
-unframed-called past old asked bytes mounted quiet unframed told = record {
-  after = past;
-  mounted = mounted;
-  terms = refl;
-  nothing_owed = none-owed past old mounted quiet;
-  served = Unframed unframed told refl;
 }

@@ -1,6 +1,5 @@
 -- Sizes that look-ups tell, and the texts that they counted.
-use Rattle.std.proofs.Common.{◌≡◌, ◌⊎◌, ℕ, ◌+◌, ◌-◌, ◌<◌, ◌≤◌, ◌==◌, zero, suc, Bool, true, false, if◌then◌else◌, nat_lt, List, [], ◌∷◌, ◌++◌, length, take, drop, set, get_or, Option, Some, None, Result, Ok, Err, inl, inr, IfOk, MatchResult, refl, sym, ap, ◌∙◌, subst, arith, append-nil, length-drop}
-use Rattle.std.specs.declared.alloc.AllocError.{AllocError}
+use Rattle.std.proofs.Common.{◌≡◌, ◌⊎◌, ℕ, ◌+◌, ◌-◌, ◌<◌, ◌≤◌, ◌==◌, zero, suc, Bool, true, false, if◌then◌else◌, nat_lt, List, [], ◌∷◌, ◌++◌, length, take, drop, set, get_or, Option, Some, None, Ok, inl, inr, refl, sym, ap, ◌∙◌, subst, arith, append-nil, length-drop}
 use Rattle.std.proofs.lemmas.Bool.{lt-ltb}
 use Rattle.std.proofs.lemmas.Bool.Decides.{nat_tests}
 use Rattle.std.proofs.lemmas.List.{drop_all, take_all}
@@ -158,9 +157,3 @@ told-file past old new telling owner file node reply is does =
     ∙ ap (λ (n : Option Node). sized_step telling (terms_of old) (service_of past old) n) (sym is))
 
 -- ---- copies
-
--- a copy is that text
-pub copied : (r : Result (List ℕ) AllocError) (text shown : List ℕ) → MatchResult r (λ copy. copy ≡ text) (λ e. ⊥ → ⊥) → text ≡ shown
-    → IfOk r (λ copy. copy ≡ shown)
-copied (Ok copy) text shown is same = is ∙ same
-copied (Err e) text shown is same = tt

@@ -1,5 +1,5 @@
 -- What steps come to.
-use Rattle.std.proofs.Common.{◌≡◌, ℕ, Bool, true, List, [], ◌∷◌, ◌++◌, Option, Some, None, Result, refl, sym, ap, ◌∙◌, inl, inr}
+use Rattle.std.proofs.Common.{◌≡◌, ℕ, Bool, List, [], Option, Some, Result, refl, sym, ap, ◌∙◌, inl, inr}
 use Rattle.fuse_wire.specs.Replies.{reply_bytes}
 use Rattle.fuse_wire.specs.declared.errno.Errno.TheVariants.{ENOMEM}
 use Rattle.fuse_wire.specs.declared.reply.Reply.{Reply}
@@ -10,8 +10,8 @@ use Rattle.trace_command.specs.declared.refusal.Refusal.{Refusal}
 use Rattle.trace_command.specs.declared.refusal.Refusal.TheVariants.{Memory}
 use Rattle.error_log.specs.Errors.{ErrorSeen}
 use Rattle.mount_replies.specs.Mounted.{HasLedTo, IsAsked, IsRun, IsStep, IsTold, MountSeen, past_after, stopped_at, terms_of}
-use Rattle.mount_replies.specs.Services.{OpenSeen, with_count}
-use Rattle.mount_replies.specs.Steps.{Asks, AsksLines, AsksNoting, Counts, Keeps, LineAsked, Noting, Outcome, Parks, Ran, Step, Takes, Tells, errors_after, plain, told}
+use Rattle.mount_replies.specs.Services.{OpenSeen}
+use Rattle.mount_replies.specs.Steps.{Asks, AsksLines, AsksNoting, Keeps, LineAsked, Noting, Outcome, Parks, Ran, Step, Takes, Tells, errors_after, plain, told}
 use Rattle.mount_replies.specs.declared.counted.Counted.{Counted}
 use Rattle.mount_replies.specs.declared.fault.LineFault.TheVariants.{Refused}
 use Rattle.mount_replies.specs.declared.parked.Parked.{Parked}
@@ -86,12 +86,6 @@ tells-step past old noting takes reply files now errors mounted is tells = recor
   );
 }
 
--- or memory is refused before
-pub untold-step : (past : List Request) (old : MountSeen) (noting : Noting) (outcome : Outcome) → HasLedTo past old
-    → IsStep past old old (Tells noting true outcome) (Some (replies.Error ENOMEM))
-untold-step past old noting outcome mounted =
-    record { after = past; mounted = mounted; terms = refl; does = inr (refl, refl, refl) }
-
 -- lines were done one after another as far as none was refused
 pub lines-step : (past : List Request) (old mid : MountSeen) (lines : List LineAsked) (outcome : Ran → Outcome) (noting : Ran → Noting) (ran : Ran)
     (now : List (Option OpenSeen)) (errors : List ErrorSeen) (reply : Reply) → HasLedTo ran.past mid → terms_of mid ≡ terms_of old
@@ -140,40 +134,10 @@ unread-step past old lines outcome noting mounted is keeps =
     unrun-step past old lines outcome noting old.files old.errors (replies.Error ENOMEM) mounted (ap (λ (o : Outcome). o.reply) is)
     (ap (λ (o : Outcome). o.files) (sym is)) (ap (λ (n : Noting). errors_after n old.errors) (sym keeps))
 
--- a text is counted
-pub counts-step : (past : List Request) (old : MountSeen) (count : Counted) (reply : Reply) (now : List Counted) → HasLedTo past old
-    → now ≡ with_count count old.counted
-    → IsStep past old (record old { counted = now }) (Counts count (told reply old.files)) (Some reply)
-counts-step past old count reply now mounted is = record {
-  after = past;
-  mounted = record { lives = mounted.lives; scene = mounted.scene };
-  terms = refl;
-  does = inl (refl, ap (λ (c : List Counted). record { past = past; files = old.files; parked = old.parked; errors = old.errors; counted = c }) is);
-}
-
--- or there is no memory for it
-pub uncounted-step : (past : List Request) (old : MountSeen) (count : Counted) (outcome : Outcome) → HasLedTo past old
-    → IsStep past old old (Counts count outcome) (Some (replies.Error ENOMEM))
-uncounted-step past old count outcome mounted = record { after = past; mounted = mounted; terms = refl; does = inr (refl, refl) }
-
 -- and told
 pub told-step : (past : List Request) (old new : MountSeen) (step : Step) (unique : ℕ) (bytes : List ℕ) (reply : Reply)
     → IsStep past old new step (Some reply) → bytes ≡ reply_bytes unique reply → IsTold past old new step unique bytes
 told-step past old new step unique bytes reply is told = record { reply = Some reply; is = is; bytes_are = told }
-
--- a read waits from now on
-pub parked-told : (past : List Request) (old : MountSeen) (read : Parked) (now : List Parked) (unique : ℕ) (bytes : List ℕ) → HasLedTo past old
-    → now ≡ old.parked ++ read ∷ [] → bytes ≡ [] → IsTold past old (record old { parked = now }) (Parks read) unique bytes
-parked-told past old read now unique bytes mounted is none = record {
-  reply = None;
-  is = record {
-    after = past;
-    mounted = record { lives = mounted.lives; scene = mounted.scene };
-    terms = refl;
-    does = inl (refl, ap (λ (p : List Parked). record { past = past; files = old.files; parked = p; errors = old.errors; counted = old.counted }) is);
-  };
-  bytes_are = none;
-}
 
 -- there is no memory to wait
 pub unparked-told : (past : List Request) (old : MountSeen) (read : Parked) (now : List Parked) (unique : ℕ) (bytes : List ℕ) → HasLedTo past old

@@ -12,7 +12,7 @@ use Rattle.trace_format.specs.Definitions.{Definition}
 use Rattle.trace_format.specs.declared.pair.Pair.{Pair}
 use Rattle.tracer_specification.specs.Settings.{declared_events}
 use Rattle.mount_replies.specs.Injections.{injection, pairs_of_line}
-use Rattle.mount_replies.specs.Lines.{asked_by_line, asked_by_pairs, is_blank_line, is_newline, last_piece, line_at_once, most_kept, pieces_of, stream_lines}
+use Rattle.mount_replies.specs.Lines.{asked_by_line, asked_by_pairs, is_blank_line, is_newline, last_piece, most_kept, pieces_of, stream_lines}
 use Rattle.mount_replies.specs.Mounted.{HasLedTo, IsAsked, IsLineRun, IsQuiet, IsRun, MountSeen, all_done, stopped_at, terms_of}
 use Rattle.mount_replies.specs.Services.{Terms}
 use Rattle.mount_replies.specs.Steps.{Asking, AsksFor, AsksNothing, IsTooLong, IsWrongLine, LineAsked, Ran}
@@ -147,31 +147,6 @@ done-of past old new asking (Ok done) well did = did
 done-of past old new asking (Err fault) well did = absurd (well fault refl)
 
 -- ---- one line that is all there is
-
-pub once-done : (past : List Request) (old new : MountSeen) (asking : List ℕ → Asking) (line : List ℕ) → IsEventDone past old new (asking line)
-    → InjectsTo past old new (line_at_once asking line) (record { done = length line; stop = None })
-once-done past old new asking line did = record {
-  is = record {
-    after = did.is.after;
-    mounted = did.is.mounted;
-    kept = did.is.kept;
-    runs = did.is.runs 0 (record { text = line; asking = asking line; end = length line }) [] (all_done did.is.after (length line)) refl refl;
-  };
-  declared = did.declared;
-}
-
-pub once-stopped : (past : List Request) (old new : MountSeen) (asking : List ℕ → Asking) (line : Bor (List ℕ)) (fault : LineFault)
-    → IsLineStopped past old new (asking line.now) fault
-    → InjectsTo past old new (line_at_once asking line.now) (record { done = 0; stop = Some (record { line = line; fault = fault }) })
-once-stopped past old new asking line fault did = record {
-  is = record {
-    after = past;
-    mounted = did.mounted;
-    kept = did.kept;
-    runs = did.runs 0 (record { text = line.now; asking = asking line.now; end = length line.now }) [] refl;
-  };
-  declared = refl;
-}
 
 -- ---- lines of a stream
 

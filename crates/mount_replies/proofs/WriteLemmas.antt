@@ -12,22 +12,18 @@ use Rattle.trace_command.specs.declared.refusal.Refusal.{Refusal}
 use Rattle.trace_command.specs.declared.refusal.Refusal.TheVariants.{Memory}
 use Rattle.tracer_specification.specs.Settings.{declared_events, now_of}
 use Rattle.error_log.specs.Errors.{ErrorSeen, begun, refused}
-use Rattle.refusal_explanations.specs.Writes.{write_offset, write_words}
 use Rattle.mount_tree.specs.Children.{is_there}
 use Rattle.mount_tree.specs.FileKinds.{kind_of_file}
 use Rattle.mount_tree.specs.NodePaths.{path_of}
 use Rattle.mount_tree.specs.Scenes.{SceneSeen}
 use Rattle.mount_tree.specs.declared.file.File.{File}
 use Rattle.mount_tree.specs.declared.file.File.TheVariants as files
-use Rattle.mount_tree.specs.declared.file.FileKind.TheVariants as kinds
 use Rattle.mount_tree.specs.declared.node.Node.TheVariants as nodes
 use Rattle.mount_tree.specs.declared.node.Owner.{Owner}
-use Rattle.mount_stub_files.specs.ToolWrites.{tool_write}
 use Rattle.mount_stub_files.specs.WrongWords.{wrong_offset, wrong_words}
-use Rattle.mount_stub_files.specs.declared.write.ToolWrite.{ToolWrite}
 use Rattle.mount_stub_files.specs.declared.write.ToolWrite.TheVariants.{Wrong}
 use Rattle.mount_replies.specs.FileWrites.{begun_now, inject, switch_text, switched, write_file, write_kind, write_other, write_switch, write_text, write_tool, wrong_write}
-use Rattle.mount_replies.specs.Lines.{lines_of, noted_answer, noted_command, noted_if_first, noted_refusal, written, written_lines}
+use Rattle.mount_replies.specs.Lines.{lines_of, noted_answer, noted_command, noted_if_first, written, written_lines}
 use Rattle.mount_replies.specs.Mounted.{AsksBy, HasLedTo, IsAsked, IsRun, IsStep, MountSeen, service_of, terms_of}
 use Rattle.mount_replies.specs.Served.{emptied, emptied_first, open_flags}
 use Rattle.mount_replies.specs.Services.{OpenSeen, Service, Terms, file_at, free_handle, just_opened, node_of, scene_of, with_file, with_write}
@@ -37,7 +33,7 @@ use Rattle.mount_replies.specs.declared.writing.Target.{Target}
 use Rattle.mount_replies.specs.private.LineRuns.{RunsTo, path_command, refused_line}
 use Rattle.mount_replies.specs.private.Notings.{AsksNoted, IsAskedNoting}
 use Rattle.mount_replies.specs.private.Targets.{EndsCommands, Ends, IsTarget}
-use Rattle.mount_replies.proofs.Steps.{lines-step, noted-step, plain-step, tells-step, unread-step}
+use Rattle.mount_replies.proofs.Steps.{lines-step, noted-step, tells-step, unread-step}
 
 -- a file that is not `inject`
 pub other-kind : (g : Terms) (s : Service) (handle lock_owner pid : ℕ) (bytes : List ℕ) (own : OpenSeen) (file : File)
@@ -55,23 +51,7 @@ other-kind g s handle lock_owner pid bytes own (files.EventId event) other = ref
 other-kind g s handle lock_owner pid bytes own files.ErrorLog other = refl
 other-kind g s handle lock_owner pid bytes own (files.Inject event) other = absurd (other event refl)
 
--- memory is refused before a command is asked
-pub asked-none : (past : List Request) (old : MountSeen) (request : Request) → HasLedTo past old → IsAsked past old old request (Err Memory)
-asked-none past old request mounted = record { answered = λ other. absurd (other refl); mounted = mounted; terms = refl; files = refl; parked = refl; errors = refl; counted = refl }
-
 -- ---- what is noted
-
--- a refusal that is noted
-pub noted-is : (error : ErrorSeen) (path text shown : List ℕ) (at : ℕ) (refusal : Refusal) → refusal ≢ Memory
-    → noted_answer error path text shown at (Err refusal) ≡ Notes (refused error shown (write_words path text refusal) at)
-noted-is error path text shown at Memory other = absurd (other refl)
-noted-is error path text shown at _ other = refl
-
--- with what is to blame in the command
-pub noted-alike : (error : ErrorSeen) (path text shown : List ℕ) (refusal : Refusal)
-    → noted_answer error path text shown (write_offset path text refusal) (Err refusal) ≡ noted_refusal error path text shown refusal
-noted-alike error path text shown Memory = refl
-noted-alike error path text shown _ = refl
 
 -- ---- one command that is noted
 
@@ -178,19 +158,6 @@ memory-text past old own handle bytes mounted =
     (λ (r : Ran). noted_if_first (noted_command (begun_now (terms_of old) (service_of past old) own) P own.file) r.done r.refused) mounted refl refl
 
 -- ---- files that tools ask for
-
--- the write of another file
-pub tool-step : (past : List Request) (old new : MountSeen) (own : OpenSeen) (target : Target) (bytes : List ℕ) (reply : Reply) → HasLedTo past old
-    → IsTarget own target
-    → IsStep past old new (write_tool (terms_of old) (service_of past old) target.handle own bytes (tool_write old.live.config old.scene target.owner target.file bytes)) (Some reply)
-    → IsStep past old new (write_other (terms_of old) (service_of past old) target.handle own bytes kinds.Tool) (Some reply)
-tool-step past old new own target bytes reply mounted is step =
-    let same : tool_write old.live.config old.scene target.owner target.file bytes
-    ≡ tool_write old.live.config (scene_of (terms_of old) (service_of past old)) own.owner own.file bytes =
-    ap (λ (s : SceneSeen). tool_write old.live.config s target.owner target.file bytes) mounted.scene
-    ∙ ap (λ (o : Owner). tool_write old.live.config (scene_of (terms_of old) (service_of past old)) o target.file bytes) (sym is.owner)
-    ∙ ap (λ (f : File). tool_write old.live.config (scene_of (terms_of old) (service_of past old)) own.owner f bytes) (sym is.file_is) in
-    subst (λ (w : ToolWrite). IsStep past old new (write_tool (terms_of old) (service_of past old) target.handle own bytes w) (Some reply)) same step
 
 -- a switch was written for it
 pub switch-step : (past : List Request) (old mid : MountSeen) (own : OpenSeen) (target : Target) (bytes text : List ℕ) (switch : File) (on : Bool)
@@ -410,16 +377,3 @@ writes-inject past old new lock_owner pid event bytes own target reply mounted f
     ap (λ (f : File). write_kind (terms_of old) (service_of past old) target.handle lock_owner pid bytes own f) (sym injects ∙ sym is.file_is)
     ∙ sym (written-there past old target.handle lock_owner pid bytes own target mounted found is there) in
     subst (λ (s : Step). IsStep past old new s (Some reply)) same step
-
-pub writes-missing : (past : List Request) (old : MountSeen) (lock_owner pid : ℕ) (bytes : List ℕ) (own : OpenSeen) (target : Target)
-    → HasLedTo past old → Some own ≡ file_at target.handle old.files → IsTarget own target
-    → is_there old.scene (nodes.File target.owner target.file) ≡ false
-    → IsStep past old old (write_file (terms_of old) (service_of past old) target.handle lock_owner pid bytes (file_at target.handle old.files)) (Some (replies.Error ENOENT))
-writes-missing past old lock_owner pid bytes own target mounted found is none =
-    let same : failed ENOENT old.files
-    ≡ write_file (terms_of old) (service_of past old) target.handle lock_owner pid bytes (file_at target.handle old.files) =
-    sym (ap (λ (o : Option OpenSeen). write_file (terms_of old) (service_of past old) target.handle lock_owner pid bytes o) (sym found)
-    ∙ ap (λ (t : Bool). if t then write_kind (terms_of old) (service_of past old) target.handle lock_owner pid bytes own own.file else failed ENOENT old.files)
-    (ap (λ (s : SceneSeen). is_there s (node_of own)) (sym mounted.scene) ∙ ap (λ (o : Owner). is_there old.scene (nodes.File o own.file)) is.owner
-    ∙ ap (λ (f : File). is_there old.scene (nodes.File target.owner f)) is.file_is ∙ none)) in
-    subst (λ (s : Step). IsStep past old old s (Some (replies.Error ENOENT))) same (plain-step past old (replies.Error ENOENT) old.files old.files mounted refl)

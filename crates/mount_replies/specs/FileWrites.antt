@@ -83,6 +83,7 @@ write_other g s handle file bytes kind = write_text g s handle file bytes
 abbrev pub noted_injection : Terms → Service → OpenSeen → Definition → List ℕ → LineFault → Noting
 noted_injection g s file event text fault = noted_line event (begun_now g s file) text fault
 
+-- at the time after the lines before it
 abbrev pub noted_first_injection : Terms → Service → OpenSeen → Definition → Ran → Noting
 noted_first_injection g s file event ran = noted_if_first (noted_injection g (record s { past = ran.past }) file event) ran.done ran.refused
 

@@ -1,4 +1,4 @@
--- What reads of a file give, as theorems that speak of no program.
+-- What reads of a file give, and which lines a stream is, as theorems that speak of no program.
 use Rattle.std.specs.Prelude.{◌≡◌, ℕ, ◌+◌, ◌-◌, ◌<◌, ◌≤◌, ◌==◌, false, map, List, [], ◌∷◌, ◌++◌, length, take, drop, Option, Some, Ok}
 use Rattle.std.specs.List.{flat_map}
 use Rattle.fuse_wire.specs.declared.reply.Reply.TheVariants as replies

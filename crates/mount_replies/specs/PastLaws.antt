@@ -55,7 +55,7 @@ PastsAreDone = (g : Terms) (requests messages : List (List ℕ)) (after : Servic
 
 -- ---- reads
 
--- a file that reads show whole: no pipe, and not `inject`
+-- a file that commands know and that reads show whole: no pipe
 abbrev pub is_text : FileKind → Bool
 is_text kinds.Text = true
 is_text kinds.Trace = true

@@ -1,5 +1,5 @@
--- What a mounted tracer does at each request of a kernel: it asks the tracer one command, or none, and replies, or lets a read wait. After a command
--- that was refused all is as before, but what `outcome` says of the open files.
+-- What a mounted tracer does at each request of a kernel: it asks the tracer one command, one for each of some lines, or none, and replies, or lets a
+-- read wait. A command that was refused changes nothing but what the step says of the open files and of the errors that are noted.
 use Rattle.std.specs.Prelude.{ℕ, ◌+◌, ◌/◌, ◌%◌, ◌==◌, Bool, true, false, not, ◌&&◌, ◌||◌, nat_lt, is_none, List, [], ◌++◌, take, drop, min, max, Option, Some, None, unwrap_or, Result, Ok, Err, codes, if◌then◌else◌}
 use Rattle.std.specs.Option.{option_and_then}
 use Rattle.fuse_wire.specs.declared.errno.Errno.TheVariants.{EPERM, ENOENT, EBADF, EAGAIN, EACCES, EISDIR, EINVAL, ENOSPC, ENOSYS}

@@ -18,8 +18,8 @@ pub fn requests_do_commands()
     ensures { StepsDoCommands }
 {}
 
-/// What is written to an open `inject` that is a stream is its lines, however it is cut into writes, and no byte is lost or done twice; what has not ended
-/// is nobody's but its writer's.
+/// What is written to an open `inject` that is a stream is its lines, however it is cut into writes, and no byte is lost or asked twice, as long as no line
+/// is refused and no rest is too long. At a FLUSH with another lock owner than its last write's nothing is done of what has not ended.
 pub fn streams_are_lines()
     ensures cuts { CutsDontMatter }
     ensures whole { StreamsLoseNothing }
@@ -72,8 +72,8 @@ pub fn pasts_are_done()
     ensures { PastsAreDone }
 {}
 
-/// A read of a file from its beginning, whatever was served before it, shows what the file shows after the commands that were done by then; of `stats`
-/// these are the counts that are defined over them. Later reads go on in that text.
+/// A read from its beginning of a file that commands know and that is no pipe, whatever was served before it, shows what the file shows after the commands
+/// that were done by then, unless it is the page cache's; of `stats` these are the counts that are defined over them. Later reads go on in that text.
 pub fn reads_show_the_past()
     ensures files { ReadsShowThePast }
     ensures stats { StatsShowThePast }
@@ -82,7 +82,7 @@ pub fn reads_show_the_past()
 {}
 
 /// A write to a file of the tracer's own other than `inject` is one command, of what came without a last newline, or, of several lines to the
-/// declarations or to a trigger, one for each; where the first is refused, nothing has changed but that it is noted.
+/// declarations or to a trigger, one for each that isn't blank until one is refused; where the first is, nothing has changed but that it is noted.
 pub fn writes_are_commands()
     ensures { WritesAreCommands }
 {}

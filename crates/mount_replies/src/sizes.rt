@@ -16,6 +16,7 @@ use crate::mount::Mount;
 use fuse_wire::{Errno, Reply};
 use mount_tree::{File, FileKind, Node, Owner};
 use std::alloc::AllocError;
+use std::mem;
 use trace_command::{Refusal, Reply as Answer};
 use trace_lex::Text;
 use tracer_without_history::MOST_DONE;
@@ -35,8 +36,8 @@ impl Mount {
     {
         let path = self.path_of(owner, file)?;
         match self.live.prepare_read(MOST_DONE, path.as_bytes(), None) {
-            Ok(prepared) => match &prepared.reply {
-                Answer::Text(text) => text.clone(),
+            Ok(mut prepared) => match mem::replace(&mut prepared.reply, Answer::Done) {
+                Answer::Text(text) => Ok(text),
                 Answer::Done => Ok(Text::new(self.alloc)),
             },
             Err(Refusal::Memory) => Err(AllocError),

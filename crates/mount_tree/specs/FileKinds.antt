@@ -45,7 +45,7 @@ access_of_file (CpuSize cpu) = access.Both
 access_of_file (EventId event) = access.Read
 access_of_file ErrorLog = access.Both
 
--- a trace, which any write clears, a pipe, whose reads consume, the file that emits, one that commands do not know, or a text
+-- a trace, which a write by `>` clears, a pipe, whose reads consume, the file that emits, one that commands do not know, or a text
 abbrev pub kind_of_file : File → FileKind
 kind_of_file (OfInstance top.Trace) = kinds.Trace
 kind_of_file (OfInstance top.TracePipe) = kinds.Pipe
