@@ -156,16 +156,17 @@ class Server:
         """The text of a file, read in pieces of this size to its end, or of a pipe until nothing waits."""
         node = self.lookup(path)
         handle = self.open(node, os.O_RDONLY | os.O_NONBLOCK)
-        text = b""
+        parts, offset = [], 0
         try:
-            while more := self.read_at(node, handle, len(text), size, os.O_NONBLOCK):
-                text += more
+            while more := self.read_at(node, handle, offset, size, os.O_NONBLOCK):
+                parts.append(more)
+                offset += len(more)
         except Refused as refused:
             if refused.number != errno.EAGAIN:
                 raise
         finally:
             self.close(node, handle)
-        return text
+        return b"".join(parts)
 
     def park(self, node, handle, size=65536):
         """The number of a read that is to wait: its reply comes after that of a later request."""

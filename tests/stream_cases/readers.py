@@ -6,7 +6,8 @@ import time
 
 from stream_cases.place import INJECT, PLACE, ROOM, declare, get, need, numbers, put, resident, script
 
-QUIET, TIMES = 6_000, 5
+# So many records are there first that their number keeps its length while more come: the text's head has it, and `less` reads the first block twice.
+QUIET, TIMES = 10_000, 5
 HEADER = re.compile(rb"# tracer: nop\n#\n# entries-in-buffer/entries-written: (\d+)/(\d+)   #P:1\n#\n")
 
 # What shows all of the file `$1`, and the program that it needs.
