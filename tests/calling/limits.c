@@ -34,7 +34,20 @@ static int try_emissions(void) {
     return tracectl_close(&tracer) == TRACECTL_DONE;
 }
 
+/* Emits more often than any number of commands or records that a counter of few bits has. */
+static int try_many(void) {
+    tracectl tracer = TRACECTL_CLOSED;
+    tracectl_settings settings = with(0);
+    tracectl_value n = tracectl_unsigned(1);
+    if (tracectl_open(&tracer, &settings) || tracectl_append(&tracer, TEXT("synthetic_events"), TEXT("tick u64 n"))) return 0;
+    if (tracectl_write(&tracer, TEXT("events/enable"), TEXT("1"))) return 0;
+    uint32_t status = 0;
+    for (int i = 0; i < 2000000 && !status; i++) status = tracectl_emit_values(&tracer, 1, 0, 7, &n, 1);
+    printf("%u many emissions: entries: %llu\n", (unsigned)status, (unsigned long long)tracectl_entries(&tracer));
+    return tracectl_close(&tracer) == TRACECTL_DONE;
+}
+
 int main(void) {
     return !(try_limit(1) && try_limit(2) && try_limit(0) && try_limit((uint64_t)1 << 32) && try_limit(((uint64_t)1 << 32) + 1)
-        && try_limit((uint64_t)1 << 60) && try_limit(UINT64_MAX) && try_emissions());
+        && try_limit((uint64_t)1 << 60) && try_limit(UINT64_MAX) && try_emissions() && try_many());
 }

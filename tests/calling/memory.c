@@ -1,5 +1,6 @@
 /* Each call while memory is refused: its first allocation, its second and so on, until the call is done. A call that was refused has changed
- * nothing, and the next one may be done. A look at a pipe takes no memory. Linked with --wrap=malloc and --wrap=realloc. */
+ * nothing, and the next one may be done. A look at a pipe takes no memory. All that was given out has been given back after an open that was refused,
+ * and after a close. Linked with --wrap=malloc, --wrap=realloc and --wrap=free. */
 #include <stdio.h>
 #include <string.h>
 
@@ -7,15 +8,32 @@
 
 void *__real_malloc(size_t size);
 void *__real_realloc(void *block, size_t size);
+void __real_free(void *block);
 
 /* How many allocations succeed before one is refused; below 0, none is. */
 static long left = -1;
 
+/* How many blocks were given out, and were not given back. */
+static long kept = 0;
+
 static int is_refused(void) { return left >= 0 && left-- == 0; }
 
-void *__wrap_malloc(size_t size) { return is_refused() ? 0 : __real_malloc(size); }
+void *__wrap_malloc(size_t size) {
+    void *block = is_refused() ? 0 : __real_malloc(size);
+    kept += block != 0;
+    return block;
+}
 
-void *__wrap_realloc(void *block, size_t size) { return is_refused() ? 0 : __real_realloc(block, size); }
+void *__wrap_realloc(void *block, size_t size) {
+    void *moved = is_refused() ? 0 : __real_realloc(block, size);
+    kept += !block && moved;
+    return moved;
+}
+
+void __wrap_free(void *block) {
+    kept -= block != 0;
+    __real_free(block);
+}
 
 static tracectl tracer = TRACECTL_CLOSED;
 
@@ -41,6 +59,10 @@ static uint32_t emitted_by_values(void) {
     return tracectl_emit_values(&tracer, 1, 0, 7, values, 2);
 }
 
+static uint32_t made(void) { return tracectl_line(&tracer, TEXT("mkdir instances/long_named_instance")); }
+
+static uint32_t swapped(void) { return tracectl_append(&tracer, TEXT("instances/long_named_instance/snapshot"), TEXT("1")); }
+
 static uint32_t taken(void) { return tracectl_take(&tracer, TEXT("per_cpu/cpu1/trace_pipe"), 1); }
 
 static uint32_t read_hist(void) { return tracectl_read(&tracer, TEXT("events/synthetic/long_named_event/hist")); }
@@ -55,7 +77,8 @@ static int is_done(const char *name, uint32_t (*call)(void)) {
         uint32_t status = call();
         left = -1;
         if (status == TRACECTL_DONE) return printf("%s: done\n", name) > 0;
-        if (status != TRACECTL_MEMORY || tracectl_entries(&tracer) != entries) return printf("%s: status %u\n", name, (unsigned)status) < 0;
+        int leaks = call == opened && kept;
+        if (status != TRACECTL_MEMORY || tracectl_entries(&tracer) != entries || leaks) return printf("%s: status %u\n", name, (unsigned)status) < 0;
     }
 }
 
@@ -72,6 +95,14 @@ static int tells(const char *pipe, size_t pipe_length, int32_t wanted) {
         && waits == wanted && !took && same;
 }
 
+/* Closes the tracer. Tells whether all memory was given back. */
+static int is_given_back(void) {
+    long before = kept;
+    uint32_t status = tracectl_close(&tracer);
+    printf("close: status %u, %s before, %ld blocks after\n", (unsigned)status, before > 0 ? "some blocks" : "none", kept);
+    return status == TRACECTL_DONE && before > 0 && !kept;
+}
+
 int main(void) {
     int done = enabled() == TRACECTL_NOT_OPEN && listed() == TRACECTL_NOT_OPEN && tracectl_close(&tracer) == TRACECTL_NOT_OPEN
         && tells(TEXT("trace_pipe"), -TRACECTL_NOT_OPEN)
@@ -79,7 +110,10 @@ int main(void) {
         && is_done("trigger", counted) && tells(TEXT("trace_pipe"), 0) && is_done("emit", emitted) && is_done("emit_values", emitted_by_values)
         && tells(TEXT("trace_pipe"), 1) && tells(TEXT("per_cpu/cpu1/trace_pipe"), 1) && tells(TEXT("per_cpu/cpu0/trace_pipe"), 1)
         && tells(TEXT("per_cpu/cpu2/trace_pipe"), -20) && tells(TEXT("no_file"), -1) && tells(TEXT("trace"), -TRACECTL_BAD_VALUE)
-        && tells(TEXT("instances/a/trace_pipe"), -18) && is_done("take", taken) && tells(TEXT("per_cpu/cpu1/trace_pipe"), 0) && is_done("read", read_hist) && is_done("files", listed);
+        && tells(TEXT("instances/a/trace_pipe"), -18) && is_done("take", taken) && tells(TEXT("per_cpu/cpu1/trace_pipe"), 0) && is_done("read", read_hist) && is_done("files", listed)
+        && is_done("mkdir", made) && is_done("snapshot", swapped);
     printf("entries: %llu\n", (unsigned long long)tracectl_entries(&tracer));
-    return tracectl_close(&tracer) || !done;
+    done = is_given_back() && done;
+    done = is_done("open", opened) && is_given_back() && done;
+    return !done;
 }

@@ -33,7 +33,7 @@ def built():
     atexit.register(shutil.rmtree, str(folder))
     subprocess.run([str(TOP / "examples" / "c" / "build"), str(folder)], check=True)
     heap = Path(subprocess.run(["rt", "doc"], stdout=subprocess.PIPE, check=True).stdout.decode().strip()).parent / "c" / "liblibc_c.a"
-    for name, words in (("memory", ["-Wl,--wrap=malloc,--wrap=realloc"]), ("limits", []), ("values", [])):
+    for name, words in (("memory", ["-Wl,--wrap=malloc,--wrap=realloc,--wrap=free"]), ("limits", []), ("values", [])):
         words += ["-I", LIBRARY.parent.parent, "-o", folder / name, CALLING / (name + ".c"), folder / "libtracectl_c.a", heap]
         subprocess.run([os.environ.get("CC", "cc")] + [str(word) for word in words], check=True)
     return folder

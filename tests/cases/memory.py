@@ -63,6 +63,7 @@ def replies_before_refusal(program):
 
 PART_SIZES = [1024 * size for size in range(16, 256, 20)]  # KiB: from what a script of a few lines needs to more than parts do
 ROUNDS = 40
+MANY = 600_000
 ONE_ARENA = ["env", "MALLOC_ARENA_MAX=1"]  # the C library sets aside 64 MiB of address space for each thread, where there are so many: by luck
 
 
@@ -98,6 +99,12 @@ def endless_part():
     return begins + EMISSION * count
 
 
+def many_in_chunks(program):
+    """The history of these emissions takes 18 MiB, in chunks: one piece of memory that grows by doubling would have 32."""
+    want = Outcome(0, stats(MANY), b"")
+    return differences(run([program] + SMALL, script=b"".join(SETUP + [EMISSION] * MANY + [STATS]), before=limit_memory(47_104)), want)
+
+
 def long_use(program):
     """A ring of two pages goes on through 140,000 emissions, with overwriting and without in turn, and 20,000 reads: each one takes a record."""
     lines = SETUP[:]
@@ -116,6 +123,7 @@ def memory_cases():
     return [
         Case("100,000 emissions", all_done),
         Case("140,000 emissions and 20,000 reads", long_use),
+        Case("600,000 emissions in 46 MiB", many_in_chunks),
         case_of("a short script in 64 MiB", want, script=short, before=limit_memory(65_536)),
         case_of("a short script in 16 MiB", want, script=short, before=limit_memory(16_384)),
         Case("a long script with a hist trigger in 24 MiB", long_script_differences(24_576, 500, setup=COSTLY_SETUP, emission=COSTLY_EMISSION)),

@@ -1,16 +1,16 @@
-"""tracectl.py: what calls come to by their arguments, calls with random arguments, and the names of statuses.
+"""tracectl.py: what calls come to by their arguments, calls with random arguments, walks, and the names of statuses.
 
 Calls are made in processes of their own, so that a crash is one case's failure.
 """
-import os
-import random
 import re
 import sys
 
 from cases.running import TOP, Case, Outcome, differences, run
+from walking.walks import seed_of
 
 CALLING = TOP / "tests" / "calling"
 COUNT = 100_000
+SECONDS = 10  # of walks
 
 
 def run_script(library, name, *words):
@@ -24,7 +24,7 @@ def arguments(library):
 
 def random_calls(library):
     """Makes the calls of the seed that TRACECTL_SEED in the environment says, or of any, which is told."""
-    seed = os.environ.get("TRACECTL_SEED") or str(random.randrange(2**32))
+    seed = seed_of()
     got = run_script(library, "random_calls.py", seed, COUNT)
     told = got.stdout.decode(errors="backslashreplace").strip()
     print("random calls from Python, again by TRACECTL_SEED=%s: %s" % (seed, told if not got.status else "status %d" % got.status), flush=True)
@@ -33,6 +33,14 @@ def random_calls(library):
     times = {come: int(count) for count, come in re.findall(r"(\d+) ([^,]+)", told)}
     rare = [come for come in ("done", "refused", "TypeError or ValueError") if times.get(come, 0) < COUNT / 10]
     return ["seed %s: less than a tenth of the calls came to %s" % (seed, " or ".join(rare))] if rare else []
+
+
+def walks(library, program):
+    """What is wrong with walks, likewise of a seed."""
+    got = run_script(library, "walks.py", program, seed_of(), str(SECONDS))
+    told, *wrong = got.stdout.decode(errors="backslashreplace").splitlines() or ["nothing was told"]
+    print(told, flush=True)
+    return wrong + got.stderr.decode().splitlines() + ([] if got.status == 0 else ["exit status %d: %s" % (got.status, told)])
 
 
 def told_names():
@@ -62,5 +70,6 @@ def python_cases(library):
     return [
         Case("tests/calling/arguments.py", lambda _: arguments(library)),
         Case("tests/calling/random_calls.py", lambda _: random_calls(library)),
+        Case("tests/calling/walks.py", lambda program: walks(library, program)),
         Case("the names of statuses in examples/python/tracectl.py", names),
     ]
