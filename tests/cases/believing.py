@@ -9,9 +9,9 @@ from pathlib import Path
 if __name__ == "__main__":
     sys.path.insert(0, str(Path(__file__).resolve().parent.parent))
 
+from cases.definitions import CRATES, IMPORT, MODEL, Library, imports_of
 from cases.running import TOP, Case
 
-CRATES = TOP / "crates"
 PAGE = TOP / "docs" / "BELIEVE.md"
 HEADLINE = (("trace_session", "session.rt", "run_session"), ("parallel_history", "history.rt", "history_of"))
 MOUNT = (("mount_service", "service.rt", "serve_tracer"),)
@@ -24,200 +24,97 @@ words of the standard library. **{count} definitions, {lines} lines without comm
 cites. [READING-SPECS.md](READING-SPECS.md) says how to read them. Everything else of the repository, code, proofs and other definitions, is checked
 against them by the compiler.
 
-This page is written by `python3 tests/cases/believing.py`, and `tests/program` fails if it is not what that writes. A name is followed by its spelling,
-so a definition is listed too often rather than too seldom.
+This page is written by `python3 tests/cases/believing.py`, and `tests/program` fails if it is not what that writes, or if a name stands for nothing.
+A name is followed by its spelling, so a definition is listed too often rather than too seldom. Not listed, since it need not be believed:
 
-What a text means is defined by a function that reads it. For most there is also a relation that says how such a text is written, and a theorem that
-the two agree; believe either.
+- What a trait says that only bounds a type of which no clause speaks, as `SharedBook` in `run_session`. The clauses hold whatever it says.
+- How private fields make up what contracts see of a value. If a call takes or returns such values, as `Book`, the function that returns what contracts
+  see of one is listed; if not, the type that they see, as `Parsed` of a `Filter`.
+- A function that reads a text, or the relation that says how such a text is written, if a theorem says that they agree: believe either. The shorter is
+  listed. Where that is the relation, what the theorem says is listed in place of the function:
+  {laws}. The last is of a filter of an event
+  and a row of it; in a history nothing else is asked (`filters_are_of_their_events` of tracer_specification, `triggers_meet_as_their_trees` of
+  history_laws).
 
-| What is read | Function, listed below | Relation, not listed | Theorem |
-|---|---|---|---|
-| the words of a line | `tokens_of` | `trace_script`, Grammar: `IsWritten` | `lines_are_as_written` |
-| an event's declaration | `definition_of` | `trace_format`, Reading: `Declares`, `IsRefusedAt` | `declarations_are_as_written` |
-| the fields of an emission | `row_of` | `trace_format`, Pairs: `Give` | `rows_are_as_given` |
-| a record's payload | `row_from` | `payload_of` of a row | `payloads_are_read_as_their_rows` |
-| a filter | `answer_of`, `parsed_of` | `trace_filter`, Grammar and Filters: `IsFilter`, `IsRefused` | `filters_are_as_written` |
-| whether it passes | `holds_of` | `trace_filter`, Truth: `Passes` | `filters_hold_as_their_trees` |
-| a pattern | `parts_of` | `trace_filter`, GlobGrammar: `IsWrittenGlob` | `globs_are_as_written` |
-| a trigger | `said_of`, `spec_of` | `trace_trigger`, TriggerGrammar and HistGrammar | `trigger_texts_are_as_written` |
+| What is read | Function | Relation | Theorem | Listed |
+|---|---|---|---|---|
+{readings}
 
 """
 
-# `use Rattle.CRATE.specs.MODULE.{NAMES}`, or `.. as OTHER`, or a module or a name alone.
-IMPORT = re.compile(r"^\s*(?:pub )?(?:ghost )?use Rattle\.(\w+)\.specs\.([\w.]+?)(?:\.\{(.*?)\}| as (\w+))?;?$", re.M)
-# The first line of a definition in a file of specs/.
-HEAD = re.compile(r"(?:pub )?(?:abbrev|unfoldable|data|record|pub)(?: (?:pub|data|record|abbrev|unfoldable))* ([\w?']+|\S*◌\S*)")
-# A type, a constant or a trait in a file of src/.
-TYPE = r"^pub (?:enum|struct|trait|const) %s\b[^\n]*(?:\n(?:[ ].*|)$)*(?:\n\})?"
-MODEL = r"^impl(?:<[^>]*>)? Model for %s\b[^\n]*(?:\n(?:[ ].*|)$)*\n\}"
-WORD = re.compile(r"(?<![\w.])([A-Za-z_]\w*)((?:\.[A-Za-z_]\w*)*)")
-# Names that a definition binds, which are no words of others.
-BOUND = re.compile(r"λ ([^.]*)\.|[({]((?:[a-z]\w* )+):|let (\w+)[ :]|[{;,] (\w+) = |^\s+(?:pub )?([a-z]\w*) [:=]", re.M)
+
+class Reading:
+    """What is read by a function, the relations that say how it is written, the theorem that they agree, and the words of that, if the page lists these."""
+
+    def __init__(self, what, crate, function, relations, theorem, laws=()):
+        self.what, self.crate, self.function, self.relations, self.theorem, self.laws = what, crate, function, relations, theorem, laws
+
+    def row(self):
+        files = dict.fromkeys(file for file, _ in self.relations)
+        names = "; ".join("%s: %s" % (file, ", ".join("`%s`" % name for home, name in self.relations if home == file)) for file in files)
+        listed = "relation" if self.laws else "function"
+        return "| %s | `%s` | `%s`, %s | `%s` | %s |" % (self.what, self.function[1], self.crate, names, self.theorem, listed)
 
 
-class Definition:
-    """A definition: its file, its name, its text with the comment above, and its place in the file."""
-
-    def __init__(self, file, name, text, place):
-        self.file, self.name, self.text, self.place = file, name, text, place
-
-    def code(self):
-        """Its lines without comments."""
-        lines = [line for line in self.text.splitlines() if line.strip()]
-        return [line for line in lines if not re.match(r"\s*(--|//|#\[)", line)]
-
-
-class File:
-    """A file of specs/ with its definitions, or one of src/ with the types that were asked for."""
-
-    def __init__(self, crate, path):
-        self.crate, self.path = crate, path
-        self.text = path.read_text()
-        self.found = {}
-        self.imports, self.modules = imports_of(self.text)
-        if path.suffix == ".antt":
-            self.read_specs()
-
-    def title(self):
-        return self.path.relative_to(CRATES / self.crate).as_posix()
-
-    def read_specs(self):
-        held, comment, name, start = [], [], None, 0
-        lines = [*self.text.splitlines(), "use"]
-        for number, line in enumerate(lines):
-            head = HEAD.match(line)
-            ends = head or line.startswith(("use ", "use", "pub mod")) or (line.startswith("--") and not goes_on(lines[number:], name))
-            if name and ends:
-                self.found[name] = Definition(self, name, "\n".join(held).rstrip(), start)
-                held, name = [], None
-            if line.startswith("--") and not name:
-                comment = [] if line.startswith("-- ----") else [*comment, line]
-            elif head and not line.startswith("pub mod"):
-                name, held, comment, start = head.group(1), [*comment, line], [], number
-            elif name:
-                held.append(line)
-            else:
-                comment = []
-
-    def of_source(self, name):
-        """A type, a trait or a constant of src/."""
-        if name not in self.found:
-            found = re.search(TYPE % re.escape(name), self.text, re.M)
-            if found is None:
-                return None
-            above = []
-            for line in reversed(self.text[: found.start()].splitlines()):
-                if not line.startswith(("///", "#[")):
-                    break
-                above.insert(0, line)
-            self.found[name] = Definition(self, name, "\n".join([*above, found.group().rstrip()]), self.text[: found.start()].count("\n"))
-        return self.found[name]
-
-    def model(self, name):
-        """How contracts see a type."""
-        key = "impl " + name
-        found = re.search(MODEL % re.escape(name), self.text, re.M)
-        if found and key not in self.found:
-            self.found[key] = Definition(self, key, found.group().rstrip(), self.text[: found.start()].count("\n"))
-        return self.found.get(key)
-
-
-def goes_on(lines, name):
-    """Whether an equation of this definition follows these comments."""
-    return next(line for line in lines if not line.startswith("--")).startswith("%s " % name)
-
-
-def imports_of(text):
-    """For each imported name where it is from, and for each alias its module."""
-    names, modules = {}, {}
-    for crate, module, inside, other in IMPORT.findall(text):
-        if inside:
-            for each in inside.split(","):
-                name, _, alias = each.strip().partition(" as ")
-                names[alias or name] = (crate, module, name)
-        else:
-            modules[other or module.split(".")[-1]] = (crate, module)
-    return names, modules
-
-
-class Library:
-    """The definitions of the repository."""
-
-    def __init__(self):
-        self.files = {}
-
-    def file(self, crate, path):
-        if path not in self.files and path.exists():
-            self.files[path] = File(crate, path)
-        return self.files.get(path)
-
-    def source(self, crate, parts, name):
-        """A type in src/, by the path of its module."""
-        for count in range(len(parts), 0, -1):
-            for path in (CRATES / crate / "src" / "/".join(parts[:count])).with_suffix(".rt"), CRATES / crate / "src" / "/".join(parts[:count]) / "mod.rt":
-                file = self.file(crate, path)
-                if file and file.of_source(name):
-                    return file.of_source(name)
-        return None
-
-    def named(self, crate, module, name):
-        """What an imported name stands for."""
-        parts = module.split(".")
-        if parts[0] == "declared":
-            if parts[-1] == "TheConstants":
-                return self.source(crate, parts[1:-1] or ["lib"], name)
-            if parts[-1] == "TheVariants":
-                return self.source(crate, parts[1:-2], parts[-2])
-            return self.source(crate, parts[1:-1], name) or self.source(crate, parts[1:], name)
-        file = self.file(crate, (CRATES / crate / "specs").joinpath(*parts).with_suffix(".antt"))
-        return file.found.get(name) if file else None
-
-    def cited(self, file, text, own=None):
-        """The definitions that a text of this file names."""
-        bound = {word for groups in BOUND.findall(text) for group in groups for word in group.split()}
-        if own:
-            for line in text.splitlines():
-                if line.startswith(own + " ") and "=" in line:
-                    heads = line.split(" = ")[0].split()[1:]
-                    bound |= {word.strip("(){}") for word in heads if re.fullmatch(r"[({]*[a-z_]\w*[)}]*", word)}
-        for first, rest in WORD.findall(re.sub(r"--.*|//.*", "", text)):
-            if first in bound and not rest:
-                continue
-            if first in file.imports:
-                yield self.named(*file.imports[first])
-            elif first in file.modules:
-                crate, module = file.modules[first]
-                yield self.named(crate, module, rest[1:].split(".")[0])
-            elif file.path.suffix == ".antt" and first != own:
-                yield file.found.get(first)
+READINGS = (
+    Reading("what a line asks for", "trace_script", ("Lines", "line_of"), (("Commands", "AsksFor"),), "lines_are_as_written"),
+    Reading("the fault of a line", "trace_script", ("Lines", "line_of"), (("Faults", "HasFault"),), "faults_come_in_order"),
+    Reading("the words of a line", "trace_script", ("Tokens", "tokens_of"), (("Grammar", "IsWritten"),), "tokens_are_as_written"),
+    Reading(
+        "an event's declaration",
+        "trace_format",
+        ("Reading", "definition_of"),
+        (("Definitions", "Declares"), ("Definitions", "IsRefusedAt")),
+        "declarations_are_as_written",
+        ("DefinitionIsRead", "RefusalIsRead"),
+    ),
+    Reading(
+        "the fields of an emission",
+        "trace_format",
+        ("Rows", "row_of"),
+        (("Pairs", "Give"), ("Pairs", "IsWrongPair"), ("Pairs", "IsMissingField")),
+        "rows_are_as_given",
+    ),
+    Reading(
+        "a record's payload", "trace_format", ("Decoding", "row_from"), (("Cells", "payload_of"),), "payloads_are_read_as_their_rows", ("PayloadIsRead",)
+    ),
+    Reading("the words of a filter", "trace_filter", ("Tokens", "spots_of"), (("TokenGrammar", "IsWrittenText"),), "tokens_are_as_written"),
+    Reading(
+        "a filter",
+        "trace_filter",
+        ("Filters", "answer_of"),
+        (("Filters", "IsFilter"), ("Filters", "IsRefused")),
+        "filters_are_as_written",
+        ("FilterIsAnswered", "RefusalIsAnswered"),
+    ),
+    Reading("whether it passes", "trace_filter", ("Values", "holds_of"), (("Filters", "Passes"),), "filters_hold_as_their_trees", ("HoldsAsItsTree",)),
+    Reading("a pattern", "trace_filter", ("Globs", "parts_of"), (("GlobGrammar", "IsWrittenGlob"),), "globs_are_as_written"),
+    Reading(
+        "a snapshot trigger", "trace_trigger", ("TriggerTexts", "said_of"), (("TriggerGrammar", "Writes"), ("Laws", "IsBad")), "trigger_texts_are_as_written"
+    ),
+    Reading(
+        "a hist trigger",
+        "trace_trigger",
+        ("HistTexts", "spec_of"),
+        (("HistGrammar", "Says"), ("HistRefusals", "IsRefusedAs")),
+        "hist_triggers_are_as_written",
+    ),
+)
 
 
 def clauses_of(text, function):
     """The head of a function with its clauses."""
     start = re.search(r"pub fn %s[<(]" % function, text).start()
-    return text[start : text.index("\n{\n", start)]
+    return text[start : text.index("\n{", start)]
 
 
-def types_in(library, file, text):
-    """The repository's types and traits that a head names, with what contracts see of them."""
-    for crate in dict.fromkeys(re.findall(r"^use (\w+)::", file.text, re.M)):
-        home = file.path.parent if crate == "crate" else CRATES / crate / "src"
-        if home.exists():
-            yield from seen_in(library, file.crate if crate == "crate" else crate, home, text)
-
-
-def seen_in(library, crate, home, text):
-    for path in sorted(home.rglob("*.rt")):
-        source = library.file(crate, path)
-        for name in re.findall(r"^pub (?:struct|enum|trait) (\w+)", source.text, re.M):
-            if re.search(r"\b%s\b" % name, text) and not only_bounds(name, text):
-                yield source.model(name) or source.of_source(name)
-
-
-def only_bounds(name, text):
-    """Whether a head has this name only as the bound of a type of which no clause speaks: then its clauses hold whatever the trait says."""
-    bounded = re.findall(r"\b(\w+): %s\b" % name, text)
-    return len(bounded) == len(re.findall(r"\b%s\b" % name, text)) and not any(re.search(r"\b%s\." % each, text) for each in bounded)
+def believed_of(head):
+    """A head without the bounds of types of which no clause speaks: then its clauses hold whatever the traits say."""
+    generics = re.match(r"pub fn \w+<(.*?)>\(", head, re.S)
+    for name, bounds in re.findall(r"(\w+): ([^,]*)", generics.group(1)) if generics else ():
+        if not re.search(r"\b%s\." % name, head):
+            head = head.replace("%s: %s" % (name, bounds), name, 1)
+    return head
 
 
 def without_fields(text, kept):
@@ -227,28 +124,38 @@ def without_fields(text, kept):
     return "\n".join(line for line, field in zip(lines, fields) if not field or field.group(1) in kept)
 
 
-def reached_from(library, places):
-    """All definitions that these places rest on, each after those that it cites. Of what contracts see of a type, only what these clauses name."""
+def reached_from(places):
+    """All definitions that these places rest on, each after those that it cites, and what they name that stands for nothing. Of what contracts see of
+    a type, only what these clauses name."""
+    library = Library()
     order, seen = [], set()
+    laws = {(each.crate, each.function): each.laws for each in READINGS if each.laws}
 
     def add(definition, kept=None):
-        if definition is None or definition in seen:
+        if definition in seen:
             return
         seen.add(definition)
-        text = without_fields(definition.text, kept) if kept else definition.text
+        file = definition.file
+        theorem = laws.get((file.crate, (file.path.stem, definition.name)))
+        if theorem:
+            for law in theorem:
+                add(library.named(file.crate, "Laws", law))
+            return
+        text = without_fields(definition.naming, kept) if kept else definition.naming
         inner = kept if definition.name.startswith("impl ") else None
-        for other in library.cited(definition.file, text, definition.name):
+        for other in library.cited(file, text, definition.names):
             add(other, inner)
         order.append(definition)
 
     for crate, source, function in places:
         file = library.file(crate, CRATES / crate / "src" / source)
-        head = clauses_of(file.text, function)
+        library.take_values(file, believed_of(clauses_of(file.text, function)))
+    for crate, source, function in places:
+        file = library.file(crate, CRATES / crate / "src" / source)
+        head = believed_of(clauses_of(file.text, function))
         for definition in library.cited(file, head):
-            add(definition)
-        for definition in types_in(library, file, head):
             add(definition, set(re.findall(r"\.(\w+)", head)))
-    return order
+    return order, library.missing
 
 
 def lines_in(order):
@@ -277,17 +184,19 @@ def contents(order):
 
 def page():
     """The page as it is to be."""
-    library = Library()
-    order = reached_from(library, HEADLINE)
-    besides = [each for each in reached_from(library, MOUNT) if each not in set(order)]
-    parts = [PREFACE.format(count=len(order), lines=format(lines_in(order), ",")), contents(order)]
+    order, _ = reached_from(HEADLINE)
+    listed = {(each.file.path, each.name) for each in order}
+    besides = [each for each in reached_from(MOUNT)[0] if (each.file.path, each.name) not in listed]
+    laws = ", ".join("`%s`" % law for each in READINGS for law in each.laws)
+    readings = "\n".join(each.row() for each in READINGS)
+    parts = [PREFACE.format(count=len(order), lines=format(lines_in(order), ","), laws=laws, readings=readings), contents(order)]
     parts.append(
         "\nWhat `serve_tracer`, the theorem of a mounted tracer, rests on besides is not printed here: %d definitions, %s lines.\n\n%s"
         % (len(besides), format(lines_in(besides), ","), contents(besides))
     )
     parts.append("\n## The promises\n")
     for crate, source, function in HEADLINE:
-        text = library.file(crate, CRATES / crate / "src" / source).text
+        text = (CRATES / crate / "src" / source).read_text()
         parts.append("\n### `%s::%s`\n\n```rust\n%s\n```\n" % (crate, function, clauses_of(text, function)))
     parts.append("\n## The definitions\n")
     for file, found in files_in(order).items():
@@ -297,18 +206,36 @@ def page():
     return "".join(parts)
 
 
+def misread(reading):
+    """What is wrong with a row of the preface: a word that is nowhere, or a theorem that says nothing of it."""
+    library = Library()
+    theorem = next((file for file in (CRATES / reading.crate / "src").rglob("*.rt") if "pub fn %s()" % reading.theorem in file.read_text()), None)
+    if theorem is None:
+        return "there is no theorem %s" % reading.theorem
+    home = library.file(reading.crate, theorem)
+    clauses = clauses_of(home.text, reading.theorem)
+    said = clauses + "".join(definition.text for definition in library.cited(home, clauses))
+    unsaid = [name for file, name in (reading.function, *reading.relations) if not re.search(r"\b%s\b" % name, said)]
+    nowhere = [name for file, name in (reading.function, *reading.relations) if library.named(reading.crate, file, name) is None]
+    unnamed = [law for law in reading.laws if not re.search(r"\b%s\b" % law, clauses)]
+    return "%s: not said of %s" % (reading.theorem, unsaid + nowhere + unnamed) if unsaid + nowhere + unnamed else None
+
+
 def citing_private():
-    """The files of specs/ outside specs/private that import one inside, and the sources with a public function whose clauses name a word of one."""
+    """The files of specs/ outside specs/private that import one inside, and the sources where a public function's clauses name a word of one, or what
+    contracts see of a public type."""
     for file in TOP.glob("crates/*/specs/**/*.antt"):
         if file.parent.name != "private" and any(module.startswith("private.") for _, module, _, _ in IMPORT.findall(file.read_text())):
             yield file
     for file in TOP.glob("crates/*/src/**/*.rt"):
         text = file.read_text()
-        clauses = "\n".join(found.group() for found in re.finditer(r"^( *)pub fn .*?\n\1\{\n", text, re.M | re.S))
+        clauses = [found.group() for found in re.finditer(r"^( *)pub fn .*?\n\1\{\n", text, re.M | re.S)]
+        models = [re.search(MODEL % name, text, re.M) for name in re.findall(r"^pub (?:struct|enum) (\w+)", text, re.M)]
+        views = [line for found in models if found for line in re.findall(r"ghost (?:Value|view) = .*", found.group())]
         names, modules = imports_of(text)
         words = [word for word, (_, module, _) in names.items() if module.startswith("private.")]
         words += [word for word, (_, module) in modules.items() if module.startswith("private.")]
-        if any(re.search(r"(?<![\w.])%s(?!\w)" % re.escape(word), clauses) for word in words):
+        if any(re.search(r"(?<![\w.])%s(?!\w)" % re.escape(word), "\n".join(clauses + views)) for word in words):
             yield file
 
 
@@ -316,15 +243,31 @@ def believing_cases():
     def right(_):
         return [] if PAGE.read_text() == page() else ["tests/cases/believing.py writes another page"]
 
+    def listed(_):
+        text = PAGE.read_text()
+        return ["%s, %s: %s" % (each.file.crate, each.file.title(), each.name) for each in reached_from(HEADLINE)[0] if each.text not in text]
+
+    def found(_):
+        missing = {**reached_from(HEADLINE)[1], **reached_from(MOUNT)[1]}
+        return ["%s, %s names %s, which stands for nothing" % (file.crate, file.title(), name) for file, name in missing]
+
     def short(_):
-        lines = lines_in(reached_from(Library(), HEADLINE))
+        lines = lines_in(reached_from(HEADLINE)[0])
         return [] if lines <= MOST else ["the headline rests on %d lines, at most %d were promised" % (lines, MOST)]
+
+    def said(_):
+        names = {(each.file.crate, each.file.path.stem, name) for each in reached_from(HEADLINE)[0] for name in each.names}
+        rows = [each.row() for each in READINGS if each.row() not in PAGE.read_text() or ((each.crate, *each.function) in names) == bool(each.laws)]
+        return rows + [wrong for wrong in map(misread, READINGS) if wrong]
 
     def public(_):
         return ["%s cites specs/private" % file.relative_to(TOP) for file in citing_private()]
 
     return [
         Case("docs/BELIEVE.md: what the headline rests on", right),
+        Case("docs/BELIEVE.md: all that a listed definition names is listed", listed),
+        Case("docs/BELIEVE.md: each name stands for something", found),
+        Case("docs/BELIEVE.md: each theorem of the preface says what its row says", said),
         Case("docs/BELIEVE.md: it is short enough", short),
         Case("specs/private: no public clause cites it", public),
     ]

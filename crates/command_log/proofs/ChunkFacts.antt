@@ -33,11 +33,11 @@ module _ (a : Inside) (count : ℕ) (is : IsChunk a) where
     packed = rw (whole a is) (packed_join a.count count (take a.filled a.bytes.items) (drop a.filled (used a)) is.packed ahead);
   }
 
-  pub kept_seen : seen_chunk (record a { filled = a.end; count = a.count + count }) ≡ record { entries = (seen_chunk a).entries ++ entries_in count (seen_chunk a).ahead; ahead = [] }
+  pub kept_seen : seen_chunk (record a { filled = a.end; count = a.count + count }) ≡ record (seen_chunk a) { entries = (seen_chunk a).entries ++ entries_in count (seen_chunk a).ahead; ahead = [] }
   kept_seen =
       let none = nothing_left in
       let all = ap (entries_in (a.count + count)) (whole a is) ∙ entries_join a.count count (take a.filled a.bytes.items) (drop a.filled (used a)) is.packed in
-      (λ i. record { entries = all i; ahead = none i })
+      (λ i. record { entries = all i; ahead = none i; room = (seen_chunk a).room })
 
 -- more bytes are written ahead
 module _ (a : Inside) (bytes : Vec ℕ Global) (end : ℕ) (more : List ℕ) (is : IsChunk a) (e : take end bytes.items ≡ used a ++ more) (fits : end ≤ length bytes.items) where
@@ -63,11 +63,6 @@ module _ (a : Inside) (bytes : Vec ℕ Global) (end : ℕ) (more : List ℕ) (is
 module _ (a : Inside) (bytes : Vec ℕ Global) (is : IsChunk a) (same : take a.end bytes.items ≡ used a) (fits : a.end ≤ length bytes.items) where
   pub room_front : take a.filled bytes.items ≡ take a.filled a.bytes.items
   room_front = sym (take-take a.filled a.end bytes.items is.mark) ∙ ap (take a.filled) same ∙ counted a is
-
-  pub room_seen : seen_chunk (record a { bytes = bytes }) ≡ seen_chunk a
-  room_seen =
-      let front = room_front in
-      (λ i. record { entries = entries_in a.count (front i); ahead = drop a.filled (same i) })
 
   pub room_chunk : IsChunk (record a { bytes = bytes })
   room_chunk = record {
@@ -100,7 +95,5 @@ module _ (a : Inside) (is : IsChunk a) where
     packed = is.packed;
   }
 
-  pub cut_seen : seen_chunk (record a { end = a.filled }) ≡ record { entries = (seen_chunk a).entries; ahead = [] }
-  cut_seen =
-      let none = drop_all a.filled (take a.filled a.bytes.items) (omega (arith, length-take-le a.filled a.bytes.items (omega (arith, is.mark, is.room)))) in
-      (λ i. record { entries = (seen_chunk a).entries; ahead = none i })
+  pub cut_ahead : (seen_chunk (record a { end = a.filled })).ahead ≡ []
+  cut_ahead = drop_all a.filled (take a.filled a.bytes.items) (omega (arith, length-take-le a.filled a.bytes.items (omega (arith, is.mark, is.room))))

@@ -7,7 +7,7 @@ use Rattle.command_log.specs.declared.history.History.TheInside.{Inside}
 use Rattle.command_log.proofs.PackedLemmas.{length-entries_in}
 
 -- what is written ahead is appended
-pub appended_history : (h : Inside) (last : ChunkSeen) (count : ℕ) → IsHistory h → last ≡ record { entries = h.last.entries ++ entries_in h.ahead h.last.ahead; ahead = [] } → count ≡ h.count + h.ahead → IsHistory (record h { last = last; count = count; ahead = 0 })
+pub appended_history : (h : Inside) (last : ChunkSeen) (count : ℕ) → IsHistory h → last ≡ record h.last { entries = h.last.entries ++ entries_in h.ahead h.last.ahead; ahead = [] } → count ≡ h.count + h.ahead → IsHistory (record h { last = last; count = count; ahead = 0 })
 appended_history h last count is e more = rw e (record {
   count = omega (arith, is.count, more, length-append (entries_of h.full.items) (h.last.entries ++ entries_in h.ahead h.last.ahead), length-append h.last.entries (entries_in h.ahead h.last.ahead), length-append (entries_of h.full.items) h.last.entries, length-entries_in h.ahead h.last.ahead);
   ahead = refl;

@@ -9,7 +9,7 @@
 //! The entries up to the mark count. What is written ahead doesn't count yet: `keep` moves the mark to its end, `discard` takes it away. The room after
 //! it has bytes of no meaning, so that most entries are written where they lie, and the vector isn't extended by each.
 
-ghost use Rattle.std.specs.Prelude.{◌≡◌, ◌+◌, ◌<◌, ◌≤◌, ◌^◌, [], ◌∷◌, ◌++◌, length, take, true, false, Ok, IfOk, OnOk};
+ghost use Rattle.std.specs.Prelude.{◌≡◌, ◌+◌, ◌<◌, ◌≤◌, ◌^◌, [], ◌∷◌, ◌++◌, length, take, true, false, nat_lt, Ok, IfOk, OnOk, OnErr};
 ghost use Rattle.command_log.specs.EntryEncoding.{length_bytes, text_bytes, pairs_bytes, ArePairsShort};
 ghost use Rattle.command_log.specs.PackedEntries.{entries_in, ArePacked};
 
@@ -70,7 +70,7 @@ fn make_room(bytes: &mut Vec<u8>, end: usize) -> Result<(), AllocError>
 impl Chunk {
     /// A chunk that is full from the beginning, and takes no memory.
     pub(crate) fn none(alloc: Global) -> Chunk
-        ensures { result ≡ record { entries = []; ahead = [] } }
+        ensures { result ≡ record { entries = []; ahead = []; room = 0 } }
     {
         Chunk {
             bytes: Vec::new(alloc),
@@ -82,7 +82,7 @@ impl Chunk {
 
     /// A chunk with no entries.
     pub(crate) fn new(alloc: Global) -> Result<Chunk, AllocError>
-        ensures { IfOk result (λ chunk. chunk ≡ record { entries = []; ahead = [] }) }
+        ensures { IfOk result (λ chunk. chunk ≡ record { entries = []; ahead = []; room = 66560 }) }
     {
         Ok(Chunk {
             bytes: Vec::with_capacity(alloc, CHUNK_BYTES)?,
@@ -93,21 +93,25 @@ impl Chunk {
     }
 
     /// Whether there is little room left.
-    pub(crate) fn is_full(&self) -> bool {
+    pub(crate) fn is_full(&self) -> bool
+        ensures { result ≡ nat_lt self.now.room 5376 }
+    {
         self.bytes.capacity() - self.end < SPARE_BYTES
     }
 
     /// Sees to it that there is room for several pieces.
     pub(crate) fn make_room(&mut self) -> Result<(), AllocError>
-        ensures { self.new ≡ self.old }
+        ensures entries { self.new.entries ≡ self.old.entries }
+        ensures ahead { self.new.ahead ≡ self.old.ahead }
     {
         make_room(&mut self.bytes, self.end)
     }
 
-    /// Writes bytes ahead.
+    /// Writes bytes ahead. Fails only if there is no room for them, and memory is refused.
     pub(crate) fn write(&mut self, bytes: &[u8]) -> Result<(), AllocError>
         ensures entries { self.new.entries ≡ self.old.entries }
         ensures ahead { OnOk result (self.new.ahead ≡ self.old.ahead ++ bytes.now) }
+        ensures memory { OnErr result (self.old.room < length bytes.now) }
     {
         if self.bytes.len() - self.end >= bytes.len() {
             self.end = put_at(&mut self.bytes, self.end, bytes);
@@ -154,7 +158,8 @@ impl Chunk {
 
     /// Takes away what is written ahead.
     pub(crate) fn discard(&mut self)
-        ensures { self.new ≡ record { entries = self.old.entries; ahead = [] } }
+        ensures entries { self.new.entries ≡ self.old.entries }
+        ensures ahead { self.new.ahead ≡ [] }
     {
         self.end = self.filled;
     }
@@ -163,7 +168,7 @@ impl Chunk {
     pub(crate) fn keep(&mut self, count: usize)
         requires packed { ArePacked count self.old.ahead }
         requires few { length self.old.entries + count < 2 ^ 64 }
-        ensures { self.new ≡ record { entries = self.old.entries ++ entries_in count self.old.ahead; ahead = [] } }
+        ensures { self.new ≡ record self.old { entries = self.old.entries ++ entries_in count self.old.ahead; ahead = [] } }
     {
         self.filled = self.end;
         self.count += count;

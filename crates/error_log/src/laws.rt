@@ -1,6 +1,6 @@
 //! What is kept, and where the caret stands. The functions do nothing: their contracts are theorems.
 
-ghost use Rattle.error_log.specs.ErrorExamples.{Examples};
+ghost use Rattle.error_log.specs.ErrorExamples.{Examples, LogExamples};
 ghost use Rattle.error_log.specs.LogLaws.{CaretStandsUnder, KeepsLastEight};
 
 /// The log of an instance has the last eight of all errors that were noted of it since it was cleared.
@@ -15,5 +15,6 @@ pub fn caret_stands_under()
 
 /// Worked examples.
 pub fn examples_are_shown()
-    ensures { Examples }
+    ensures lines { Examples }
+    ensures logs { LogExamples }
 {}

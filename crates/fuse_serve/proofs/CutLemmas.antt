@@ -3,9 +3,9 @@ use Rattle.std.proofs.Common.{◌≡◌, ◌⊎◌, inl, inr, true, false, ℕ, 
 use Rattle.std.proofs.Math.ListN.{get_or-append}
 use Rattle.std.proofs.lemmas.List.{append-nil, take_at, drop_at}
 use Rattle.std.proofs.lemmas.List.Elements.{All-cons, All-head, All-tail, All-nil}
-use Rattle.std.specs.List.{All, concat, flat_map}
+use Rattle.std.specs.List.{All, concat}
 use Rattle.std.specs.Io.KnownBytes.{Consumes, IsAtEnd}
-use Rattle.fuse_serve.specs.Exchanges.{AnswersAll, AreWhole, Exchange, IsNext, requests_in, with_bytes}
+use Rattle.fuse_serve.specs.Exchanges.{AnswersAll, AreWhole, Exchange, IsNext, asked, requests_in, with_bytes}
 use Rattle.fuse_serve.specs.Framing.{told_length, IsRequest, BeginsNoRequest}
 
 -- what follows a request changes nothing of the length that it tells
@@ -54,7 +54,7 @@ with_joined : (request : List ℕ) (more : List (List ℕ)) → concat (with_byt
 with_joined [] more = refl
 with_joined (byte ∷ bytes) more = refl
 
-joined : (exchanges : List Exchange) → flat_map (λ (one : Exchange). one.request) exchanges ≡ concat (requests_in exchanges)
+joined : (exchanges : List Exchange) → asked exchanges ≡ concat (requests_in exchanges)
 joined [] = refl
 joined (one ∷ more) = ap (λ (xs : List ℕ). one.request ++ xs) (joined more) ∙ sym (with_joined one.request (requests_in more))
 
@@ -70,16 +70,18 @@ requests_whole (one ∷ more) h =
     let P : Exchange → Type 0 = λ x. (x.request ≡ []) ⊎ IsRequest x.request in
     with_whole one.request (requests_in more) (All-head P one more h) (requests_whole more (All-tail P one more h))
 
-pub all_are_served : (requests : List (List ℕ)) (exchanges : List Exchange) (new : Option (List ℕ)) → All IsRequest requests → AreWhole exchanges
-    → Consumes (Some (concat requests)) new (flat_map (λ (one : Exchange). one.request) exchanges ++ []) → IsAtEnd new
+pub asked_are_served : (requests : List (List ℕ)) (exchanges : List Exchange) → All IsRequest requests → AreWhole exchanges → asked exchanges ≡ concat requests
     → requests_in exchanges ≡ requests
-all_are_served requests exchanges None whole asked consumed end = absurd consumed
-all_are_served requests exchanges (Some xs) whole asked consumed end =
-    let request : Exchange → List ℕ = λ one. one.request in
-    let all = flat_map request exchanges ++ [] in
-    (cut_one_way (requests_in exchanges) requests [] [] (requests_whole exchanges asked) whole none_in_none none_in_none
-    (ap (λ (ys : List ℕ). ys ++ []) (sym (joined exchanges))
-    ∙ sym (append-nil (concat requests) ∙ (consumed ∙ (ap (λ (ys : List ℕ). all ++ ys) end ∙ append-nil all))))).0
+asked_are_served requests exchanges whole all same =
+    (cut_one_way (requests_in exchanges) requests [] [] (requests_whole exchanges all) whole none_in_none none_in_none
+    (ap (λ (ys : List ℕ). ys ++ []) (sym (joined exchanges) ∙ same))).0
+
+pub all_are_served : (requests : List (List ℕ)) (exchanges : List Exchange) (new : Option (List ℕ)) → All IsRequest requests → AreWhole exchanges
+    → Consumes (Some (concat requests)) new (asked exchanges) → IsAtEnd new
+    → requests_in exchanges ≡ requests
+all_are_served requests exchanges None whole all consumed end = absurd consumed
+all_are_served requests exchanges (Some xs) whole all consumed end =
+    asked_are_served requests exchanges whole all (sym (consumed ∙ (ap (λ (ys : List ℕ). asked exchanges ++ ys) end ∙ append-nil (asked exchanges))))
 
 pub next_whole : (owes : Bool) (request : List ℕ) → IsNext owes request → (request ≡ []) ⊎ IsRequest request
 next_whole true request h = inl h
@@ -90,4 +92,4 @@ pub asked_whole : {S : Type 0} (answers : S → List ℕ → S → List ℕ → 
     → AnswersAll answers ends owes before exchanges after → AreWhole exchanges
 asked_whole answers ends owes before [] after h = All-nil (λ (one : Exchange). (one.request ≡ []) ⊎ IsRequest one.request)
 asked_whole answers ends owes before (one ∷ more) after h =
-    All-cons (λ (x : Exchange). (x.request ≡ []) ⊎ IsRequest x.request) one more (next_whole (owes before) one.request h.1) (asked_whole answers ends owes h.3 more after h.5)
+    All-cons (λ (x : Exchange). (x.request ≡ []) ⊎ IsRequest x.request) one more (next_whole (owes before) one.request h.1) (asked_whole answers ends owes h.2 more after h.4)

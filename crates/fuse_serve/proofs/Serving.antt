@@ -1,61 +1,37 @@
 -- A service, turn by turn.
-use Rattle.std.proofs.Common.{◌≡◌, ℕ, ◌+◌, min, Bool, true, false, cond, List, [], ◌∷◌, ◌++◌, take, drop, Option, Err, inl, inr, refl, ap, sym, subst, ◌∙◌, arith, zero-add, append_assoc, take-append-drop}
+use Rattle.std.proofs.Common.{◌≡◌, ℕ, ◌+◌, ◌-◌, Bool, true, false, List, [], ◌∷◌, ◌++◌, length, take, drop, Option, Some, Result, Ok, Err, inl, inr, refl, ap, sym, subst, ◌∙◌, arith, append_assoc, length-append, take-append-drop}
 use Rattle.std.proofs.lemmas.Bool.{false≢true}
+use Rattle.std.proofs.lemmas.Bool.Decides.{nat_tests}
 use Rattle.std.proofs.lemmas.List.{append-nil}
 use Rattle.std.proofs.lemmas.List.Concat.{flat_map-append}
-use Rattle.std.proofs.lemmas.List.Elements.{All-nil, All-push}
-use Rattle.std.proofs.lemmas.List.Sums.{sum_by-append}
+use Rattle.std.proofs.lemmas.List.Elements.{All-append, All-nil}
 use Rattle.std.specs.Io.KnownBytes.{Appends, Consumes}
-use Rattle.std.specs.List.{count_by, flat_map}
-use Rattle.fuse_serve.proofs.OfferLemmas.{HasOffered_append, HasOffered_nothing}
+use Rattle.std.specs.declared.io.Error.{Error}
+use Rattle.fuse_serve.proofs.CallLemmas.{AreWrites, all_at, no_call, all_push, all_writes, given-append, given_one, no_reads, reads_in-append, split_append, split_push, taken-append, writes_give, writes_in-append}
 use Rattle.fuse_serve.proofs.Transfers.{Appends_append, Appends_nothing, Consumes_append, Consumes_nothing}
-use Rattle.fuse_serve.specs.Counts.{most_calls, one_more, raised, HasRisenBy}
-use Rattle.fuse_serve.specs.Endings.{EndsAs, IsWaiting, ReadsOn, StopsReading, WritesOn, StopsWriting}
-use Rattle.fuse_serve.specs.Exchanges.{AreOffers, Exchange, AnswersAll, HasOffered, HasServed, IsNext, IsWritten, devices, is_dropped, is_sent}
+use Rattle.fuse_serve.specs.Calls.{Call, ends_input, first_bytes, given, is_read, read_call, reads_in, taken, writes_in}
+use Rattle.fuse_serve.specs.Deliveries.{IsDelivered}
+use Rattle.fuse_serve.specs.Endings.{EndsAs, ReadsOn, StopsReading, StopsWriting, WritesOn}
+use Rattle.fuse_serve.specs.Exchanges.{AnswersAll, Exchange, HasServed, IsNext, IsReadNext, IsWaiting, asked, device_seen, writes_of}
 use Rattle.fuse_serve.specs.Framing.{IsRequest, BeginsNoRequest}
-use Rattle.fuse_serve.specs.declared.call_log.CallLog.{CallLog}
 use Rattle.fuse_serve.specs.declared.fate.Fate.{Fate}
 use Rattle.fuse_serve.specs.declared.fate.Fate.TheVariants.{Cut}
+use Rattle.fuse_serve.specs.declared.fault.Ended.{Ended}
+use Rattle.fuse_serve.specs.declared.fault.Ended.TheVariants.{AtEnd, Gone, Asked}
 use Rattle.fuse_serve.specs.declared.fault.Fault.{Fault}
 use Rattle.fuse_serve.specs.declared.fault.Fault.TheVariants.{Memory, Unframed, Read, Write}
-use Rattle.fuse_serve.specs.private.Turns.{Answered, Received}
+use Rattle.fuse_serve.specs.declared.outcome.Outcome.TheVariants as outcomes
+use Rattle.fuse_serve.specs.private.Turns.{HasAnswered, HasRead, Received}
 
--- ---- counts
+-- ---- exchange by exchange
 
-risen_none : (count : ℕ) → HasRisenBy 0 count count
-risen_none count h = omega arith
+asked_more : (exchanges : List Exchange) (one : Exchange) → asked (exchanges ++ one ∷ []) ≡ asked exchanges ++ one.request
+asked_more exchanges one =
+    flat_map-append (λ (x : Exchange). x.request) exchanges (one ∷ []) ∙ ap (λ (xs : List ℕ). asked exchanges ++ xs) (append-nil one.request)
 
-risen_step : (b : Bool) (n old mid new : ℕ) → mid ≡ min (old + n) most_calls → new ≡ raised mid b → new ≡ min (old + (n + cond b 1 0)) most_calls
-risen_step true n old mid new h e = omega (arith, h, e)
-risen_step false n old mid new h e = omega (arith, h, e)
-
--- one more is counted, or isn't
-risen_more : (p : Exchange → Bool) (exchanges : List Exchange) (one : Exchange) (old mid new : ℕ) → HasRisenBy (count_by p exchanges) old mid → new ≡ raised mid (p one)
-    → HasRisenBy (count_by p (exchanges ++ one ∷ [])) old new
-risen_more p exchanges one old mid new h e small =
-    let total : count_by p (exchanges ++ one ∷ []) ≡ count_by p exchanges + cond (p one) 1 0 =
-    sum_by-append (λ (x : Exchange). cond (p x) 1 0) exchanges (one ∷ []) ∙ ap (λ (n : ℕ). count_by p exchanges + n) (zero-add (cond (p one) 1 0)) in
-    risen_step (p one) (count_by p exchanges) old mid new (h small) e ∙ ap (λ (n : ℕ). min (old + n) most_calls) (sym total)
-
--- ---- bytes, exchange by exchange
-
-more_bytes : (bytes_of : Exchange → List ℕ) (exchanges : List Exchange) (one : Exchange) → flat_map bytes_of (exchanges ++ one ∷ []) ≡ flat_map bytes_of exchanges ++ bytes_of one
-more_bytes bytes_of exchanges one =
-    flat_map-append bytes_of exchanges (one ∷ []) ∙ ap (λ (xs : List ℕ). flat_map bytes_of exchanges ++ xs) (append-nil (bytes_of one))
-
-more_offers : (exchanges : List Exchange) (one : Exchange) → flat_map (λ (x : Exchange). x.offers) (exchanges ++ one ∷ []) ≡ flat_map (λ (x : Exchange). x.offers) exchanges ++ one.offers
-more_offers exchanges one =
-    flat_map-append (λ (x : Exchange). x.offers) exchanges (one ∷ [])
-    ∙ ap (λ (xs : List (List ℕ)). flat_map (λ (x : Exchange). x.offers) exchanges ++ xs) (append-nil one.offers)
-
--- the bytes that waited are those of one more exchange, and those that wait
-shifted : (bytes_of : Exchange → List ℕ) (exchanges : List Exchange) (one : Exchange) (waited waits : List ℕ) → waited ≡ bytes_of one ++ waits
-    → flat_map bytes_of exchanges ++ waited ≡ flat_map bytes_of (exchanges ++ one ∷ []) ++ waits
-shifted bytes_of exchanges one waited waits e =
-    ap (λ (xs : List ℕ). flat_map bytes_of exchanges ++ xs) e
-    ∙ (sym (append_assoc (flat_map bytes_of exchanges) (bytes_of one) waits) ∙ ap (λ (xs : List ℕ). xs ++ waits) (sym (more_bytes bytes_of exchanges one)))
-
--- ---- exchanges
+writes_more : (exchanges : List Exchange) (one : Exchange) → writes_of (exchanges ++ one ∷ []) ≡ writes_of exchanges ++ one.writes
+writes_more exchanges one =
+    flat_map-append (λ (x : Exchange). x.writes) exchanges (one ∷ []) ∙ ap (λ (xs : List Call). writes_of exchanges ++ xs) (append-nil one.writes)
 
 -- what is owed comes next, or else a request
 pub owed_next : (owes : Bool) → owes ≡ true → IsNext owes []
@@ -66,106 +42,177 @@ pub request_next : (owes : Bool) (request : List ℕ) → owes ≡ false → IsR
 request_next true request h whole = absurd (false≢true (sym h))
 request_next false request h whole = whole
 
+-- the exchange that a turn came to
+abbrev pub exchanged : {S : Type 0} {answers : S → List ℕ → S → List ℕ → Type 0} {before after : S} {calls calls' : List Call} {contents contents' : Option (List ℕ)}
+    → (request : List ℕ) (fate : Fate) → HasAnswered answers before after request fate calls calls' contents contents' → Exchange
+exchanged request fate h = record { request = request; reply = h.reply; fate = fate; writes = h.delivered.writes }
+
 module _ {S : Type 0} (answers : S → List ℕ → S → List ℕ → Type 0) (ends owes : S → Bool) where
   answers_more : (before : S) (exchanges : List Exchange) (now after : S) (one : Exchange) → AnswersAll answers ends owes before exchanges now → ends now ≡ false
-      → IsNext (owes now) one.request → IsWritten one.fate one.reply one.written → answers now one.request after one.reply → AnswersAll answers ends owes before (exchanges ++ one ∷ []) after
-  answers_more before [] now after one h going whole kept answered =
-      (subst (λ (s : S). ends s ≡ false) h going, subst (λ (s : S). IsNext (owes s) one.request) h whole, kept, after, subst (λ (s : S). answers s one.request after one.reply) h answered, refl)
-  answers_more before (first ∷ more) now after one h going whole kept answered =
-      (h.0, h.1, h.2, h.3, h.4, answers_more h.3 more now after one h.5 going whole kept answered)
+      → IsNext (owes now) one.request → answers now one.request after one.reply → AnswersAll answers ends owes before (exchanges ++ one ∷ []) after
+  answers_more before [] now after one h going whole answered =
+      (subst (λ (s : S). ends s ≡ false) h going, subst (λ (s : S). IsNext (owes s) one.request) h whole, after, subst (λ (s : S). answers s one.request after one.reply) h answered, refl)
+  answers_more before (first ∷ more) now after one h going whole answered =
+      (h.0, h.1, h.2, h.3, answers_more h.2 more now after one h.4 going whole answered)
 
   -- nothing was read yet
-  pub served_none : (before : S) (remaining contents : Option (List ℕ)) (offers : Option (List (List ℕ))) (reads writes : CallLog)
-      → HasServed answers ends owes before before (devices remaining reads contents offers writes) (devices remaining reads contents offers writes) [] []
-  served_none before remaining contents offers reads writes = record {
-    read = Consumes_nothing remaining;
+  pub served_none : (before : S) (calls : List Call) (remaining contents : Option (List ℕ))
+      → HasServed answers ends owes before before (device_seen calls remaining contents) (device_seen calls remaining contents) [] [] []
+  served_none before calls remaining contents = record {
+    made = sym (append-nil calls);
+    gave = refl;
     answered = refl;
+    took = refl;
+    delivered = All-nil (λ (one : Exchange). IsDelivered one.fate one.reply one.writes);
+    in_order = λ earlier one later e read. absurd (no_call earlier one later e);
+    read = Consumes_nothing remaining;
     written = Appends_nothing contents;
-    offered = HasOffered_nothing offers;
-    first_whole = All-nil (λ (one : Exchange). AreOffers one.reply one.offers);
-    sent = risen_none writes.wholes;
   }
 
-  -- some bytes were read
-  pub served_read : (before now : S) (r₀ r r' c₀ c : Option (List ℕ)) (o₀ o : Option (List (List ℕ))) (reads₀ reads reads' writes₀ writes : CallLog) (exchanges : List Exchange) (waited waits bytes : List ℕ)
-      → HasServed answers ends owes before now (devices r₀ reads₀ c₀ o₀ writes₀) (devices r reads c o writes) exchanges waited → waits ≡ waited ++ bytes → Consumes r r' bytes
-      → HasServed answers ends owes before now (devices r₀ reads₀ c₀ o₀ writes₀) (devices r' reads' c o writes) exchanges waits
-  served_read before now r₀ r r' c₀ c o₀ o reads₀ reads reads' writes₀ writes exchanges waited waits bytes h e q = record {
-    read = let asked = flat_map (λ (one : Exchange). one.request) exchanges in
-        subst (Consumes r₀ r') (append_assoc asked waited bytes ∙ ap (λ (xs : List ℕ). asked ++ xs) (sym e)) (Consumes_append r₀ r r' (asked ++ waited) bytes h.read q);
+  -- a read came next still, of more exchanges
+  next_still : (before : S) (calls : List Call) (exchanges : List Exchange) (one : Exchange) → IsReadNext answers ends owes before calls exchanges
+      → IsReadNext answers ends owes before calls (exchanges ++ one ∷ [])
+  next_still before calls exchanges one h = record {
+    done = h.done;
+    later = h.later ++ one ∷ [];
+    are = ap (λ (xs : List Exchange). xs ++ one ∷ []) h.are ∙ append_assoc h.done h.later (one ∷ []);
+    left = h.left;
+    gave = h.gave;
+    none_left = h.none_left;
+    took = h.took;
+    now = h.now;
     answered = h.answered;
-    written = h.written;
-    offered = h.offered;
-    first_whole = h.first_whole;
-    sent = h.sent;
+    waiting = h.waiting;
   }
 
-  -- a request was answered, or what was owed was told
-  pub served_more : (before now after : S) (r₀ r c₀ c c' : Option (List ℕ)) (o₀ o o' : Option (List (List ℕ))) (reads₀ reads writes₀ writes writes' : CallLog) (exchanges : List Exchange) (waited waits request : List ℕ)
-      (fate : Fate) (one : Exchange) → HasServed answers ends owes before now (devices r₀ reads₀ c₀ o₀ writes₀) (devices r reads c o writes) exchanges waited → ends now ≡ false
-      → IsNext (owes now) request → waited ≡ request ++ waits → Answered answers now after c c' o o' writes writes' request fate one
-      → HasServed answers ends owes before after (devices r₀ reads₀ c₀ o₀ writes₀) (devices r reads c' o' writes') (exchanges ++ one ∷ []) waits
-  served_more before now after r₀ r c₀ c c' o₀ o o' reads₀ reads writes₀ writes writes' exchanges waited waits request fate one h going whole e a = record {
-    read = subst (Consumes r₀ r) (shifted (λ (x : Exchange). x.request) exchanges one waited waits (e ∙ ap (λ (xs : List ℕ). xs ++ waits) (sym a.asked))) h.read;
-    answered = answers_more before exchanges now after one h.answered going (subst (IsNext (owes now)) (sym a.asked) whole) a.kept a.answered;
-    written = subst (Appends c₀ c') (sym (more_bytes (λ (x : Exchange). x.written) exchanges one))
-        (Appends_append c₀ c c' (flat_map (λ (x : Exchange). x.written) exchanges) one.written h.written a.written);
-    offered = subst (HasOffered o₀ o') (sym (more_offers exchanges one))
-        (HasOffered_append o₀ o o' (flat_map (λ (x : Exchange). x.offers) exchanges) one.offers h.offered a.offered);
-    first_whole = All-push (λ (x : Exchange). AreOffers x.reply x.offers) exchanges one h.first_whole a.first_whole;
-    sent = risen_more (λ (x : Exchange). is_sent x.fate x.reply) exchanges one writes₀.wholes writes.wholes writes'.wholes h.sent a.tallies.wholes;
-  }
+  module _ (before now : S) (calls₀ calls : List Call) (r₀ r c₀ c : Option (List ℕ)) (made : List Call) (exchanges : List Exchange) (waited : List ℕ)
+      (h : HasServed answers ends owes before now (device_seen calls₀ r₀ c₀) (device_seen calls r c) made exchanges waited) where
+    -- some bytes were read, when nothing else was to be done
+    pub served_read : (result : Result ℕ Error) (waits : List ℕ) (calls' : List Call) (r' c' : Option (List ℕ)) → c' ≡ c → (read : HasRead result waited waits calls calls' r r')
+        → BeginsNoRequest waited → IsWaiting (ends now) (owes now)
+        → HasServed answers ends owes before now (device_seen calls₀ r₀ c₀) (device_seen calls' r' c') (made ++ read_call read.buffer result ∷ []) exchanges waits
+    served_read result waits calls' r' c' kept read none waiting =
+        let one : Call = read_call read.buffer result in
+        let came : given (made ++ one ∷ []) ≡ given made ++ first_bytes read.buffer result = given-append made (one ∷ []) ∙ ap (λ (xs : List ℕ). given made ++ xs) (given_one one) in record {
+          made = read.made ∙ (ap (λ (xs : List Call). xs ++ one ∷ []) h.made ∙ append_assoc calls₀ made (one ∷ []));
+          gave = came ∙ (ap (λ (xs : List ℕ). xs ++ first_bytes read.buffer result) h.gave ∙ (append_assoc (asked exchanges) waited (first_bytes read.buffer result) ∙ ap (λ (xs : List ℕ). asked exchanges ++ xs) (sym read.came)));
+          answered = h.answered;
+          took = writes_in-append made (one ∷ []) ∙ (append-nil (writes_in made) ∙ h.took);
+          delivered = h.delivered;
+          in_order = λ earlier call later e is. elim (split_push made one earlier call later e) as (λ s. IsReadNext answers ends owes before earlier exchanges) [
+            | inl old ↦ h.in_order earlier call old.0 old.1 is
+            | inr new ↦ record {
+              done = exchanges;
+              later = [];
+              are = sym (append-nil exchanges);
+              left = waited;
+              gave = subst (λ (xs : List Call). given xs ≡ asked exchanges ++ waited) (sym new.0) h.gave;
+              none_left = none;
+              took = subst (λ (xs : List Call). writes_in xs ≡ writes_of exchanges) (sym new.0) h.took;
+              now = now;
+              answered = h.answered;
+              waiting = waiting;
+            }
+          ];
+          read = subst (Consumes r₀ r') (sym came) (Consumes_append r₀ r r' (given made) (first_bytes read.buffer result) h.read read.consumed);
+          written = subst (λ (held : Option (List ℕ)). Appends c₀ held (taken (made ++ one ∷ []))) (sym kept) (subst (Appends c₀ c) (sym (taken-append made (one ∷ []) ∙ append-nil (taken made))) h.written);
+        }
+
+    -- a request was answered, or what was owed was told
+    pub served_more : (after : S) (request waits : List ℕ) (fate : Fate) (calls' : List Call) (r' c' : Option (List ℕ)) → r' ≡ r → ends now ≡ false
+        → IsNext (owes now) request → waited ≡ request ++ waits → (a : HasAnswered answers now after request fate calls calls' c c')
+        → HasServed answers ends owes before after (device_seen calls₀ r₀ c₀) (device_seen calls' r' c') (made ++ a.delivered.writes) (exchanges ++ exchanged request fate a ∷ []) waits
+    served_more after request waits fate calls' r' c' kept going whole e a =
+        let writes = a.delivered.writes in
+        let only : AreWrites writes = a.delivered.delivered.writes_only in
+        let one : Exchange = exchanged request fate a in
+        let came : given (made ++ writes) ≡ given made = given-append made writes ∙ (ap (λ (xs : List ℕ). given made ++ xs) (writes_give writes only) ∙ append-nil (given made)) in record {
+          made = a.delivered.made ∙ (ap (λ (xs : List Call). xs ++ writes) h.made ∙ append_assoc calls₀ made writes);
+          gave = came ∙ (h.gave ∙ (ap (λ (xs : List ℕ). asked exchanges ++ xs) e ∙ (sym (append_assoc (asked exchanges) request waits) ∙ ap (λ (xs : List ℕ). xs ++ waits) (sym (asked_more exchanges one)))));
+          answered = answers_more before exchanges now after one h.answered going whole a.answered;
+          took = writes_in-append made writes ∙ (ap (λ (xs : List Call). xs ++ writes_in writes) h.took ∙ (ap (λ (xs : List Call). writes_of exchanges ++ xs) (all_writes writes only) ∙ sym (writes_more exchanges one)));
+          delivered = all_push (λ (x : Exchange). IsDelivered x.fate x.reply x.writes) exchanges one h.delivered a.delivered.delivered;
+          in_order = λ earlier call later e is. elim (split_append made writes earlier call later e) as (λ s. IsReadNext answers ends owes before earlier (exchanges ++ one ∷ [])) [
+            | inl old ↦ next_still before earlier exchanges one (h.in_order earlier call old.0 old.1 is)
+            | inr new ↦ absurd (false≢true (sym (all_at (λ (x : Call). is_read x.outcome ≡ false) writes new.0 call later new.2 only) ∙ is))
+          ];
+          read = subst (λ (rest : Option (List ℕ)). Consumes r₀ rest (given (made ++ writes))) (sym kept) (subst (Consumes r₀ r) (sym came) h.read);
+          written = subst (Appends c₀ c') (sym (taken-append made writes)) (Appends_append c₀ c c' (taken made) (taken writes) h.written a.delivered.written);
+        }
 
 -- the bytes that waited, without the request that they begin with
 pub without_first : (size : ℕ) (waited waits : List ℕ) → waits ≡ drop size waited → waited ≡ take size waited ++ waits
 without_first size waited waits e = sym (take-append-drop size waited) ∙ ap (λ (xs : List ℕ). take size waited ++ xs) (sym e)
 
--- ---- writes
+-- ---- reads that go on, and writes
 
-pub writes_none : (log : CallLog) → WritesOn log log []
-writes_none log = record {
-  whole = All-nil (λ (one : Exchange). one.fate ≡ Cut → ⊥);
-  stops = refl;
-  dropped = risen_none log.no_entries;
+pub on_none : ReadsOn []
+on_none = All-nil (λ (call : Call). ends_input call.outcome ≡ false)
+
+pub on_read : (calls : List Call) (buffer : List ℕ) (result : Result ℕ Error) → ReadsOn calls → ends_input (outcomes.Read result) ≡ false → ReadsOn (calls ++ read_call buffer result ∷ [])
+on_read calls buffer result h goes = all_push (λ (call : Call). ends_input call.outcome ≡ false) calls (read_call buffer result) h goes
+
+write_goes_on : (outcome : _) → is_read outcome ≡ false → ends_input outcome ≡ false
+write_goes_on (outcomes.Read result) h = absurd (false≢true (sym h))
+write_goes_on (outcomes.Written result) h = refl
+
+pub on_writes : (calls writes : List Call) → ReadsOn calls → AreWrites writes → ReadsOn (calls ++ writes)
+on_writes calls writes h only =
+    All-append (λ (call : Call). ends_input call.outcome ≡ false) calls writes h (λ k d lt. write_goes_on _ (only k d lt))
+
+pub whole_none : WritesOn []
+whole_none = All-nil (λ (one : Exchange). one.fate ≡ Cut → ⊥)
+
+pub whole_more : (exchanges : List Exchange) (one : Exchange) → WritesOn exchanges → (one.fate ≡ Cut → ⊥) → WritesOn (exchanges ++ one ∷ [])
+whole_more exchanges one h uncut = all_push (λ (x : Exchange). x.fate ≡ Cut → ⊥) exchanges one h uncut
+
+-- the last reply was cut
+pub cut_at_last : (calls : List Call) (exchanges : List Exchange) (one : Exchange) → WritesOn exchanges → one.fate ≡ Cut → StopsWriting (calls ++ one.writes) (exchanges ++ one ∷ [])
+cut_at_last calls exchanges one h cut = record {
+  before = exchanges;
+  last = one;
+  are = refl;
+  on = h;
+  cut = cut;
+  earlier = calls;
+  end = refl;
 }
 
-module _ {S : Type 0} (answers : S → List ℕ → S → List ℕ → Type 0) (now after : S) (c c' : Option (List ℕ)) (o o' : Option (List (List ℕ))) (old writes writes' : CallLog) (request : List ℕ) (fate : Fate) (one : Exchange)
-    (a : Answered answers now after c c' o o' writes writes' request fate one) (exchanges : List Exchange) (h : WritesOn old writes exchanges) where
-  pub writes_more : (fate ≡ Cut → ⊥) → WritesOn old writes' (exchanges ++ one ∷ [])
-  writes_more uncut =
-      let kept : one.fate ≡ Cut → ⊥ = λ e. uncut (sym a.became ∙ e) in
-      record {
-        whole = All-push (λ (x : Exchange). x.fate ≡ Cut → ⊥) exchanges one h.whole kept;
-        stops = elim a.tallies.stops [ inl p ↦ p ∙ h.stops | inr p ↦ absurd (kept p.0) ];
-        dropped = risen_more (λ (x : Exchange). is_dropped x.fate x.reply) exchanges one old.no_entries writes.no_entries writes'.no_entries h.dropped (a.tallies.no_entries kept);
-      }
+-- turns, by what they came to
+pub turn_read : (calls : List Call) (buffer : List ℕ) (result : Result ℕ Error) → length (reads_in (calls ++ read_call buffer result ∷ [])) ≡ length (reads_in calls) + 1
+turn_read calls buffer result = ap length (reads_in-append calls (read_call buffer result ∷ [])) ∙ (length-append (reads_in calls) (read_call buffer result ∷ []) ∙ omega arith)
 
-  pub writes_cut : fate ≡ Cut → StopsWriting old writes' (exchanges ++ one ∷ [])
-  writes_cut cut = record {
-    before = exchanges;
-    last = one;
-    are = refl;
-    whole = h.whole;
-    fate = a.became ∙ cut;
-    cut = a.cut cut;
-    stops = elim a.tallies.stops [ inl p ↦ inl (p ∙ h.stops) | inr p ↦ inr (p.1 ∙ ap one_more h.stops) ];
-    no_entries = writes.no_entries;
-    dropped = h.dropped;
-    last_entry = a.tallies.last_entry (a.became ∙ cut);
-  }
+pub turn_writes : (calls writes : List Call) → AreWrites writes → length (reads_in (calls ++ writes)) ≡ length (reads_in calls)
+turn_writes calls writes only = ap length (reads_in-append calls writes ∙ (ap (λ (xs : List Call). reads_in calls ++ xs) (no_reads writes only) ∙ append-nil (reads_in calls)))
 
 -- ---- the end of the input, or a failed read
 
--- after reads that found no end and did not fail, one did
-stops_now : (first before after : CallLog) (left : List ℕ) → ReadsOn first before → StopsReading before after left → StopsReading first after left
-stops_now first before after left on h = record { stops = h.stops ∙ ap one_more on; offered = h.offered }
+nothing_came : (buffer : List ℕ) (result : Result ℕ Error) → ends_input (outcomes.Read result) ≡ true → first_bytes buffer result ≡ []
+nothing_came buffer (Ok count) h = let zero : count ≡ 0 = grind (arith, nat_tests, h) in ap (λ (n : ℕ). take n buffer) zero
+nothing_came buffer (Err error) h = refl
 
-pub stopped : (fault : Fault) (ends owes : Bool) (r₀ r c₀ c : Option (List ℕ)) (o₀ o : Option (List (List ℕ))) (reads₀ before reads writes₀ writes : CallLog) (exchanges : List Exchange) (waited left : List ℕ)
-    → Received (Err fault) waited left before reads r → ReadsOn reads₀ before → WritesOn writes₀ writes exchanges → IsWaiting ends owes → BeginsNoRequest waited
-    → EndsAs (Err fault) ends owes (devices r₀ reads₀ c₀ o₀ writes₀) (devices r reads c o writes) exchanges left
-stopped Memory ends owes r₀ r c₀ c o₀ o reads₀ before reads writes₀ writes exchanges waited left h on kept going none = absurd h
-stopped Unframed ends owes r₀ r c₀ c o₀ o reads₀ before reads writes₀ writes exchanges waited left h on kept going none =
-    (going, kept, inr (h.1, subst BeginsNoRequest (sym h.0) none, stops_now reads₀ before reads left on h.2, h.3, h.4))
-stopped Read ends owes r₀ r c₀ c o₀ o reads₀ before reads writes₀ writes exchanges waited left h on kept going none =
-    (kept, inl (going, subst BeginsNoRequest (sym h.0) none, stops_now reads₀ before reads left on h.1, h.2))
-stopped Write ends owes r₀ r c₀ c o₀ o reads₀ before reads writes₀ writes exchanges waited left h on kept going none = absurd h
+module _ (calls : List Call) (result : Result ℕ Error) (waited waits : List ℕ) (before after : List Call) (r r' : Option (List ℕ)) (read : HasRead result waited waits before after r r') where
+  waits_still : ends_input (outcomes.Read result) ≡ true → waits ≡ waited
+  waits_still stops = read.came ∙ (ap (λ (xs : List ℕ). waited ++ xs) (nothing_came read.buffer result stops) ∙ append-nil waited)
+
+  abbrev stops_now : ReadsOn calls → ends_input (outcomes.Read result) ≡ true → StopsReading (calls ++ read_call read.buffer result ∷ []) waits
+  stops_now on stops = record {
+    earlier = calls;
+    last = read_call read.buffer result;
+    are = refl;
+    on = on;
+    ends = stops;
+    room = read.room ∙ ap (λ (xs : List ℕ). 135168 - length xs) (sym (waits_still stops));
+  }
+
+  module _ (ends owes : Bool) (exchanges : List Exchange) (on : ReadsOn calls) (kept : WritesOn exchanges) (going : IsWaiting ends owes) (none : BeginsNoRequest waited) where
+    pub stopped : (fault : Fault) → Received (Err fault) result waits r' → EndsAs (Err fault) ends owes r' (calls ++ read_call read.buffer result ∷ []) exchanges waits
+    stopped Memory h = absurd h
+    stopped Unframed h = (going, kept, inr (h.0, subst BeginsNoRequest (sym (waits_still h.1)) none, stops_now on h.1, h.2, h.3))
+    stopped Read h = (kept, inl (going, subst BeginsNoRequest (sym (waits_still h.0)) none, stops_now on h.0, h.1))
+    stopped Write h = absurd h
+
+    pub ended : (how : Ended) → Received (Ok (Some how)) result waits r' → EndsAs (Ok how) ends owes r' (calls ++ read_call read.buffer result ∷ []) exchanges waits
+    ended AtEnd h = (going, h.0, kept, stops_now on h.1, h.2)
+    ended Gone h = (going, h.0, kept, stops_now on h.1, h.2)
+    ended Asked h = absurd h.2

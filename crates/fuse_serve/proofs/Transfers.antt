@@ -1,7 +1,7 @@
 -- Reads and writes, one after another.
 use Rattle.std.proofs.Common.{◌≡◌, ℕ, ◌-◌, List, [], ◌++◌, length, take, drop, Option, Some, None, ap, sym, refl, ◌∙◌, append_assoc}
 use Rattle.std.proofs.lemmas.List.{append-nil, take-append-drop, take_rest}
-use Rattle.std.specs.Io.KnownBytes.{Appends, Consumes}
+use Rattle.std.specs.Io.KnownBytes.{Appends, Consumes, Keeps}
 
 pub Appends_append : (a b c : Option (List ℕ)) (xs ys : List ℕ) → Appends a b xs → Appends b c ys → Appends a c (xs ++ ys)
 Appends_append None b c xs ys p q = tt
@@ -28,3 +28,9 @@ pub more_of_front : (text front rest : List ℕ) (n : ℕ) → text ≡ front ++
 more_of_front text front rest n e =
     e ∙ (ap (λ (xs : List ℕ). front ++ xs) (sym (take-append-drop n rest))
     ∙ (sym (append_assoc front (take n rest) (drop n rest)) ∙ ap (λ (xs : List ℕ). front ++ take n rest ++ xs) (sym (take_rest rest n))))
+
+-- known bytes that stayed as they were
+pub Consumes_kept : (a b : Option (List ℕ)) → Keeps a b → Consumes a b []
+Consumes_kept None b h = tt
+Consumes_kept (Some us) None h = absurd h
+Consumes_kept (Some us) (Some bs) h = sym h

@@ -1,45 +1,30 @@
--- Requests, their replies, and what was written of them. A message that no request waits for at that moment, as the reply to an earlier one, is owed:
--- it is an exchange whose request is empty.
-use Rattle.std.specs.Prelude.{◌≡◌, ◌≢◌, ◌⊎◌, ℕ, nat_lt, Bool, true, false, List, [], ◌∷◌, ◌++◌, length, Option, Some, None, count_by}
+-- Requests, their replies, and how these were written. A message that no request waits for at that moment, as the reply to an earlier one, is owed: it
+-- is an exchange whose request is empty.
+use Rattle.std.specs.Prelude.{◌≡◌, ◌⊎◌, ℕ, Bool, true, false, List, [], ◌∷◌, ◌++◌, Option}
 use Rattle.std.specs.List.{All, flat_map}
 use Rattle.std.specs.Io.KnownBytes.{Appends, Consumes}
-use Rattle.fuse_serve.specs.Counts.{HasRisenBy}
-use Rattle.fuse_serve.specs.Framing.{IsRequest}
-use Rattle.fuse_serve.specs.declared.call_log.CallLog.{CallLog}
+use Rattle.fuse_serve.specs.Calls.{Call, given, is_read, taken, writes_in}
+use Rattle.fuse_serve.specs.Deliveries.{IsDelivered}
+use Rattle.fuse_serve.specs.Framing.{IsRequest, BeginsNoRequest}
 use Rattle.fuse_serve.specs.declared.fate.Fate.{Fate}
-use Rattle.fuse_serve.specs.declared.fate.Fate.TheVariants.{Written, Dropped, Cut}
 
--- a request, none of what was owed; its reply, what became of that, the bytes of it that were written, and what each of the writes was offered
+-- a request, none of what was owed; its reply, what became of that, and its writes
 pub record Exchange : Type 0 where
   pub request : List ℕ
   pub reply : List ℕ
   pub fate : Fate
-  pub written : List ℕ
-  pub offers : List (List ℕ)
+  pub writes : List Call
 
--- with this fate these bytes of a reply were written: all, none, or some of its first ones
-abbrev pub IsWritten : Fate → List ℕ → List ℕ → Type 0
-IsWritten Written reply written = written ≡ reply
-IsWritten Dropped reply written = written ≡ []
-IsWritten Cut reply written = (rest : List ℕ) × (reply ≡ written ++ rest) × (rest ≢ [])
+-- the requests, one after another, and the writes of their replies
+abbrev pub asked : List Exchange → List ℕ
+asked exchanges = flat_map (λ (one : Exchange). one.request) exchanges
 
--- what is left of a reply
-pub record IsRestOf (reply rest : List ℕ) : Type 0 where
-  pub some : rest ≢ []
-  pub front : List ℕ
-  pub are : reply ≡ front ++ rest
+abbrev pub writes_of : List Exchange → List Call
+writes_of exchanges = flat_map (λ (one : Exchange). one.writes) exchanges
 
--- The writes of a reply were offered these bytes: the first, if the reply has bytes, all of it, so that it is one write if the device takes it whole;
--- each other what is left of it. No write is offered bytes of two replies.
-abbrev pub AreOffers : List ℕ → List (List ℕ) → Type 0
-AreOffers reply [] = reply ≡ []
-AreOffers reply (first ∷ more) = (first ≡ reply) × IsRestOf reply first × All (IsRestOf reply) more
-
--- what the writes of a device were offered, if it is known, has grown by these
-abbrev pub HasOffered : Option (List (List ℕ)) → Option (List (List ℕ)) → List (List ℕ) → Type 0
-HasOffered None new more = Unit {0}
-HasOffered (Some old) None more = ⊥
-HasOffered (Some old) (Some new) more = new ≡ old ++ more
+-- each exchange's writes are those of its reply
+abbrev pub AreDelivered : List Exchange → Type 0
+AreDelivered exchanges = All (λ (one : Exchange). IsDelivered one.fate one.reply one.writes) exchanges
 
 -- what comes next for a server that owes something, or doesn't: it tells what it owes, without a request, or else answers one
 abbrev pub IsNext : Bool → List ℕ → Type 0
@@ -50,8 +35,26 @@ IsNext false request = IsRequest request
 abbrev pub AnswersAll : {S : Type 0} → (S → List ℕ → S → List ℕ → Type 0) → (S → Bool) → (S → Bool) → S → List Exchange → S → Type 0
 AnswersAll answers ends owes before [] after = after ≡ before
 AnswersAll {S} answers ends owes before (one ∷ more) after =
-    (ends before ≡ false) × IsNext (owes before) one.request × IsWritten one.fate one.reply one.written
+    (ends before ≡ false) × IsNext (owes before) one.request
     × (next : S) × answers before one.request next one.reply × AnswersAll answers ends owes next more after
+
+-- the server neither wants to end nor owes anything: the service waits for its next request
+abbrev pub IsWaiting : Bool → Bool → Type 0
+IsWaiting ends owes = (ends ≡ false) × (owes ≡ false)
+
+-- After these calls a read comes: all that was read before was answered, but for bytes that begin no whole request, and all that was answered was
+-- written; the server owes nothing then, and does not want to end.
+pub record IsReadNext {S : Type 0} (answers : S → List ℕ → S → List ℕ → Type 0) (ends owes : S → Bool) (before : S) (calls : List Call) (exchanges : List Exchange) : Type 0 where
+  pub done : List Exchange
+  pub later : List Exchange
+  pub are : exchanges ≡ done ++ later
+  pub left : List ℕ
+  pub gave : given calls ≡ asked done ++ left
+  pub none_left : BeginsNoRequest left
+  pub took : writes_in calls ≡ writes_of done
+  pub now : S
+  pub answered : AnswersAll answers ends owes before done now
+  pub waiting : IsWaiting (ends now) (owes now)
 
 -- these bytes, but for none, and more
 abbrev pub with_bytes : List ℕ → List (List ℕ) → List (List ℕ)
@@ -72,39 +75,25 @@ replies_in (one ∷ more) = with_bytes one.reply (replies_in more)
 abbrev pub AreWhole : List Exchange → Type 0
 AreWhole exchanges = All (λ (one : Exchange). (one.request ≡ []) ⊎ IsRequest one.request) exchanges
 
--- the reply was dropped
-abbrev pub is_dropped : Fate → List ℕ → Bool
-is_dropped Written reply = false
-is_dropped Dropped reply = true
-is_dropped Cut reply = false
-
--- the reply has bytes, and all were written
-abbrev pub is_sent : Fate → List ℕ → Bool
-is_sent Written reply = nat_lt 0 (length reply)
-is_sent Dropped reply = false
-is_sent Cut reply = false
-
--- what is seen of both devices: the bytes that the reader will give and that the writer holds, and what its writes were offered, if known; and what is
--- known of their calls
-pub record Devices : Type 0 where
+-- what is seen of a device: its calls so far, and the bytes that its reads will give and that it holds of what was written, if known
+pub record DeviceSeen : Type 0 where
+  pub calls : List Call
   pub remaining : Option (List ℕ)
-  pub reads : CallLog
   pub contents : Option (List ℕ)
-  pub offers : Option (List (List ℕ))
-  pub writes : CallLog
 
-abbrev pub devices : Option (List ℕ) → CallLog → Option (List ℕ) → Option (List (List ℕ)) → CallLog → Devices
-devices remaining reads contents offers writes =
-    record { remaining = remaining; reads = reads; contents = contents; offers = offers; writes = writes }
+abbrev pub device_seen : List Call → Option (List ℕ) → Option (List ℕ) → DeviceSeen
+device_seen calls remaining contents = record { calls = calls; remaining = remaining; contents = contents }
 
--- What was read are the requests, one after another, and then some bytes that are left; the server answered them, and what was written are the
--- bytes of their replies that were written, one after another. Of a reply that was written whole, one write took all that was offered: the only
--- one, if the device never takes less.
-pub record HasServed {S : Type 0} (answers : S → List ℕ → S → List ℕ → Type 0) (ends owes : S → Bool) (before after : S) (old new : Devices) (exchanges : List Exchange) (left : List ℕ) :
+-- The device's calls were these: its reads gave the requests, one after another, and then some bytes that are left; the server answered them, and its
+-- writes were those of their replies, one after another. Each read came when all before it was answered and written, and nothing was owed.
+pub record HasServed {S : Type 0} (answers : S → List ℕ → S → List ℕ → Type 0) (ends owes : S → Bool) (before after : S) (old new : DeviceSeen) (calls : List Call) (exchanges : List Exchange) (left : List ℕ) :
     Type 0 where
-  pub read : Consumes old.remaining new.remaining (flat_map (λ (one : Exchange). one.request) exchanges ++ left)
+  pub made : new.calls ≡ old.calls ++ calls
+  pub gave : given calls ≡ asked exchanges ++ left
   pub answered : AnswersAll answers ends owes before exchanges after
-  pub written : Appends old.contents new.contents (flat_map (λ (one : Exchange). one.written) exchanges)
-  pub offered : HasOffered old.offers new.offers (flat_map (λ (one : Exchange). one.offers) exchanges)
-  pub first_whole : All (λ (one : Exchange). AreOffers one.reply one.offers) exchanges
-  pub sent : HasRisenBy (count_by (λ (one : Exchange). is_sent one.fate one.reply) exchanges) old.writes.wholes new.writes.wholes
+  pub took : writes_in calls ≡ writes_of exchanges
+  pub delivered : AreDelivered exchanges
+  pub in_order : (earlier : List Call) (one : Call) (later : List Call) → calls ≡ earlier ++ one ∷ later → is_read one.outcome ≡ true
+      → IsReadNext answers ends owes before earlier exchanges
+  pub read : Consumes old.remaining new.remaining (given calls)
+  pub written : Appends old.contents new.contents (taken calls)

@@ -1,10 +1,10 @@
-pub mod Counts
 pub mod Causes
-pub mod Outcomes
-pub mod CallLogs
+pub mod Calls
 pub mod Framing
 pub mod FramingExamples
+pub mod Deliveries
 pub mod Exchanges
 pub mod Endings
 pub mod ServiceLaws
+pub mod ServiceExamples
 pub mod private

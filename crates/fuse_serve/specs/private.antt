@@ -1,4 +1,3 @@
 -- Words of private functions and of proofs: no public clause cites them.
 pub mod Steps
 pub mod Turns
-pub mod Offering

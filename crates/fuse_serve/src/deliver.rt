@@ -1,16 +1,12 @@
 //! Replies written to a device.
 
-ghost use Rattle.std.specs.Prelude.{◌≡◌, ◌<◌, ◌∷◌, ℕ, List, [], length};
-ghost use Rattle.std.specs.Io.KnownBytes.{Appends};
-ghost use Rattle.fuse_serve.specs.Counts.{one_more};
-ghost use Rattle.fuse_serve.specs.Endings.{IsCut};
-ghost use Rattle.fuse_serve.specs.Exchanges.{AreOffers, HasOffered, IsWritten};
+ghost use Rattle.std.specs.Prelude.{◌≡◌, ◌<◌, length};
 ghost use Rattle.fuse_serve.specs.private.Steps.{Does};
-ghost use Rattle.fuse_serve.specs.private.Turns.{Tallies};
+ghost use Rattle.fuse_serve.specs.private.Turns.{HasDelivered};
 
 use crate::cause::{Cause, cause_of};
+use crate::device::Device;
 use crate::fate::Fate;
-use crate::outgoing::Outgoing;
 
 /// What one write came to.
 enum Step {
@@ -23,14 +19,12 @@ enum Step {
 }
 
 /// Writes some of the rest of a reply, of which a part was written before or none.
-fn write_some<W: Outgoing>(writer: &mut W, rest: &[u8], is_begun: bool) -> Step
+fn write_some<D: Device>(device: &mut D, rest: &[u8], is_begun: bool) -> Step
     requires { 0 < length rest.now }
-    ensures does { Does result is_begun rest.now (W.contents writer.old) (W.contents writer.new)
-        (W.log writer.old) (W.log writer.new) }
-    ensures offered { HasOffered (W.offers writer.old) (W.offers writer.new) (rest.now ∷ []) }
-    ensures calls { (W.log writer.new).calls ≡ one_more (W.log writer.old).calls }
+    ensures does { Does result is_begun rest.now (D.calls device.old) (D.calls device.new) (D.contents device.old) (D.contents device.new) }
+    ensures remaining { D.remaining device.new ≡ D.remaining device.old }
 {
-    match writer.write(rest) {
+    match device.write(rest) {
         Ok(0) => Step::Last(Fate::Cut),
         Ok(count) => Step::Took(count),
         Err(error) => match cause_of(&error) {
@@ -43,17 +37,14 @@ fn write_some<W: Outgoing>(writer: &mut W, rest: &[u8], is_begun: bool) -> Step
 
 /// Writes a reply, by one write if the device takes it whole. A signal in between (EINTR) is no failure, and neither is a request that was
 /// interrupted before anything of its reply was written (ENOENT).
-pub(crate) fn deliver<W: Outgoing>(writer: &mut W, reply: &[u8]) -> Fate
-    ensures written { (written : List ℕ) × IsWritten result reply.now written
-        × Appends (W.contents writer.old) (W.contents writer.new) written
-        × (result ≡ Fate.Cut → IsCut (W.log writer.new) written) }
-    ensures offered { (offers : List (List ℕ)) × AreOffers reply.now offers × HasOffered (W.offers writer.old) (W.offers writer.new) offers }
-    ensures tallies { Tallies result reply.now (W.log writer.old) (W.log writer.new) }
+pub(crate) fn deliver<D: Device>(device: &mut D, reply: &[u8]) -> Fate
+    ensures delivered { HasDelivered result reply.now (D.calls device.old) (D.calls device.new) (D.contents device.old) (D.contents device.new) }
+    ensures remaining { D.remaining device.new ≡ D.remaining device.old }
 {
     let mut rest = reply;
     let mut tries = u64::MAX;
     while !rest.is_empty() {
-        match write_some(writer, rest, rest.len() < reply.len()) {
+        match write_some(device, rest, rest.len() < reply.len()) {
             Step::Took(count) => rest = &rest[count..],
             Step::Again if tries > 0 => tries -= 1,
             Step::Again => return Fate::Cut,

@@ -4,12 +4,12 @@
 //!     0        start          end             MOST_BYTES
 //!     |  taken |  waiting     |  room         |
 
-ghost use Rattle.std.specs.Prelude.{◌≡◌, ◌-◌, ◌<◌, ◌≤◌, ◌++◌, [], length, take, drop, List, ℕ, IfOk, Ok, OnErr};
-ghost use Rattle.std.specs.Io.KnownBytes.{Consumes, Keeps, IsAtEnd};
-ghost use Rattle.fuse_serve.specs.CallLogs.{logged};
+ghost use Rattle.std.specs.Prelude.{◌≡◌, ◌<◌, ◌≤◌, [], length, drop, IfOk, Ok};
+ghost use Rattle.std.specs.Io.KnownBytes.{IsAtEnd};
+ghost use Rattle.fuse_serve.specs.private.Turns.{HasRead};
 
+use crate::device::Device;
 use crate::framing::MOST_BYTES;
-use crate::incoming::Incoming;
 use std::alloc::{AllocError, Global};
 use std::io;
 use std::marker::Model;
@@ -60,19 +60,17 @@ impl Inbox {
     }
 
     /// Reads once, as many bytes as there is room for, and returns how many came.
-    pub(crate) fn read_from<R: Incoming>(&mut self, reader: &mut R) -> io::Result<usize>
+    pub(crate) fn read_from<D: Device>(&mut self, device: &mut D) -> io::Result<usize>
         requires { length self.old < MOST_BYTES }
-        ensures bytes { IfOk result (λ count. (bytes : List ℕ) × (length bytes ≡ count) × (self.new ≡ self.old ++ bytes)
-            × Consumes (R.remaining reader.old) (R.remaining reader.new) bytes) }
-        ensures end { result ≡ Ok 0 → IsAtEnd (R.remaining reader.new) }
-        ensures err { OnErr result ((self.new ≡ self.old) × Keeps (R.remaining reader.old) (R.remaining reader.new)) }
-        ensures log { R.log reader.new ≡ logged (R.log reader.old) (MOST_BYTES - length self.old) result }
+        ensures read { HasRead result self.old self.new (D.calls device.old) (D.calls device.new) (D.remaining device.old) (D.remaining device.new) }
+        ensures end { result ≡ Ok 0 → IsAtEnd (D.remaining device.new) }
+        ensures contents { D.contents device.new ≡ D.contents device.old }
     {
         let waiting = self.end - self.start;
         self.buffer.copy_within(self.start..self.end, 0);
         self.start = 0;
         self.end = waiting;
-        let outcome = reader.read(&mut self.buffer[waiting..]);
+        let outcome = device.read(&mut self.buffer[waiting..]);
         if let Ok(count) = outcome {
             self.end += count;
         }

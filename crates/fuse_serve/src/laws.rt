@@ -1,7 +1,8 @@
 //! What the definitions of a service mean. Each function does nothing: its contract is a theorem.
 
-ghost use Rattle.fuse_serve.specs.FramingExamples.{Examples};
-ghost use Rattle.fuse_serve.specs.ServiceLaws.{CutOneWay, AllAreServed, AllAreWritten, OneWriteEach};
+ghost use Rattle.fuse_serve.specs.FramingExamples as framing;
+ghost use Rattle.fuse_serve.specs.ServiceExamples as services;
+ghost use Rattle.fuse_serve.specs.ServiceLaws.{CutOneWay, AllAreServed, AllAreWritten, OneWriteEach, WholeWritesEndReplies};
 
 /// Bytes are whole requests, one after another, and a rest that begins with none, in one way at most.
 pub fn bytes_are_cut_one_way()
@@ -18,12 +19,19 @@ pub fn uninterrupted_replies_are_written()
     ensures { AllAreWritten }
 {}
 
-/// If a service made no more writes than it had replies with bytes, each reply was one write.
+/// To a device whose every write takes all that it is offered, each reply with bytes is one write, and there is no other; a write that takes all is
+/// always its reply's last.
 pub fn replies_are_single_writes()
-    ensures { OneWriteEach }
+    ensures single { OneWriteEach }
+    ensures last { WholeWritesEndReplies }
 {}
 
 /// The examples are what they are said to be.
 pub fn examples_are_framed()
-    ensures { Examples }
+    ensures { framing.Examples }
+{}
+
+/// Some calls of a device are a service's, and those of a server that reads ahead, writes a reply in two, or tells late are none.
+pub fn examples_are_served()
+    ensures { services.Examples }
 {}

@@ -2,27 +2,27 @@
 //! written. It knows the framing of requests (their first four bytes are their length), and nothing of what they ask for.
 #![tactic(auto)]
 
-mod call_log;
+mod calls;
 mod cause;
 mod deliver;
+mod device;
 mod fate;
 mod fault;
 mod framing;
 mod inbox;
-mod incoming;
+mod joined;
 pub mod laws;
-mod logged;
-mod outgoing;
+mod outcome;
 mod server;
 mod service;
 
-pub use call_log::CallLog;
+pub use calls::Calls;
 pub use cause::Cause;
+pub use device::Device;
 pub use fate::Fate;
 pub use fault::{Ended, Fault};
 pub use framing::{HEADER_BYTES, MOST_BYTES};
-pub use incoming::Incoming;
-pub use logged::Logged;
-pub use outgoing::Outgoing;
+pub use joined::Joined;
+pub use outcome::Outcome;
 pub use server::Server;
 pub use service::serve;

@@ -4,5 +4,6 @@ pub mod Replies
 pub mod Alignment
 pub mod Directories
 pub mod Laws
-pub mod Examples
+pub mod RequestExamples
+pub mod ReplyExamples
 pub mod private

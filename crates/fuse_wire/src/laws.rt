@@ -1,7 +1,8 @@
 //! What the layouts of requests and replies say together, and bytes that were met. Each function does nothing: its contract is a theorem.
 
-ghost use Rattle.fuse_wire.specs.Examples.{AreRequests, AreReplies};
 ghost use Rattle.fuse_wire.specs.Laws.{RequestsHaveBytes, RequestsDiffer, RepliesTellTheirLength, RepliesDiffer, RepliesOfAKindDiffer};
+ghost use Rattle.fuse_wire.specs.ReplyExamples.{AreReplies};
+ghost use Rattle.fuse_wire.specs.RequestExamples.{AreRequests};
 
 /// Each request whose numbers have room has bytes. No bytes are two requests.
 pub fn requests_are_told_apart()
@@ -17,7 +18,7 @@ pub fn replies_are_told_apart()
     ensures of_a_kind { RepliesOfAKindDiffer }
 {}
 
-/// Bytes that a kernel sent are the requests that were made, and bytes that it took are the replies.
+/// Bytes that a kernel sent are the requests that were made, one of each operation, and bytes that it took are the replies and the wakeup.
 pub fn messages_are_as_met()
     ensures requests { AreRequests }
     ensures replies { AreReplies }

@@ -19,6 +19,9 @@ pub mod Renumbered
 pub mod Looks
 pub mod AlikePasts
 pub mod LookedTables
+pub mod LaterReads
+pub mod SmallPasts
+pub mod LegalPasts
 pub mod DistinctRows
 pub mod GroupedSums
 pub mod TiedRows

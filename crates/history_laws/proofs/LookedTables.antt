@@ -1,5 +1,6 @@
 -- The hist triggers of an instance, and the rows of their tables, with one more request among those done that only looks.
-use Rattle.std.proofs.Common.{All, IsOk, subst, suc, ◌<◌, ◌≡◌, inl, inr, ℕ, ◌≤◌, nat_lt, Bool, true, false, not, ◌&&◌, if◌then◌else◌, List, [], ◌∷◌, ◌++◌, length, map, Option, None, Some, option_map, Result, Ok, Err, refl, sym, ap, ◌∙◌, arith, lt-ltb}
+use Rattle.std.proofs.Common.{All, IsOk, subst, suc, ◌<◌, ◌≡◌, inl, inr, ℕ, ◌≤◌, nat_lt, ◌==◌, Bool, true, false, not, ◌&&◌, if◌then◌else◌, List, [], ◌∷◌, ◌++◌, length, map, Option, None, Some, option_map, Result, Ok, Err, refl, sym, ap, ◌∙◌, arith, lt-ltb}
+use Rattle.std.proofs.lemmas.Bool.{false≢true}
 use Rattle.std.proofs.lemmas.List.Elements.{All-cons}
 use Rattle.std.proofs.lemmas.List.{append-nil, length-append, map-append}
 use Rattle.trace_format.specs.Definitions.{Definition}
@@ -10,22 +11,27 @@ use Rattle.trace_trigger.specs.declared.spec.Action.{Action}
 use Rattle.trace_trigger.specs.declared.trigger.TriggerText.{TriggerText}
 use Rattle.trace_trigger.specs.declared.trigger.TriggerText.TheVariants.{Nothing, Attach, Remove, Hist, RemoveHist}
 use Rattle.hist_entries.specs.Hits.{Hit}
-use Rattle.trace_command.specs.Paths.{File, OfEvent}
+use Rattle.page_ring.specs.Events as ring
+use Rattle.trace_command.specs.Paths.{File, OfInstance, OfCpu, OfEvent}
 use Rattle.trace_command.specs.Requests.{Request, WriteFile, ReadFile, request_of}
 use Rattle.trace_command.specs.declared.command.Config.{Config}
 use Rattle.trace_command.specs.declared.command.Entry.{Entry}
 use Rattle.trace_command.specs.declared.command.Reply.{Reply}
 use Rattle.trace_command.specs.declared.refusal.Refusal.{Refusal}
+use Rattle.trace_command.specs.declared.file_name.CpuFile.TheVariants as per_cpu
 use Rattle.trace_command.specs.declared.file_name.EventFile.TheVariants as per_event
+use Rattle.trace_command.specs.declared.file_name.TopFile.TheVariants as top
 use Rattle.tracer_specification.specs.Emissions.{Emitted, emitted}
 use Rattle.tracer_specification.specs.HistTriggers.{HistTrigger, Written, asked_by, asked_in, asked_of, counted_by, counted_hit, empties, has_same, hist_triggers, hists_after, hists_said, hits_of, is_of, is_paused, left_by, met_in, named_by, new_hist, paused_after, says_same, speaks_of, table_or, those_of, written_to}
 use Rattle.tracer_specification.specs.History.{answer, answer_with_room, requests_of, unless_full}
-use Rattle.tracer_specification.specs.Settings.{NumberedEvent, is_same, makes}
+use Rattle.tracer_specification.specs.Rings.{rings_after_read, rings_of_side}
+use Rattle.tracer_specification.specs.Settings.{NumberedEvent, declared_events, instance_names, is_same, makes}
+use Rattle.tracer_specification.specs.Snapshots.{live_side}
 use Rattle.tracer_specification.specs.Triggers.{met_by}
 use Rattle.tracer_specification.proofs.EventHists.{tables-made_before}
 use Rattle.tracer_specification.proofs.LegalEvents.{done-had_room}
 use Rattle.tracer_specification.proofs.TableSteps.{nothing-counted, unmade}
-use Rattle.history_laws.specs.Looks.{LooksCanBeLeftOut, LookingChangesNothing, LookingLeavesWaiting, LookingTakesOnlyRoom}
+use Rattle.history_laws.specs.Looks.{LooksCanBeDoneWithout, LooksCanBeLeftOut, LookingChangesNothing, LookingLeavesWaiting, LookingTakesOnlyRoom}
 use Rattle.history_laws.specs.ReadsInParts.{is_pipe}
 use Rattle.history_laws.proofs.AlikePasts.{AreAlike, answer-same, found-later, left-later, same-later, those-later, waiting-same}
 use Rattle.history_laws.proofs.Looks as looks
@@ -101,29 +107,29 @@ counted-later : (n table : ℕ) (paused : Bool) (hists : List HistTrigger) (e : 
 counted-later n table true hists e = refl
 counted-later n table false hists e = each-later n (met_in table e) (met_in (up n table) e) (met-later n table e) hists
 
--- ---- a read of this file, after these requests
+-- ---- two pasts, one with a request more, and what is done after them
 
-module _ (past : List Request) (reader : Option (List ℕ)) (seen : File) (limit : Option ℕ) (quiet : is_pipe seen ≡ false) where
+module _ (more less : List Request) (one_more : looks.IsOneMore more less) where
   abbrev with_look : List Request → List Request
-  with_look later = later ++ ReadFile reader (Some seen) limit ∷ past
+  with_look later = later ++ more
 
   abbrev without : List Request → List Request
-  without later = later ++ past
+  without later = later ++ less
 
   abbrev first : ℕ
-  first = length past
+  first = length less
 
   written-same : (instance : Option (List ℕ)) (later : List Request) (request : Request)
       → written_to instance (with_look later) request ≡ written_to instance (without later) request
   written-same instance later (WriteFile other (Some (OfEvent name per_event.Trigger)) append text) =
       ap (λ (o : Option NumberedEvent).
       if is_same instance other then option_map (λ (k : NumberedEvent). let w : Written = record { event = k.event; append = append; text = text } in w) o else None)
-      (looks.named-same past reader seen limit quiet name later)
+      (looks.named-same more less one_more name later)
   written-same instance later request = refl
 
   hists-same : (instance : Option (List ℕ)) (later : List Request)
       → hist_triggers instance (with_look later) ≡ map (later_hist first) (hist_triggers instance (without later))
-  hists-same instance [] = early-hists first (hist_triggers instance past) (tables-made_before instance past)
+  hists-same instance [] = one_more.hists instance ∙ early-hists first (hist_triggers instance less) (tables-made_before instance less)
   hists-same instance (request ∷ later) = by (makes instance request) (hists-same instance later)
     where
       by : (new : Bool) → hist_triggers instance (with_look later) ≡ map (later_hist first) (hist_triggers instance (without later))
@@ -133,7 +139,7 @@ module _ (past : List Request) (reader : Option (List ℕ)) (seen : File) (limit
       by true rest = refl
       by false rest =
           ap (λ (m : ℕ). hists_after m (written_to instance (with_look later) request) (hist_triggers instance (with_look later)))
-          (looks.length-later past reader seen limit quiet later)
+          (looks.length-later more less one_more later)
           ∙ ap (λ (w : Option Written). hists_after (up first (length (without later))) w (hist_triggers instance (with_look later)))
           (written-same instance later request)
           ∙ ap (hists_after (up first (length (without later))) (written_to instance (without later) request)) rest
@@ -148,12 +154,12 @@ module _ (past : List Request) (reader : Option (List ℕ)) (seen : File) (limit
 
   paused-same : (instance : Option (List ℕ)) (table : ℕ) (later : List Request)
       → is_paused instance (up first table) (with_look later) ≡ is_paused instance table (without later)
-  paused-same instance table [] = elim (up-cases first table) [
-    | inl early ↦ ap (λ (k : ℕ). is_paused instance k past) early.1
+  paused-same instance table [] = one_more.paused instance (up first table) ∙ elim (up-cases first table) [
+    | inl early ↦ ap (λ (k : ℕ). is_paused instance k less) early.1
     | inr behind ↦
         let le = behind.0 in
-        let more : first ≤ up first table = omega (arith, le, behind.1) in
-        (unmade instance (up first table) past more).0 ∙ sym (unmade instance table past le).0
+        let raised : first ≤ up first table = omega (arith, le, behind.1) in
+        (unmade instance (up first table) less raised).0 ∙ sym (unmade instance table less le).0
   ]
   paused-same instance table (request ∷ later) =
       ap (λ (a : Option Action). paused_after a (is_paused instance (up first table) (with_look later))) (asked-same instance table later request)
@@ -161,17 +167,13 @@ module _ (past : List Request) (reader : Option (List ℕ)) (seen : File) (limit
 
   hits-same : (instance : Option (List ℕ)) (table : ℕ) (later : List Request)
       → hits_of instance (up first table) (with_look later) ≡ hits_of instance table (without later)
-  hits-same instance table [] =
-      ap (λ (rows : List Hit). hits_of instance (up first table) past ++ rows)
-      (nothing-counted (up first table) (is_paused instance (up first table) past) (hist_triggers instance past))
-      ∙ append-nil (hits_of instance (up first table) past)
-      ∙ elim (up-cases first table) [
-        | inl early ↦ ap (λ (k : ℕ). hits_of instance k past) early.1
-        | inr behind ↦
-            let le = behind.0 in
-            let more : first ≤ up first table = omega (arith, le, behind.1) in
-            (unmade instance (up first table) past more).1 ∙ sym (unmade instance table past le).1
-      ]
+  hits-same instance table [] = one_more.hits instance (up first table) ∙ elim (up-cases first table) [
+    | inl early ↦ ap (λ (k : ℕ). hits_of instance k less) early.1
+    | inr behind ↦
+        let le = behind.0 in
+        let raised : first ≤ up first table = omega (arith, le, behind.1) in
+        (unmade instance (up first table) less raised).1 ∙ sym (unmade instance table less le).1
+  ]
   hits-same instance table (request ∷ later) =
       let counted : Bool → List HistTrigger → Option Emitted → List Hit = counted_by (up first table) in
       let e = emitted (without later) request in
@@ -188,36 +190,80 @@ module _ (past : List Request) (reader : Option (List ℕ)) (seen : File) (limit
       (paused-same instance table later)
       ∙ ap (λ (ts : List HistTrigger). if empties asked then [] else older ++ counted paused ts (emitted (with_look later) request)) (hists-same instance later)
       ∙ ap (λ (o : Option Emitted). if empties asked then [] else older ++ counted paused (map (later_hist first) (hist_triggers instance (without later))) o)
-      (looks.emitted-same past reader seen limit quiet later request)
+      (looks.emitted-same more less one_more later request)
       ∙ ap (λ (rows : List Hit). if empties asked then [] else older ++ rows) (counted-later first table paused (hist_triggers instance (without later)) e)
 
-  are-alike : (later : List Request) → AreAlike first (with_look later) (without later)
+  pub are-alike : (later : List Request) → AreAlike first (with_look later) (without later)
   are-alike later = record {
-    events = looks.events-same past reader seen limit quiet later;
-    instances = looks.instances-same past reader seen limit quiet later;
-    now = looks.now-same past reader seen limit quiet later;
-    enabled = λ instance event. looks.enabled-same past reader seen limit quiet instance event later;
-    filters = λ instance event. looks.filter-same past reader seen limit quiet instance event later;
-    overwriting = λ instance. looks.overwrites-same past reader seen limit quiet instance later;
-    tracing = λ instance. looks.tracing-same past reader seen limit quiet instance later;
-    live = λ g instance. looks.rings-same past reader seen limit quiet g instance later;
-    spare = λ g instance. looks.spare_rings-same past reader seen limit quiet g instance later;
-    trigger = λ instance event. looks.trigger-later past reader seen limit quiet instance event later;
-    times = λ event t. looks.times-same past reader seen limit quiet event t later;
+    events = looks.events-same more less one_more later;
+    instances = looks.instances-same more less one_more later;
+    now = looks.now-same more less one_more later;
+    enabled = λ instance event. looks.enabled-same more less one_more instance event later;
+    filters = λ instance event. looks.filter-same more less one_more instance event later;
+    overwriting = λ instance. looks.overwrites-same more less one_more instance later;
+    tracing = λ instance. looks.tracing-same more less one_more instance later;
+    live = λ g instance. looks.rings-same more less one_more g instance later;
+    spare = λ g instance. looks.spare_rings-same more less one_more g instance later;
+    trigger = λ instance event. looks.trigger-later more less one_more instance event later;
+    times = λ event t. looks.times-same more less one_more event t later;
     hists = λ instance. hists-same instance later;
     paused = λ instance table. paused-same instance table later;
     hits = λ instance table. hits-same instance table later;
   }
 
+-- ---- reads
+
+-- a read counts no row
+pub hits-read : (past : List Request) (reader : Option (List ℕ)) (file : Option File) (limit : Option ℕ) (instance : Option (List ℕ)) (table : ℕ)
+    → hits_of instance table (ReadFile reader file limit ∷ past) ≡ hits_of instance table past
+hits-read past reader file limit instance table =
+    ap (λ (rows : List Hit). hits_of instance table past ++ rows) (nothing-counted table (is_paused instance table past) (hist_triggers instance past))
+    ∙ append-nil (hits_of instance table past)
+
+-- and one of a file that is no pipe reads nothing from a ring
+read-nothing : (g : Config) (limit : Option ℕ) (file : File) (family : List (List ring.Event)) → is_pipe file ≡ false
+    → rings_after_read g limit (Some file) family ≡ family
+read-nothing g limit (OfInstance top.TracePipe) family is = absurd (false≢true (sym is))
+read-nothing g limit (OfCpu cpu per_cpu.TracePipe) family is = absurd (false≢true (sym is))
+read-nothing g limit file family is = refl
+
+look-one_more : (past : List Request) (reader : Option (List ℕ)) (seen : File) (limit : Option ℕ) → is_pipe seen ≡ false
+    → looks.IsOneMore (ReadFile reader (Some seen) limit ∷ past) past
+look-one_more past reader seen limit quiet = record {
+  number = refl;
+  events = append-nil (declared_events past);
+  instances = append-nil (instance_names past);
+  now = omega arith;
+  enabled = λ instance event. refl;
+  filters = λ instance event. refl;
+  overwriting = λ instance. refl;
+  tracing = λ instance. refl;
+  spare = λ instance. refl;
+  trigger = λ instance event. refl;
+  meets = looks.met-read past reader (Some seen) limit;
+  count = λ instance. omega arith;
+  sides = λ g instance side. by g instance side (side == live_side instance past) (is_same instance reader);
+  hists = λ instance. refl;
+  paused = λ instance table. refl;
+  hits = hits-read past reader (Some seen) limit;
+}
+  where
+    by : (g : Config) (instance : Option (List ℕ)) (side : ℕ) (live same : Bool)
+        → (if live then (if same then rings_after_read g limit (Some seen) (rings_of_side g instance side past) else rings_of_side g instance side past)
+        else rings_of_side g instance side past) ≡ rings_of_side g instance side past
+    by g instance side true true = read-nothing g limit seen (rings_of_side g instance side past) quiet
+    by g instance side true false = refl
+    by g instance side false same = refl
+
 -- ---- the theorems
 
 pub looking_changes_nothing : LookingChangesNothing
 looking_changes_nothing g past later instance file limit next quiet =
-    answer-same (length past) (later ++ ReadFile instance (Some file) limit ∷ past) (later ++ past) (are-alike past instance file limit quiet later) g next
+    answer-same (length past) (later ++ ReadFile instance (Some file) limit ∷ past) (later ++ past) (are-alike (ReadFile instance (Some file) limit ∷ past) past (look-one_more past instance file limit quiet) later) g next
 
 pub looking_leaves_waiting : LookingLeavesWaiting
 looking_leaves_waiting g past later instance at file limit pipe quiet =
-    waiting-same (length past) (later ++ ReadFile instance (Some file) limit ∷ past) (later ++ past) (are-alike past instance file limit quiet later) g at pipe
+    waiting-same (length past) (later ++ ReadFile instance (Some file) limit ∷ past) (later ++ past) (are-alike (ReadFile instance (Some file) limit ∷ past) past (look-one_more past instance file limit quiet) later) g at pipe
 
 pub looking_takes_only_room : LookingTakesOnlyRoom
 unfolding answer
@@ -240,6 +286,13 @@ looking_takes_only_room g past later instance file limit next quiet room =
     by (Ok reply) = rw (one, other) refl
 
 -- ---- looks left out
+
+pub looks_can_be_done_without : LooksCanBeDoneWithout
+looks_can_be_done_without g past [] instance file limit quiet done = done.1
+looks_can_be_done_without g past (request ∷ later) instance file limit quiet done = (
+  subst IsOk (looking_changes_nothing g past later instance file limit request quiet) done.0,
+  looks_can_be_done_without g past later instance file limit quiet done.1,
+)
 
 requests-append : (later before : List Entry) → requests_of (later ++ before) ≡ requests_of later ++ requests_of before
 requests-append [] before = refl

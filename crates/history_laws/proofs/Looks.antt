@@ -1,8 +1,8 @@
--- What requests come to with one more among them that only looks.
-use Rattle.std.proofs.Common.{◌≡◌, inl, inr, ℕ, suc, ◌+◌, ◌-◌, ◌≤◌, ◌%◌, ◌==◌, nat_lt, Bool, true, false, ◌&&◌, if◌then◌else◌, is_some, bytes_eq, List, [], ◌∷◌, ◌++◌, length, filter, Option, None, Some, option_map, unwrap_or, Result, Ok, Err, refl, sym, ap, ◌∙◌, arith, lt-ltb}
+-- What requests come to with one more among them that changes nothing else: a look, or the second of two reads that are one.
+use Rattle.std.proofs.Common.{◌≡◌, inl, inr, ℕ, suc, ◌+◌, ◌-◌, ◌≤◌, ◌%◌, ◌==◌, nat_lt, Bool, true, false, ◌&&◌, if◌then◌else◌, is_some, bytes_eq, List, [], ◌∷◌, ◌++◌, length, filter, Option, None, Some, option_map, unwrap_or, Result, Ok, Err, refl, sym, ap, ◌∙◌, arith}
 use Rattle.std.specs.List.{list_any}
 use Rattle.std.specs.Option.{option_to_list}
-use Rattle.std.proofs.lemmas.Bool.{cases_Bool, cond-false, cond-true, false≢true, ltb-true}
+use Rattle.std.proofs.lemmas.Bool.{cases_Bool, cond-false, cond-true, ltb-true, ltb-false}
 use Rattle.std.proofs.lemmas.List.{append-nil, length-append}
 use Rattle.page_ring.specs.Events as ring
 use Rattle.trace_filter.specs.Filters.{Parsed}
@@ -11,57 +11,92 @@ use Rattle.trace_trigger.specs.TriggerTexts.{said_of}
 use Rattle.trace_trigger.specs.declared.fault.TriggerFault.{TriggerFault}
 use Rattle.trace_trigger.specs.declared.trigger.TriggerText.{TriggerText}
 use Rattle.trace_trigger.specs.declared.trigger.TriggerText.TheVariants.{Nothing, Attach, Remove, Hist, RemoveHist}
-use Rattle.trace_command.specs.Paths.{File, OfInstance, OfCpu, OfEvent}
+use Rattle.trace_command.specs.Paths.{File, OfInstance, OfEvent}
 use Rattle.trace_command.specs.Requests.{Request, Emission, MakeInstance, RemoveInstance, WriteFile, ReadFile}
 use Rattle.trace_command.specs.declared.command.Config.{Config}
-use Rattle.trace_command.specs.declared.file_name.CpuFile.TheVariants as per_cpu
 use Rattle.trace_command.specs.declared.file_name.EventFile.TheVariants as per_event
 use Rattle.trace_command.specs.declared.file_name.TopFile.TheVariants as top
 use Rattle.tracer_specification.specs.Emissions.{Emitted, emitted, emitted_event, is_recorded}
-use Rattle.tracer_specification.specs.Rings.{rings, other_rings, rings_after, rings_of_side, spare_after, spare_rings, with_emitted, rings_after_read}
+use Rattle.tracer_specification.specs.HistTriggers.{hist_triggers, hits_of, is_paused}
+use Rattle.tracer_specification.specs.Rings.{rings, other_rings, rings_after, rings_of_side, spare_after, spare_rings, with_emitted}
 use Rattle.tracer_specification.specs.Settings.{NumberedEvent, declared_events, declares, event_named, event_named_in, filter_of, instance_names, is_enabled, is_same, is_there, is_tracing, made, makes, now_of, overwrites, removed, set_by, sets_filter, sets_overwrite, sets_tracing, setting, switches, ticks, without as names_without, written_flag, written_to_all}
 use Rattle.tracer_specification.specs.Snapshots.{exchange_count, exchanges, has_spare, is_exchanged_by, live_side, sets_spare, spare_armed_for}
 use Rattle.tracer_specification.specs.Triggers.{Trigger, acts, is_left, met, met_by, passes, sets_trigger, times_left, trigger_of, written_trigger}
 use Rattle.tracer_specification.proofs.Triggered.{number-before}
-use Rattle.history_laws.specs.ReadsInParts.{is_pipe}
 use Rattle.history_laws.proofs.Renumbered.{early-trigger, later_trigger, up, up-cases, up-late, up-less}
 
 some-same : {A : Type 0} (o : Option A) → o ≡ option_map (λ (x : A). x) o
 some-same None = refl
 some-same (Some x) = refl
 
--- a read of this file, after these requests
-module _ (past : List Request) (reader : Option (List ℕ)) (seen : File) (limit : Option ℕ) (quiet : is_pipe seen ≡ false) where
+met-unmade : (event : Definition) (filter : Option Parsed) (number : ℕ) (done : List Request) → length done ≤ number → met event filter number done ≡ []
+met-unmade event filter number [] le = refl
+met-unmade event filter number (request ∷ done) le = elim (cases_Bool (nat_lt number (length done))) [
+  | inl less ↦ absurd (let l = ltb-true number (length done) less in omega (arith, l, le))
+  | inr not_less ↦ cond-false _ (met event filter number done ++ met_by event filter (emitted done request)) [] not_less
+]
+
+-- a read meets no trigger
+pub met-read : (past : List Request) (reader : Option (List ℕ)) (file : Option File) (limit : Option ℕ) (event : Definition) (filter : Option Parsed) (number : ℕ)
+    → met event filter number (ReadFile reader file limit ∷ past) ≡ met event filter number past
+met-read past reader file limit event filter number = elim (cases_Bool (nat_lt number (length past))) [
+  | inl less ↦ cond-true _ (met event filter number past ++ []) [] less ∙ append-nil (met event filter number past)
+  | inr not_less ↦
+      cond-false _ (met event filter number past ++ []) [] not_less
+      ∙ sym (met-unmade event filter number past (ltb-false number (length past) not_less))
+]
+
+-- two pasts, one with a request more, of which all is the same
+pub record IsOneMore (more less : List Request) : Type 0 where
+  pub number : length more ≡ suc (length less)
+  pub events : declared_events more ≡ declared_events less
+  pub instances : instance_names more ≡ instance_names less
+  pub now : now_of more ≡ now_of less
+  pub enabled : (instance : Option (List ℕ)) (event : List ℕ) → is_enabled instance event more ≡ is_enabled instance event less
+  pub filters : (instance : Option (List ℕ)) (event : List ℕ) → filter_of instance event more ≡ filter_of instance event less
+  pub overwriting : (instance : Option (List ℕ)) → overwrites instance more ≡ overwrites instance less
+  pub tracing : (instance : Option (List ℕ)) → is_tracing instance more ≡ is_tracing instance less
+  pub spare : (instance : Option (List ℕ)) → has_spare instance more ≡ has_spare instance less
+  pub trigger : (instance : Option (List ℕ)) (event : Definition) → trigger_of instance event more ≡ trigger_of instance event less
+  pub meets : (event : Definition) (filter : Option Parsed) (n : ℕ) → met event filter n more ≡ met event filter n less
+  pub count : (instance : Option (List ℕ)) → exchange_count instance more ≡ exchange_count instance less
+  pub sides : (g : Config) (instance : Option (List ℕ)) (side : ℕ) → rings_of_side g instance side more ≡ rings_of_side g instance side less
+  pub hists : (instance : Option (List ℕ)) → hist_triggers instance more ≡ hist_triggers instance less
+  pub paused : (instance : Option (List ℕ)) (table : ℕ) → is_paused instance table more ≡ is_paused instance table less
+  pub hits : (instance : Option (List ℕ)) (table : ℕ) → hits_of instance table more ≡ hits_of instance table less
+
+-- two such pasts, and what is done after them
+module _ (more less : List Request) (one_more : IsOneMore more less) where
   abbrev pub with_look : List Request → List Request
-  with_look later = later ++ ReadFile reader (Some seen) limit ∷ past
+  with_look later = later ++ more
 
   abbrev pub without : List Request → List Request
-  without later = later ++ past
+  without later = later ++ less
 
   abbrev first : ℕ
-  first = length past
+  first = length less
 
   late : (later : List Request) → first ≤ length (without later)
-  late later = let both = length-append later past in omega (arith, both)
+  late later = let both = length-append later less in omega (arith, both)
 
   pub length-later : (later : List Request) → length (with_look later) ≡ up first (length (without later))
   length-later later =
-      let one = length-append later (ReadFile reader (Some seen) limit ∷ past) in
-      let other = length-append later past in
-      let more : length (with_look later) ≡ suc (length (without later)) = omega (arith, one, other) in
-      more ∙ sym (up-late first (length (without later)) (late later))
+      let one = length-append later more in
+      let other = length-append later less in
+      let longer : length (with_look later) ≡ suc (length (without later)) = omega (arith, one, other, one_more.number) in
+      longer ∙ sym (up-late first (length (without later)) (late later))
 
   -- ---- instances, events and the clock
 
   pub events-same : (later : List Request) → declared_events (with_look later) ≡ declared_events (without later)
-  events-same [] = append-nil (declared_events past)
+  events-same [] = one_more.events
   events-same (request ∷ later) = ap (λ (es : List Definition). es ++ option_to_list (declares request)) (events-same later)
 
   pub named-same : (name : List ℕ) (later : List Request) → event_named name (with_look later) ≡ event_named name (without later)
   named-same name later = ap (λ (es : List Definition). event_named_in es name) (events-same later)
 
   pub instances-same : (later : List Request) → instance_names (with_look later) ≡ instance_names (without later)
-  instances-same [] = append-nil (instance_names past)
+  instances-same [] = one_more.instances
   instances-same (request ∷ later) =
       ap (λ (names : List (List ℕ)). names_without (removed request) names ++ option_to_list (made request)) (instances-same later)
 
@@ -70,7 +105,7 @@ module _ (past : List Request) (reader : Option (List ℕ)) (seen : File) (limit
   there-same (Some name) later = ap (list_any (bytes_eq name)) (instances-same later)
 
   pub now-same : (later : List Request) → now_of (with_look later) ≡ now_of (without later)
-  now-same [] = omega arith
+  now-same [] = one_more.now
   now-same (request ∷ later) = ap (λ (n : ℕ). n + ticks request) (now-same later)
 
   pub emitted-same : (later : List Request) (request : Request) → emitted (with_look later) request ≡ emitted (without later) request
@@ -99,7 +134,7 @@ module _ (past : List Request) (reader : Option (List ℕ)) (seen : File) (limit
   set-same instance sets change later each (ReadFile other file limit) = refl
 
   setting-changed : {A : Type 0} (instance : Option (List ℕ)) (sets : List Request → File → List ℕ → Option A) (default : A) (change : A → A)
-      → default ≡ change default → setting instance sets default past ≡ change (setting instance sets default past)
+      → default ≡ change default → setting instance sets default more ≡ change (setting instance sets default less)
       → ((later : List Request) (file : File) (text : List ℕ) → sets (with_look later) file text ≡ option_map change (sets (without later) file text))
       → (later : List Request) → setting instance sets default (with_look later) ≡ change (setting instance sets default (without later))
   setting-changed instance sets default change stays before each [] = before
@@ -116,14 +151,15 @@ module _ (past : List Request) (reader : Option (List ℕ)) (seen : File) (limit
       by false set (Some v) is rest = ap (λ (o : Option A). unwrap_or o (setting instance sets default (with_look later))) is
 
   setting-same : {A : Type 0} (instance : Option (List ℕ)) (sets : List Request → File → List ℕ → Option A) (default : A)
+      → setting instance sets default more ≡ setting instance sets default less
       → ((later : List Request) (file : File) (text : List ℕ) → sets (with_look later) file text ≡ sets (without later) file text)
       → (later : List Request) → setting instance sets default (with_look later) ≡ setting instance sets default (without later)
-  setting-same {A} instance sets default each later =
-      setting-changed instance sets default (λ (x : A). x) refl refl (λ l file text. each l file text ∙ some-same (sets (without l) file text)) later
+  setting-same {A} instance sets default before each later =
+      setting-changed instance sets default (λ (x : A). x) refl before (λ l file text. each l file text ∙ some-same (sets (without l) file text)) later
 
   pub enabled-same : (instance : Option (List ℕ)) (event : List ℕ) (later : List Request)
       → is_enabled instance event (with_look later) ≡ is_enabled instance event (without later)
-  enabled-same instance event later = setting-same instance (switches event) false sets later
+  enabled-same instance event later = setting-same instance (switches event) false (one_more.enabled instance event) sets later
     where
       sets : (l : List Request) (file : File) (text : List ℕ) → switches event (with_look l) file text ≡ switches event (without l) file text
       sets l (OfEvent name per_event.Enable) text = refl
@@ -133,7 +169,7 @@ module _ (past : List Request) (reader : Option (List ℕ)) (seen : File) (limit
 
   pub filter-same : (instance : Option (List ℕ)) (event : List ℕ) (later : List Request)
       → filter_of instance event (with_look later) ≡ filter_of instance event (without later)
-  filter-same instance event later = setting-same instance (sets_filter event) None sets later
+  filter-same instance event later = setting-same instance (sets_filter event) None (one_more.filters instance event) sets later
     where
       sets : (l : List Request) (file : File) (text : List ℕ) → sets_filter event (with_look l) file text ≡ sets_filter event (without l) file text
       sets l (OfEvent name per_event.Filter) text = refl
@@ -141,7 +177,7 @@ module _ (past : List Request) (reader : Option (List ℕ)) (seen : File) (limit
       sets l file text = refl
 
   pub overwrites-same : (instance : Option (List ℕ)) (later : List Request) → overwrites instance (with_look later) ≡ overwrites instance (without later)
-  overwrites-same instance later = setting-same instance sets_overwrite true sets later
+  overwrites-same instance later = setting-same instance sets_overwrite true (one_more.overwriting instance) sets later
     where
       sets : (l : List Request) (file : File) (text : List ℕ) → sets_overwrite (with_look l) file text ≡ sets_overwrite (without l) file text
       sets l (OfInstance top.Overwrite) text = refl
@@ -149,14 +185,14 @@ module _ (past : List Request) (reader : Option (List ℕ)) (seen : File) (limit
       sets l file text = refl
 
   pub tracing-same : (instance : Option (List ℕ)) (later : List Request) → is_tracing instance (with_look later) ≡ is_tracing instance (without later)
-  tracing-same instance later = setting-same instance sets_tracing true sets later
+  tracing-same instance later = setting-same instance sets_tracing true (one_more.tracing instance) sets later
     where
       sets : (l : List Request) (file : File) (text : List ℕ) → sets_tracing (with_look l) file text ≡ sets_tracing (without l) file text
       sets l (OfInstance top.TracingOn) text = refl
       sets l file text = refl
 
   spare-same : (instance : Option (List ℕ)) (later : List Request) → has_spare instance (with_look later) ≡ has_spare instance (without later)
-  spare-same instance later = setting-same instance sets_spare false sets later
+  spare-same instance later = setting-same instance sets_spare false (one_more.spare instance) sets later
     where
       sets : (l : List Request) (file : File) (text : List ℕ) → sets_spare (with_look l) file text ≡ sets_spare (without l) file text
       sets l (OfInstance top.Snapshot) text = refl
@@ -177,11 +213,12 @@ module _ (past : List Request) (reader : Option (List ℕ)) (seen : File) (limit
   pub trigger-later : (instance : Option (List ℕ)) (event : Definition) (later : List Request)
       → trigger_of instance event (with_look later) ≡ option_map (later_trigger first) (trigger_of instance event (without later))
   trigger-later instance event later =
-      setting-changed instance (sets_trigger event) None (option_map (later_trigger first)) refl (before (trigger_of instance event past) refl) sets later
+      setting-changed instance (sets_trigger event) None (option_map (later_trigger first)) refl
+      (one_more.trigger instance event ∙ before (trigger_of instance event less) refl) sets later
     where
-      before : (t : Option Trigger) → trigger_of instance event past ≡ t → t ≡ option_map (later_trigger first) t
+      before : (t : Option Trigger) → trigger_of instance event less ≡ t → t ≡ option_map (later_trigger first) t
       before None is = refl
-      before (Some t) is = ap Some (sym (early-trigger first t (number-before instance event past t is)))
+      before (Some t) is = ap Some (sym (early-trigger first t (number-before instance event less t is)))
 
       own : (l : List Request) (text : List ℕ) (same : Bool)
           → (if same then written_trigger (length (with_look l)) (said_of event text) else None)
@@ -195,23 +232,14 @@ module _ (past : List Request) (reader : Option (List ℕ)) (seen : File) (limit
       sets l (OfEvent name per_event.Trigger) text = own l text (bytes_eq event.name name)
       sets l file text = refl
 
-  met-unmade : (event : Definition) (filter : Option Parsed) (number : ℕ) (done : List Request) → length done ≤ number → met event filter number done ≡ []
-  met-unmade event filter number [] le = refl
-  met-unmade event filter number (request ∷ done) le = elim (cases_Bool (nat_lt number (length done))) [
-    | inl less ↦ absurd (let l = ltb-true number (length done) less in omega (arith, l, le))
-    | inr not_less ↦ cond-false _ (met event filter number done ++ met_by event filter (emitted done request)) [] not_less
-  ]
-
   met-same : (event : Definition) (filter : Option Parsed) (number : ℕ) (later : List Request)
       → met event filter (up first number) (with_look later) ≡ met event filter number (without later)
   met-same event filter number [] = elim (up-cases first number) [
-    | inl early ↦
-        ap (λ (n : ℕ). met event filter n (with_look [])) early.1
-        ∙ cond-true _ (met event filter number past ++ []) [] (lt-ltb number first early.0) ∙ append-nil (met event filter number past)
+    | inl early ↦ ap (λ (n : ℕ). met event filter n more) early.1 ∙ one_more.meets event filter number
     | inr behind ↦
-        ap (λ (n : ℕ). met event filter n (with_look [])) behind.1
-        ∙ met-unmade event filter (suc number) (with_look []) (let le = behind.0 in omega (arith, le))
-        ∙ sym (met-unmade event filter number past behind.0)
+        ap (λ (n : ℕ). met event filter n more) behind.1
+        ∙ met-unmade event filter (suc number) more (let le = behind.0 in omega (arith, le, one_more.number))
+        ∙ sym (met-unmade event filter number less behind.0)
   ]
   met-same event filter number (request ∷ later) =
       ap (λ (b : Bool). if b then met event filter (up first number) (with_look later) ++ met_by event filter (emitted (with_look later) request) else [])
@@ -248,7 +276,7 @@ module _ (past : List Request) (reader : Option (List ℕ)) (seen : File) (limit
   exchanges-same instance later request = refl
 
   count-same : (instance : Option (List ℕ)) (later : List Request) → exchange_count instance (with_look later) ≡ exchange_count instance (without later)
-  count-same instance [] = omega arith
+  count-same instance [] = one_more.count instance
   count-same instance (request ∷ later) =
       ap (λ (b : Bool). if makes instance request then 0 else exchange_count instance (with_look later) + (if b then 1 else 0)) (exchanges-same instance later request)
       ∙ ap (λ (n : ℕ). if makes instance request then 0 else n + (if exchanges instance (without later) request then 1 else 0)) (count-same instance later)
@@ -275,26 +303,9 @@ module _ (past : List Request) (reader : Option (List ℕ)) (seen : File) (limit
   after-same g instance later (ReadFile other file limit) family = refl
   after-same g instance later request family = refl
 
-  -- the read itself
-  read-nothing : (g : Config) (family : List (List ring.Event)) → rings_after_read g limit (Some seen) family ≡ family
-  read-nothing g family = by seen quiet
-    where
-      by : (file : File) → is_pipe file ≡ false → rings_after_read g limit (Some file) family ≡ family
-      by (OfInstance top.TracePipe) is = absurd (false≢true (sym is))
-      by (OfCpu cpu per_cpu.TracePipe) is = absurd (false≢true (sym is))
-      by file is = refl
-
   pub side-same : (g : Config) (instance : Option (List ℕ)) (side : ℕ) (later : List Request)
       → rings_of_side g instance side (with_look later) ≡ rings_of_side g instance side (without later)
-  side-same g instance side [] = by (side == live_side instance past) (is_same instance reader)
-    where
-      family : List (List ring.Event)
-      family = rings_of_side g instance side past
-
-      by : (live same : Bool) → (if live then (if same then rings_after_read g limit (Some seen) family else family) else family) ≡ family
-      by true true = read-nothing g family
-      by true false = refl
-      by false same = refl
+  side-same g instance side [] = one_more.sides g instance side
   side-same g instance side (request ∷ later) =
       ap (λ (n : ℕ). if side == n then rings_after g instance (with_look later) request (rings_of_side g instance side (with_look later))
       else spare_after g instance request (rings_of_side g instance side (with_look later))) (live-same instance later)

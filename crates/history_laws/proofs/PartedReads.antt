@@ -74,7 +74,7 @@ cpu_pipe-joined rest g cpu first second family =
 
 -- ---- those of an instance
 
-read-joined : ReadingsAreAhead → TakesLeaveTheRest → (g : Config) (pipe : File) (first : ℕ) (second : Option ℕ) (family : List (List ring.Event))
+pub read-joined : ReadingsAreAhead → TakesLeaveTheRest → (g : Config) (pipe : File) (first : ℕ) (second : Option ℕ) (family : List (List ring.Event))
     → is_pipe pipe ≡ true
     → rings_after_read g second (Some pipe) (rings_after_read g (Some first) (Some pipe) family) ≡ rings_after_read g (in_all first second) (Some pipe) family
 read-joined ahead rest g (OfInstance top.TracePipe) first second family is = ap (λ (c : Consumed). c.family) (pipe-joined ahead g first second family)

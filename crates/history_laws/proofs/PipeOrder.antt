@@ -1,5 +1,5 @@
 -- In which order pipes and traces show what the rings of an instance keep.
-use Rattle.std.proofs.Common.{◌≡◌, ℕ, zero, suc, ◌+◌, ◌-◌, ◌<◌, ◌≤◌, ◌==◌, List, [], ◌∷◌, ◌++◌, filter, length, map, take, Option, refl, sym, ap, ◌∙◌, arith}
+use Rattle.std.proofs.Common.{◌≡◌, ℕ, zero, suc, ◌+◌, ◌-◌, ◌^◌, ◌<◌, ◌≤◌, ◌==◌, List, [], ◌∷◌, ◌++◌, filter, length, map, take, Option, refl, sym, ap, ◌∙◌, arith}
 use Rattle.std.specs.List.{AllByRecursion, flat_map}
 use Rattle.std.proofs.lemmas.List.{append-nil, take_all}
 use Rattle.trace_record.specs.Record.{timestamp}
@@ -13,12 +13,9 @@ use Rattle.trace_buffer.proofs.Merges.{AreAtLeast, Rises as NeverFalls, Rises-fr
 use Rattle.trace_buffer.proofs.PipeLaws.{reads_consume_what_they_take, reads_take_so_many}
 use Rattle.record_text.specs.BufferText.{taken_lines, pipe_text, trace_text, entries_of_all, overrun_of_all}
 use Rattle.record_text.specs.TraceText.{trace_head}
-use Rattle.trace_command.specs.Configs.{IsInRange}
 use Rattle.trace_command.specs.Requests.{Request}
 use Rattle.trace_command.specs.declared.command.Config.{Config}
-use Rattle.trace_command.specs.declared.command.Entry.{Entry}
 use Rattle.tracer_specification.specs.FileTexts.{shown_pipe, shown_trace}
-use Rattle.tracer_specification.specs.History.{requests_of, IsLegalNewestFirst}
 use Rattle.tracer_specification.specs.Rings.{rings, rings_of_side}
 use Rattle.tracer_specification.specs.Settings.{declared_events, now_of}
 use Rattle.tracer_specification.specs.Snapshots.{live_side}
@@ -40,26 +37,23 @@ rises-last low high (t ∷ ts) more h =
     rises-lower t low high more (omega (arith, above)) (rises-last t high ts more h.2)
 
 -- those that a ring of a side keeps
-kept-rise : AreConsumed → (g : Config) (entries : List Entry) (instance : Option (List ℕ)) (side cpu : ℕ) → IsInRange g → IsLegalNewestFirst g entries
-    → Rises 0 (now_of (requests_of entries)) (ring_times g cpu (rings_of_side g instance side (requests_of entries)))
-kept-rise consumed g entries instance side cpu in_range legal =
-    let past = requests_of entries in
+kept-rise : AreConsumed → (g : Config) (past : List Request) (instance : Option (List ℕ)) (side cpu : ℕ) → length past < 2 ^ 64
+    → Rises 0 (now_of past) (ring_times g cpu (rings_of_side g instance side past))
+kept-rise consumed g past instance side cpu few =
     rises-last 0 (now_of past) (map read_time (read_from_side g instance side cpu past)) (ring_times g cpu (rings_of_side g instance side past))
-    (side-rises consumed g entries instance side cpu in_range legal)
+    (side-rises consumed g past instance side cpu few)
 
-times-rise : AreConsumed → (g : Config) (entries : List Entry) (instance : Option (List ℕ)) (side cpu : ℕ) → IsInRange g → IsLegalNewestFirst g entries
-    → TimesRise (cpu_readings g.pages g.page_bytes (rings_of_side g instance side (requests_of entries)) cpu)
-times-rise consumed g entries instance side cpu in_range legal =
-    let past = requests_of entries in
+times-rise : AreConsumed → (g : Config) (past : List Request) (instance : Option (List ℕ)) (side cpu : ℕ) → length past < 2 ^ 64
+    → TimesRise (cpu_readings g.pages g.page_bytes (rings_of_side g instance side past) cpu)
+times-rise consumed g past instance side cpu few =
     pairs-rise (λ (r : Reading). timestamp r.rec) 0 (now_of past) (cpu_readings g.pages g.page_bytes (rings_of_side g instance side past) cpu)
-    (kept-rise consumed g entries instance side cpu in_range legal)
+    (kept-rise consumed g past instance side cpu few)
 
 pub kept_times_rise : AreConsumed → KeptTimesRise
-kept_times_rise consumed g entries instance cpu in_range legal =
-    let past = requests_of entries in (
-      times-rise consumed g entries instance (live_side instance past) cpu in_range legal,
-      times-rise consumed g entries instance (1 - live_side instance past) cpu in_range legal,
-    )
+kept_times_rise consumed g past instance cpu few = (
+  times-rise consumed g past instance (live_side instance past) cpu few,
+  times-rise consumed g past instance (1 - live_side instance past) cpu few,
+)
 
 -- ---- the order of reads
 
@@ -79,14 +73,13 @@ all-up : (pages page_bytes : ℕ) (family : List (List ring.Event)) → ((cpu : 
 all-up pages page_bytes [] h = tt
 all-up pages page_bytes (events ∷ family) h = (h zero, all-up pages page_bytes family (λ cpu. h (suc cpu)))
 
-rings-up : AreConsumed → (g : Config) (entries : List Entry) (instance : Option (List ℕ)) → IsInRange g → IsLegalNewestFirst g entries
-    → AllByRecursion IsUp (map (readings_of g.pages g.page_bytes) (rings g instance (requests_of entries)))
-rings-up consumed g entries instance in_range legal =
-    let past = requests_of entries in
+rings-up : AreConsumed → (g : Config) (past : List Request) (instance : Option (List ℕ)) → length past < 2 ^ 64
+    → AllByRecursion IsUp (map (readings_of g.pages g.page_bytes) (rings g instance past))
+rings-up consumed g past instance few =
     let family = rings g instance past in
     all-up g.pages g.page_bytes family
     (λ cpu. up-rising 0 (now_of past) (cpu_readings g.pages g.page_bytes family cpu)
-    (kept-rise consumed g entries instance (live_side instance past) cpu in_range legal))
+    (kept-rise consumed g past instance (live_side instance past) cpu few))
 
 consumed-merged : ReadingsAreAhead → (pages page_bytes reads : ℕ) (family : List (List ring.Event))
     → AllByRecursion IsUp (map (readings_of pages page_bytes) family)
@@ -126,8 +119,8 @@ reads-the-trace ahead g past instance up =
     }
 
 pub pipes_read_the_trace : AreConsumed → ReadingsAreAhead → PipesReadTheTrace
-pipes_read_the_trace consumed ahead g entries instance in_range legal =
-    reads-the-trace ahead g (requests_of entries) instance (rings-up consumed g entries instance in_range legal)
+pipes_read_the_trace consumed ahead g past instance few =
+    reads-the-trace ahead g past instance (rings-up consumed g past instance few)
 
 -- ---- what the files show
 
@@ -143,8 +136,8 @@ shows-one-order g past instance reads =
     }
 
 pub trace_and_pipe_show_one_order : AreConsumed → ReadingsAreAhead → TraceAndPipeShowOneOrder
-trace_and_pipe_show_one_order consumed ahead g entries instance in_range legal =
-    shows-one-order g (requests_of entries) instance (pipes_read_the_trace consumed ahead g entries instance in_range legal)
+trace_and_pipe_show_one_order consumed ahead g past instance few =
+    shows-one-order g past instance (pipes_read_the_trace consumed ahead g past instance few)
 
 own-order : ReadingsAreAhead → (g : Config) (past : List Request) (instance : Option (List ℕ)) (cpu : ℕ) → ReadsTheTrace g past instance
     → filter (λ (r : CpuReading). r.cpu == cpu) (trace_records g instance past) ≡ map (on_cpu cpu) (cpu_readings g.pages g.page_bytes (rings g instance past) cpu)
@@ -159,5 +152,5 @@ own-order ahead g past instance cpu reads =
     ∙ sym (reads_consume_what_they_take ahead g.pages g.page_bytes count cpu family)
 
 pub each_cpu_keeps_its_order : AreConsumed → ReadingsAreAhead → EachCpuKeepsItsOrder
-each_cpu_keeps_its_order consumed ahead g entries instance cpu in_range legal =
-    own-order ahead g (requests_of entries) instance cpu (pipes_read_the_trace consumed ahead g entries instance in_range legal)
+each_cpu_keeps_its_order consumed ahead g past instance cpu few =
+    own-order ahead g past instance cpu (pipes_read_the_trace consumed ahead g past instance few)

@@ -10,16 +10,13 @@ use Rattle.page_ring.specs.Events as ring
 use Rattle.trace_buffer.specs.Families.{CpuReading, on_cpu, events_of}
 use Rattle.trace_buffer.proofs.Consumed.{readings_of-nil}
 use Rattle.trace_format.specs.Cells.{payload_of}
-use Rattle.trace_command.specs.Configs.{IsInRange}
-use Rattle.trace_command.specs.Requests.{Request, Emission, MakeInstance, RemoveInstance, WriteFile, ReadFile, request_of}
+use Rattle.trace_command.specs.Requests.{Request, Emission, MakeInstance, RemoveInstance, WriteFile, ReadFile}
 use Rattle.trace_command.specs.declared.command.Config.{Config}
-use Rattle.trace_command.specs.declared.command.Entry.{Entry}
 use Rattle.tracer_specification.specs.Emissions.{Emitted, emitted, emitted_bytes, record_bytes}
-use Rattle.tracer_specification.specs.History.{requests_of, IsLegalNewestFirst}
 use Rattle.tracer_specification.specs.Rings.{new_rings}
 use Rattle.tracer_specification.specs.Settings.{makes, now_of, ticks}
 use Rattle.tracer_specification.proofs.Families.{at-replicate}
-use Rattle.tracer_specification.proofs.ShownRecords.{emission-is, legal-short}
+use Rattle.tracer_specification.proofs.ShownRecords.{emission-is}
 use Rattle.history_laws.specs.ReadOnce.{taken_by}
 use Rattle.history_laws.proofs.RisingTimes.{kept_times}
 
@@ -42,17 +39,15 @@ pub record IsTimed (past : List Request) (request : Request) (bytes : List ℕ) 
   pub time : timestamp bytes ≡ now_of past + 1
   pub clock : now_of (request ∷ past) ≡ now_of past + 1
 
-pub emitted-timed : (g : Config) (entry : Entry) (before : List Entry) (e : Emitted) → IsInRange g → IsLegalNewestFirst g (entry ∷ before)
-    → emitted (requests_of before) (request_of entry.command) ≡ Some e
-    → IsTimed (requests_of before) (request_of entry.command) (emitted_bytes e)
+pub emitted-timed : (past : List Request) (request : Request) (e : Emitted) → length (request ∷ past) < 2 ^ 64 → emitted past request ≡ Some e
+    → IsTimed past request (emitted_bytes e)
 unfolding record_bytes
-emitted-timed g entry before e in_range legal emission =
-    let past = requests_of before in
-    let is = emission-is past (request_of entry.command) e emission in
+emitted-timed past request e few emission =
+    let is = emission-is past request e emission in
     let payload = payload_of e.row in
     let head : Head = record { ts = e.timestamp; pid = e.pid; event = e.k.id; payload = length payload } in
     let zeros : List ℕ = replicate (padding (length payload)) 0 in
-    let fits : e.timestamp < 2 ^ 64 = omega (arith, is.time, now-few past, legal-short g before legal.3, in_range.few_entries) in
+    let fits : e.timestamp < 2 ^ 64 = omega (arith, is.time, now-few past, few) in
     record {
       time = ap timestamp (append_assoc (head_bytes head) payload zeros) ∙ timestamp-head_bytes head (payload ++ zeros) fits ∙ is.time;
       clock = ap (λ (n : ℕ). now_of past + n) (ap ticks is.emission);

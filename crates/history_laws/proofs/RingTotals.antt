@@ -17,7 +17,7 @@ use Rattle.tracer_specification.proofs.Families.{at-replicate}
 use Rattle.tracer_specification.proofs.Sides.{side-made}
 use Rattle.history_laws.specs.AccountedFor.{emissions_of, empties_live, empties_spare, shown_of}
 use Rattle.history_laws.specs.ReadOnce.{taken_by}
-use Rattle.history_laws.specs.RingTotals.{since_new, lost_of, RingsCountEmissions, ReadIsWhatPipesShowed, LossesAreTold, LostAddsUp}
+use Rattle.history_laws.specs.RingTotals.{since_new, lost_of, RingsCountEmissions, ReadIsWhatPipesShowed, RingsAreAccountedFor, LossesAreTold, LostAddsUp}
 use Rattle.history_laws.proofs.RingCounts.{counted-puts, puts-append}
 use Rattle.history_laws.proofs.RingLosses.{lost_in, lost_in-new, lost_in-put}
 use Rattle.history_laws.proofs.RingReads.{read-put}
@@ -140,6 +140,12 @@ read_is_what_pipes_showed consumed g past instance side cpu =
           ∙ read-put g.pages g.page_bytes old (emitted_bytes put.e) put.overwrite in
           omega (arith, none, same, h);
     })
+
+pub rings_are_accounted_for : RingsCountEmissions → ReadIsWhatPipesShowed → RingsAreAccountedFor
+rings_are_accounted_for counts read g past instance side cpu inside =
+    let all = counts g past instance side cpu inside in
+    let shown = read g past instance side cpu in
+    omega (arith, all, shown)
 
 -- ---- losses
 

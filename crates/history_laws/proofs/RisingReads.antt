@@ -1,15 +1,12 @@
 -- The timestamps that pipes show of one side rise.
-use Rattle.std.proofs.Common.{◌≡◌, inl, inr, ℕ, ◌≤◌, ◌==◌, Bool, true, false, if◌then◌else◌, List, [], ◌∷◌, ◌++◌, map, Option, refl, sym, ap, ◌∙◌, subst, arith, eqb-true}
+use Rattle.std.proofs.Common.{◌≡◌, inl, inr, ℕ, ◌^◌, ◌<◌, ◌≤◌, ◌==◌, Bool, true, false, if◌then◌else◌, List, [], ◌∷◌, ◌++◌, length, map, Option, refl, sym, ap, ◌∙◌, subst, arith, eqb-true}
 use Rattle.std.proofs.lemmas.List.{append_assoc, map-append}
 use Rattle.trace_record.specs.Record.{timestamp}
 use Rattle.page_ring.specs.Events as ring
 use Rattle.trace_buffer.specs.Families.{CpuReading, events_of}
-use Rattle.trace_command.specs.Configs.{IsInRange}
-use Rattle.trace_command.specs.Requests.{Request, request_of}
+use Rattle.trace_command.specs.Requests.{Request}
 use Rattle.trace_command.specs.declared.command.Config.{Config}
-use Rattle.trace_command.specs.declared.command.Entry.{Entry}
 use Rattle.tracer_specification.specs.Emissions.{emitted_bytes}
-use Rattle.tracer_specification.specs.History.{requests_of, IsLegalNewestFirst}
 use Rattle.tracer_specification.specs.Rings.{rings_after, spare_after, rings_of_side, rings}
 use Rattle.tracer_specification.specs.Settings.{makes, now_of}
 use Rattle.tracer_specification.specs.Snapshots.{live_side}
@@ -53,18 +50,15 @@ rises-same g past request more old new same = record {
       (rises-higher from (now_of past) (now_of (request ∷ past)) (kept_times g.pages g.page_bytes old) (clock-rises past request) h);
 }
 
-rises-live : (g : Config) (entry : Entry) (before : List Entry) (instance : Option (List ℕ)) (cpu : ℕ) (old new : List ring.Event) → IsInRange g
-    → IsLegalNewestFirst g (entry ∷ before) → IsStep g instance cpu (requests_of before) (request_of entry.command) old new
-    → IsRising g (requests_of before) (request_of entry.command) (taken_by g instance cpu (requests_of before) (request_of entry.command)) old new
-rises-live g entry before instance cpu old new in_range legal (inl read) =
-    rises-same g (requests_of before) (request_of entry.command) (taken_by g instance cpu (requests_of before) (request_of entry.command)) old new
-    (taken-times g instance cpu (requests_of before) (request_of entry.command) old new read.taken)
-rises-live g entry before instance cpu old new in_range legal (inr (inl put)) = record {
+rises-live : (g : Config) (past : List Request) (request : Request) (instance : Option (List ℕ)) (cpu : ℕ) (old new : List ring.Event)
+    → length (request ∷ past) < 2 ^ 64 → IsStep g instance cpu past request old new
+    → IsRising g past request (taken_by g instance cpu past request) old new
+rises-live g past request instance cpu old new short (inl read) =
+    rises-same g past request (taken_by g instance cpu past request) old new (taken-times g instance cpu past request old new read.taken)
+rises-live g past request instance cpu old new short (inr (inl put)) = record {
   tail = λ from few h.
-      let past = requests_of before in
-      let request = request_of entry.command in
       let bytes = emitted_bytes put.e in
-      let timed = emitted-timed g entry before put.e in_range legal put.emission in
+      let timed = emitted-timed past request put.e short put.emission in
       let then_is : timestamp bytes ≡ now_of (request ∷ past) = timed.time ∙ sym timed.clock in
       let put_is : Rises from (timestamp bytes) (kept_times g.pages g.page_bytes (old ++ ring.Put bytes put.overwrite ∷ [])) =
       rises-put g.pages g.page_bytes old bytes put.overwrite from (now_of past) few (omega (arith, timed.time)) h in
@@ -73,30 +67,21 @@ rises-live g entry before instance cpu old new in_range legal (inr (inl put)) = 
       (subst (λ (n : ℕ). Rises from n (kept_times g.pages g.page_bytes (old ++ ring.Put bytes put.overwrite ∷ []))) then_is put_is) in
       subst (λ (rs : List CpuReading). Rises from (now_of (request ∷ past)) (map read_time rs ++ kept_times g.pages g.page_bytes new)) (sym put.none) new_is;
 }
-rises-live g entry before instance cpu old new in_range legal (inr (inr emptied)) =
-    rises-emptied g (requests_of before) (request_of entry.command) (taken_by g instance cpu (requests_of before) (request_of entry.command)) old new
-    emptied.none emptied.is
+rises-live g past request instance cpu old new short (inr (inr emptied)) =
+    rises-emptied g past request (taken_by g instance cpu past request) old new emptied.none emptied.is
 
 rises-spare : (g : Config) (instance : Option (List ℕ)) (past : List Request) (request : Request) (old new : List ring.Event)
     → IsSpareStep instance request old new → IsRising g past request [] old new
 rises-spare g instance past request old new (inl same) = rises-same g past request [] old new (ap (kept_times g.pages g.page_bytes) (sym same.1))
 rises-spare g instance past request old new (inr emptied) = rises-emptied g past request [] old new refl emptied.1
 
-side-after : AreConsumed → (g : Config) (entry : Entry) (before : List Entry) (instance : Option (List ℕ)) (side cpu : ℕ) → IsInRange g
-    → IsLegalNewestFirst g (entry ∷ before)
-    → let past = requests_of before in
-    Rises 0 (now_of past) (map read_time (read_from_side g instance side cpu past) ++ ring_times g cpu (rings_of_side g instance side past))
-    → let then_past = requests_of (entry ∷ before) in
-    Rises 0 (now_of then_past) (map read_time (read_from_side g instance side cpu then_past) ++ ring_times g cpu (rings_of_side g instance side then_past))
-side-after consumed g entry before instance side cpu in_range legal was =
-    by_life (makes instance request) refl
+side-after : AreConsumed → (g : Config) (past : List Request) (request : Request) (instance : Option (List ℕ)) (side cpu : ℕ)
+    → length (request ∷ past) < 2 ^ 64
+    → Rises 0 (now_of past) (map read_time (read_from_side g instance side cpu past) ++ ring_times g cpu (rings_of_side g instance side past))
+    → Rises 0 (now_of (request ∷ past)) (map read_time (read_from_side g instance side cpu (request ∷ past))
+    ++ ring_times g cpu (rings_of_side g instance side (request ∷ past)))
+side-after consumed g past request instance side cpu few was = by_life (makes instance request) refl
   where
-    past : List Request
-    past = requests_of before
-
-    request : Request
-    request = request_of entry.command
-
     shown : List CpuReading
     shown = taken_by g instance cpu past request
 
@@ -133,7 +118,7 @@ side-after consumed g entry before instance side cpu in_range legal was =
         let done : IsStep g instance cpu past request old new =
         subst (λ (f : List (List ring.Event)). IsStep g instance cpu past request (events_of f cpu) (events_of (rings_after g instance past request f) cpu)) same
         (live-step consumed g instance cpu past request alive) in
-        step shown new (rises-live g entry before instance cpu old new in_range legal done)
+        step shown new (rises-live g past request instance cpu old new few done)
     by_side alive false is =
         let new = events_of (spare_after g instance request (rings_of_side g instance side past)) cpu in
         step [] new (rises-spare g instance past request old new (spare-step g instance cpu request (rings_of_side g instance side past) alive))
@@ -144,21 +129,19 @@ side-after consumed g entry before instance side cpu in_range legal was =
     by_life true new = by_made new (side == live_side instance past)
     by_life false alive = by_side alive (side == live_side instance past) refl
 
-pub side-rises : AreConsumed → (g : Config) (entries : List Entry) (instance : Option (List ℕ)) (side cpu : ℕ) → IsInRange g → IsLegalNewestFirst g entries
-    → let past = requests_of entries in
-    Rises 0 (now_of past) (map read_time (read_from_side g instance side cpu past) ++ ring_times g cpu (rings_of_side g instance side past))
-side-rises consumed g [] instance side cpu in_range legal = subst (Rises 0 0) (sym (new-times g cpu)) tt
-side-rises consumed g (entry ∷ before) instance side cpu in_range legal =
-    side-after consumed g entry before instance side cpu in_range legal (side-rises consumed g before instance side cpu in_range legal.3)
+pub side-rises : AreConsumed → (g : Config) (past : List Request) (instance : Option (List ℕ)) (side cpu : ℕ) → length past < 2 ^ 64
+    → Rises 0 (now_of past) (map read_time (read_from_side g instance side cpu past) ++ ring_times g cpu (rings_of_side g instance side past))
+side-rises consumed g [] instance side cpu few = subst (Rises 0 0) (sym (new-times g cpu)) tt
+side-rises consumed g (request ∷ past) instance side cpu few =
+    side-after consumed g past request instance side cpu few (side-rises consumed g past instance side cpu (omega (arith, few)))
 
 rises-first : (low high : ℕ) (ts more : List ℕ) → Rises low high (ts ++ more) → Rises low high ts
 rises-first low high [] more h = tt
 rises-first low high (t ∷ ts) more h = (h.0, h.1, rises-first t high ts more h.2)
 
 pub read_times_rise : AreConsumed → ReadTimesRise
-read_times_rise consumed g entries instance side cpu in_range legal =
-    let past = requests_of entries in
+read_times_rise consumed g past instance side cpu few =
     let read = read_from_side g instance side cpu past in
     pairs-rise read_time 0 (now_of past) read
     (rises-first 0 (now_of past) (map read_time read) (ring_times g cpu (rings_of_side g instance side past))
-    (side-rises consumed g entries instance side cpu in_range legal))
+    (side-rises consumed g past instance side cpu few))

@@ -1,17 +1,14 @@
 -- Over both sides, pipes show each timestamp once at most.
-use Rattle.std.proofs.Common.{◌≡◌, ◌⊎◌, inl, inr, ℕ, ◌+◌, ◌<◌, ◌≤◌, ◌==◌, Bool, true, false, cond, List, [], ◌∷◌, map, Option, refl, ap, ◌∙◌, arith, eqb-true}
+use Rattle.std.proofs.Common.{◌≡◌, ◌⊎◌, inl, inr, ℕ, ◌+◌, ◌^◌, ◌<◌, ◌≤◌, ◌==◌, Bool, true, false, cond, List, [], ◌∷◌, length, map, Option, refl, ap, ◌∙◌, arith, eqb-true}
 use Rattle.std.specs.List.{count_by}
 use Rattle.std.proofs.lemmas.List.{map-append}
 use Rattle.std.proofs.lemmas.List.Sums.{sum_by-cons}
 use Rattle.trace_record.specs.Record.{timestamp}
 use Rattle.page_ring.specs.Events as ring
 use Rattle.trace_buffer.specs.Families.{CpuReading, events_of}
-use Rattle.trace_command.specs.Configs.{IsInRange}
-use Rattle.trace_command.specs.Requests.{Request, request_of}
+use Rattle.trace_command.specs.Requests.{Request}
 use Rattle.trace_command.specs.declared.command.Config.{Config}
-use Rattle.trace_command.specs.declared.command.Entry.{Entry}
 use Rattle.tracer_specification.specs.Emissions.{emitted_bytes}
-use Rattle.tracer_specification.specs.History.{requests_of, IsLegalNewestFirst}
 use Rattle.tracer_specification.specs.Rings.{new_rings, rings_after, spare_after, rings, other_rings}
 use Rattle.tracer_specification.specs.Settings.{makes, now_of}
 use Rattle.tracer_specification.specs.Snapshots.{exchanges}
@@ -45,33 +42,24 @@ record IsAdded (past : List Request) (request : Request) (time was is : ℕ) : T
 abbrev Adds : List Request → Request → ℕ → ℕ → ℕ → Type 0
 Adds past request time was is = (is ≤ was) ⊎ IsAdded past request time was is
 
-times-live : (g : Config) (entry : Entry) (before : List Entry) (instance : Option (List ℕ)) (cpu time : ℕ) (old new : List ring.Event) → IsInRange g
-    → IsLegalNewestFirst g (entry ∷ before)
-    → let past = requests_of before in
-    let request = request_of entry.command in
-    IsStep g instance cpu past request old new
+times-live : (g : Config) (past : List Request) (request : Request) (instance : Option (List ℕ)) (cpu time : ℕ) (old new : List ring.Event)
+    → length (request ∷ past) < 2 ^ 64 → IsStep g instance cpu past request old new
     → Adds past request time (times_of time (kept_times g.pages g.page_bytes old))
     (times_of time (map read_time (taken_by g instance cpu past request)) + times_of time (kept_times g.pages g.page_bytes new))
-times-live g entry before instance cpu time old new in_range legal (inl read) =
-    let past = requests_of before in
-    let request = request_of entry.command in
+times-live g past request instance cpu time old new few (inl read) =
     let shown = taken_by g instance cpu past request in
     let all = ap (times_of time) (taken-times g instance cpu past request old new read.taken) in
     let parts = times_of-append time (map read_time shown) (kept_times g.pages g.page_bytes new) in
     inl (omega (arith, all, parts))
-times-live g entry before instance cpu time old new in_range legal (inr (inl put)) =
-    let past = requests_of before in
-    let request = request_of entry.command in
+times-live g past request instance cpu time old new few (inr (inl put)) =
     let bytes = emitted_bytes put.e in
-    let timed = emitted-timed g entry before put.e in_range legal put.emission in
+    let timed = emitted-timed past request put.e few put.emission in
     let none : times_of time (map read_time (taken_by g instance cpu past request)) ≡ 0 = ap (λ (rs : List CpuReading). times_of time (map read_time rs)) put.none in
     let more = times_of-put g.pages g.page_bytes old bytes put.overwrite time in
     let is = ap (λ (es : List ring.Event). times_of time (kept_times g.pages g.page_bytes es)) put.is in
     let same = ap (λ (n : ℕ). once_if (n == time)) timed.time in
     inr (record { one = omega (arith, none, more, is, same); clock = timed.clock })
-times-live g entry before instance cpu time old new in_range legal (inr (inr emptied)) =
-    let past = requests_of before in
-    let request = request_of entry.command in
+times-live g past request instance cpu time old new few (inr (inr emptied)) =
     let none : times_of time (map read_time (taken_by g instance cpu past request)) ≡ 0 =
     ap (λ (rs : List CpuReading). times_of time (map read_time rs)) emptied.none in
     let nothing : times_of time (kept_times g.pages g.page_bytes new) ≡ 0 =
@@ -123,18 +111,11 @@ once-after g instance cpu time past request h (inr more) = by (now_of past + 1 =
           later = λ then_later. let none = h.later (omega (arith, more.clock, then_later)) in omega (arith, more.one, no_one, none);
         }
 
-once-step : AreConsumed → (g : Config) (entry : Entry) (before : List Entry) (instance : Option (List ℕ)) (cpu time : ℕ) → IsInRange g
-    → IsLegalNewestFirst g (entry ∷ before)
-    → Adds (requests_of before) (request_of entry.command) time (times_there g instance cpu time (requests_of before))
-    (times_there g instance cpu time (request_of entry.command ∷ requests_of before))
-once-step consumed g entry before instance cpu time in_range legal = by_life (makes instance request) refl
+once-step : AreConsumed → (g : Config) (past : List Request) (request : Request) (instance : Option (List ℕ)) (cpu time : ℕ)
+    → length (request ∷ past) < 2 ^ 64
+    → Adds past request time (times_there g instance cpu time past) (times_there g instance cpu time (request ∷ past))
+once-step consumed g past request instance cpu time few = by_life (makes instance request) refl
   where
-    past : List Request
-    past = requests_of before
-
-    request : Request
-    request = request_of entry.command
-
     after_live : List (List ring.Event)
     after_live = rings_after g instance past request (rings g instance past)
 
@@ -176,19 +157,19 @@ once-step consumed g entry before instance cpu time in_range legal = by_life (ma
         inl (omega (arith, live, spare, none, read-more g instance cpu time past request))
     by_life false alive =
         let old = events_of (rings g instance past) cpu in
-        by_parts (times-live g entry before instance cpu time old (events_of after_live cpu) in_range legal (live-step consumed g instance cpu past request alive))
+        by_parts (times-live g past request instance cpu time old (events_of after_live cpu) few (live-step consumed g instance cpu past request alive))
         (times-spare g instance request time (events_of (other_rings g instance past) cpu) (events_of after_spare cpu)
         (spare-step g instance cpu request (other_rings g instance past) alive))
         (by_exchange alive (exchanges instance past request) refl)
 
-is-once : AreConsumed → (g : Config) (entries : List Entry) (instance : Option (List ℕ)) (cpu time : ℕ) → IsInRange g → IsLegalNewestFirst g entries
-    → IsOnce g instance cpu time (requests_of entries)
-is-once consumed g [] instance cpu time in_range legal =
+is-once : AreConsumed → (g : Config) (past : List Request) (instance : Option (List ℕ)) (cpu time : ℕ) → length past < 2 ^ 64
+    → IsOnce g instance cpu time past
+is-once consumed g [] instance cpu time few =
     let none : times_in g cpu time (new_rings g) ≡ 0 = ap (times_of time) (new-times g cpu) in
     record { once = omega (arith, none); later = λ later. omega (arith, none) }
-is-once consumed g (entry ∷ before) instance cpu time in_range legal =
-    once-after g instance cpu time (requests_of before) (request_of entry.command) (is-once consumed g before instance cpu time in_range legal.3)
-    (once-step consumed g entry before instance cpu time in_range legal)
+is-once consumed g (request ∷ past) instance cpu time few =
+    once-after g instance cpu time past request (is-once consumed g past instance cpu time (omega (arith, few)))
+    (once-step consumed g past request instance cpu time few)
 
 count-times : (time : ℕ) (read : List CpuReading) → count_by (λ r. timestamp r.rec == time) read ≡ times_of time (map read_time read)
 count-times time [] = refl
@@ -198,6 +179,6 @@ count-times time (r ∷ read) =
     omega (arith, all, mapped, count-times time read)
 
 pub nothing_is_read_twice : AreConsumed → NothingIsReadTwice
-nothing_is_read_twice consumed g entries instance cpu time in_range legal =
-    let h = is-once consumed g entries instance cpu time in_range legal in
-    omega (arith, h.once, count-times time (read_records g instance cpu (requests_of entries)))
+nothing_is_read_twice consumed g past instance cpu time few =
+    let h = is-once consumed g past instance cpu time few in
+    omega (arith, h.once, count-times time (read_records g instance cpu past))

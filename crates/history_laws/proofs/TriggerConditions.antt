@@ -18,7 +18,6 @@ use Rattle.trace_command.specs.Paths.{OfEvent}
 use Rattle.trace_command.specs.Requests.{Request, WriteFile}
 use Rattle.trace_command.specs.declared.file_name.EventFile.TheVariants as per_event
 use Rattle.tracer_specification.specs.HistTriggers.{HistTrigger, Written, hist_triggers, written_to}
-use Rattle.tracer_specification.specs.History.{requests_of}
 use Rattle.tracer_specification.specs.Laws.{HistTriggersAreThoseAttached, IsAttached}
 use Rattle.tracer_specification.specs.Settings.{NumberedEvent, declared_events, declares, event_named, is_same, makes, set_by}
 use Rattle.tracer_specification.specs.Triggers.{Trigger, passes, sets_trigger, trigger_of, written_trigger}
@@ -150,15 +149,15 @@ was-attached instance event t (request ∷ past) is =
     by false (Some set) was older h = attached-by instance event t past request (was ∙ ap Some h)
 
 pub snapshot_triggers_meet_as_their_trees : HoldsAsItsTree → AttachIsWritten → SnapshotTriggersMeetAsTheirTrees
-snapshot_triggers_meet_as_their_trees tree attach g entries instance name k t legal there is =
-    let was = was-attached instance k.event t (requests_of entries) is in
+snapshot_triggers_meet_as_their_trees tree attach g past instance name k t done there is =
+    let was = was-attached instance k.event t past is in
     let writes = (attach k.event was.text t.spec).0 was.said in
     record {
       text = was.text;
       condition = writes.condition;
       by = was.by;
       written = writes.written;
-      meets = meets-as-read tree k.event writes.condition t.spec.filter (named-is_definition g entries name k legal there) writes.filtered;
+      meets = meets-as-read tree k.event writes.condition t.spec.filter (named-is_definition g past name k done there) writes.filtered;
     }
 
 -- ---- hist triggers
@@ -210,8 +209,7 @@ hist-meets tree read ok instance t past defined was =
     }
 
 pub hist_triggers_meet_as_their_trees : HoldsAsItsTree → HistIsRead → OkIsWritten → HistTriggersAreThoseAttached → HistTriggersMeetAsTheirTrees
-hist_triggers_meet_as_their_trees tree read ok attached g entries instance t legal there =
-    let past = requests_of entries in
+hist_triggers_meet_as_their_trees tree read ok attached g past instance t done there =
     let named = each-in (IsNamed past) t (hist_triggers instance past) (all-named instance past) (contains-in t (hist_triggers instance past) there) in
-    let defined : IsDefinition t.event = subst IsDefinition named.event (named-is_definition g entries t.event.name named.k legal named.there) in
+    let defined : IsDefinition t.event = subst IsDefinition named.event (named-is_definition g past t.event.name named.k done named.there) in
     hist-meets tree read ok instance t past defined ((attached instance t past).0 there)

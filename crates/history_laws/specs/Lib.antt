@@ -6,5 +6,7 @@ pub mod CpuSums
 pub mod OneOrder
 pub mod TriggerTrees
 pub mod Looks
+pub mod SmallPasts
+pub mod LegalPasts
 pub mod GroupedRows
 pub mod HistogramRows

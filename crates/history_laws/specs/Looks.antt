@@ -6,6 +6,7 @@ use Rattle.trace_command.specs.Requests.{Request, ReadFile, request_of}
 use Rattle.trace_command.specs.declared.command.Config.{Config}
 use Rattle.trace_command.specs.declared.command.Entry.{Entry}
 use Rattle.tracer_specification.specs.History.{answer, answer_with_room, IsLegalNewestFirst}
+use Rattle.tracer_specification.specs.Pasts.{AreDone}
 use Rattle.tracer_specification.specs.Waiting.{waiting}
 use Rattle.history_laws.specs.ReadsInParts.{is_pipe}
 
@@ -29,7 +30,13 @@ LookingLeavesWaiting =
     → is_pipe file ≡ false
     → waiting g (later ++ ReadFile instance (Some file) limit ∷ past) at pipe ≡ waiting g (later ++ past) at pipe
 
--- so an entry that only looked can be left out of a legal history
+-- so requests that were done were done without it
+abbrev pub LooksCanBeDoneWithout : Type 0
+LooksCanBeDoneWithout =
+    (g : Config) (past later : List Request) (instance : Option (List ℕ)) (file : File) (limit : Option ℕ) → is_pipe file ≡ false
+    → AreDone g (later ++ ReadFile instance (Some file) limit ∷ past) → AreDone g (later ++ past)
+
+-- and an entry that only looked can be left out of a legal history
 abbrev pub LooksCanBeLeftOut : Type 0
 LooksCanBeLeftOut =
     (g : Config) (before later : List Entry) (look : Entry) (instance : Option (List ℕ)) (file : File) (limit : Option ℕ)

@@ -1,5 +1,5 @@
--- `trace` and `trace_pipe` show one order (ftrace.rst, "The File System"). The newest entry comes first.
-use Rattle.std.specs.Prelude.{◌≡◌, ◌<◌, ℕ, List, ◌++◌, map, take, Option, Some, None}
+-- `trace` and `trace_pipe` show one order (ftrace.rst, "The File System"). The newest request comes first.
+use Rattle.std.specs.Prelude.{◌≡◌, ◌<◌, ℕ, ◌^◌, List, ◌++◌, length, map, take, Option, Some, None}
 use Rattle.std.specs.List.{AllPairs, flat_map}
 use Rattle.std.specs.List.Sorted.{IsNonDecreasingBy}
 use Rattle.trace_record.specs.Record.{timestamp}
@@ -8,12 +8,9 @@ use Rattle.page_ring.specs.Events.{Event}
 use Rattle.trace_buffer.specs.Families.{CpuReading, on_cpu, cpu_readings}
 use Rattle.trace_buffer.specs.Orders.{consume_any, merged}
 use Rattle.record_text.specs.BufferText.{reading_line, taken_lines}
-use Rattle.trace_command.specs.Configs.{IsInRange}
 use Rattle.trace_command.specs.Requests.{Request}
 use Rattle.trace_command.specs.declared.command.Config.{Config}
-use Rattle.trace_command.specs.declared.command.Entry.{Entry}
 use Rattle.tracer_specification.specs.FileTexts.{shown_pipe, shown_trace}
-use Rattle.tracer_specification.specs.History.{requests_of, IsLegalNewestFirst}
 use Rattle.tracer_specification.specs.Laws.{kept_readings, spare_readings, those_of}
 use Rattle.tracer_specification.specs.Rings.{pipe_read, rings}
 use Rattle.tracer_specification.specs.Settings.{declared_events}
@@ -22,11 +19,11 @@ use Rattle.tracer_specification.specs.Settings.{declared_events}
 abbrev pub TimesRise : List Reading → Type 0
 TimesRise records = AllPairs (λ earlier later. timestamp earlier.rec < timestamp later.rec) records
 
--- in a legal history those that a ring keeps do, on either side
+-- those that a ring keeps do, on either side, whatever was done, while there are fewer than 2^64 requests
 abbrev pub KeptTimesRise : Type 0
 KeptTimesRise =
-    (g : Config) (entries : List Entry) (instance : Option (List ℕ)) (cpu : ℕ) → IsInRange g → IsLegalNewestFirst g entries
-    → TimesRise (kept_readings g instance cpu (requests_of entries)) × TimesRise (spare_readings g instance cpu (requests_of entries))
+    (g : Config) (past : List Request) (instance : Option (List ℕ)) (cpu : ℕ) → length past < 2 ^ 64
+    → TimesRise (kept_readings g instance cpu past) × TimesRise (spare_readings g instance cpu past)
 
 -- the records that `trace` shows
 abbrev pub trace_records : Config → Option (List ℕ) → List Request → List CpuReading
@@ -39,8 +36,7 @@ pub record ReadsTheTrace (g : Config) (past : List Request) (instance : Option (
 
 abbrev pub PipesReadTheTrace : Type 0
 PipesReadTheTrace =
-    (g : Config) (entries : List Entry) (instance : Option (List ℕ)) → IsInRange g → IsLegalNewestFirst g entries
-    → ReadsTheTrace g (requests_of entries) instance
+    (g : Config) (past : List Request) (instance : Option (List ℕ)) → length past < 2 ^ 64 → ReadsTheTrace g past instance
 
 -- so it is for whatever rings of which the timestamps don't fall
 abbrev pub OrdersAreOne : Type 0
@@ -49,7 +45,7 @@ OrdersAreOne =
     → ((cpu : ℕ) → IsNonDecreasingBy (λ (r : Reading). timestamp r.rec) (cpu_readings pages page_bytes family cpu))
     → (consume_any pages page_bytes reads family).taken ≡ take reads (merged pages page_bytes family)
 
--- so in a legal history the texts have lines of the same records: those of `trace` follow its head, and those of `trace_pipe` have the lines of lost
+-- so the texts have lines of the same records: those of `trace` follow its head, and those of `trace_pipe` have the lines of lost
 -- records among them
 pub record ShowsOneOrder (g : Config) (past : List Request) (instance : Option (List ℕ)) : Type 0 where
   pub head : List ℕ
@@ -58,11 +54,10 @@ pub record ShowsOneOrder (g : Config) (past : List Request) (instance : Option (
 
 abbrev pub TraceAndPipeShowOneOrder : Type 0
 TraceAndPipeShowOneOrder =
-    (g : Config) (entries : List Entry) (instance : Option (List ℕ)) → IsInRange g → IsLegalNewestFirst g entries
-    → ShowsOneOrder g (requests_of entries) instance
+    (g : Config) (past : List Request) (instance : Option (List ℕ)) → length past < 2 ^ 64 → ShowsOneOrder g past instance
 
 -- and those of one CPU are in the order of its ring, as its own files show them
 abbrev pub EachCpuKeepsItsOrder : Type 0
 EachCpuKeepsItsOrder =
-    (g : Config) (entries : List Entry) (instance : Option (List ℕ)) (cpu : ℕ) → IsInRange g → IsLegalNewestFirst g entries
-    → those_of cpu (trace_records g instance (requests_of entries)) ≡ map (on_cpu cpu) (kept_readings g instance cpu (requests_of entries))
+    (g : Config) (past : List Request) (instance : Option (List ℕ)) (cpu : ℕ) → length past < 2 ^ 64
+    → those_of cpu (trace_records g instance past) ≡ map (on_cpu cpu) (kept_readings g instance cpu past)

@@ -1,17 +1,14 @@
 -- Nothing is read twice: what pipes show of a CPU's ring goes on in time (ftrace.rst, "The File System", `trace_pipe`). The newest request comes
 -- first.
-use Rattle.std.specs.Prelude.{ℕ, ◌<◌, ◌≤◌, ◌==◌, if◌then◌else◌, List, [], ◌∷◌, ◌++◌, Option, Some}
+use Rattle.std.specs.Prelude.{ℕ, ◌^◌, ◌<◌, ◌≤◌, ◌==◌, if◌then◌else◌, List, [], ◌∷◌, ◌++◌, length, Option, Some}
 use Rattle.std.specs.List.{AllPairs, count_by}
 use Rattle.trace_record.specs.Record.{timestamp}
 use Rattle.trace_buffer.specs.Families.{CpuReading}
-use Rattle.trace_command.specs.Configs.{IsInRange}
 use Rattle.trace_command.specs.Paths.{OfInstance, OfCpu}
 use Rattle.trace_command.specs.Requests.{Request, ReadFile}
 use Rattle.trace_command.specs.declared.command.Config.{Config}
-use Rattle.trace_command.specs.declared.command.Entry.{Entry}
 use Rattle.trace_command.specs.declared.file_name.CpuFile.TheVariants as per_cpu
 use Rattle.trace_command.specs.declared.file_name.TopFile.TheVariants as top
-use Rattle.tracer_specification.specs.History.{requests_of, IsLegalNewestFirst}
 use Rattle.tracer_specification.specs.Laws.{those_of}
 use Rattle.tracer_specification.specs.Rings.{pipe_read, cpu_pipe_read, rings}
 use Rattle.tracer_specification.specs.Settings.{is_same}
@@ -36,15 +33,15 @@ read_from_side g instance side cpu [] = []
 read_from_side g instance side cpu (request ∷ past) =
     read_from_side g instance side cpu past ++ (if side == live_side instance past then taken_by g instance cpu past request else [])
 
--- in a legal history at most one of the records of a CPU that pipes showed has a given timestamp, whatever was emptied, exchanged or made again in
--- between (each emission has its own)
+-- At most one of the records of a CPU that pipes showed has a given timestamp, whatever was done, and whatever was emptied, exchanged or made again in
+-- between. Each emission has its own, while there are fewer than 2^64 requests.
 abbrev pub NothingIsReadTwice : Type 0
 NothingIsReadTwice =
-    (g : Config) (entries : List Entry) (instance : Option (List ℕ)) (cpu time : ℕ) → IsInRange g → IsLegalNewestFirst g entries
-    → count_by (λ r. timestamp r.rec == time) (read_records g instance cpu (requests_of entries)) ≤ 1
+    (g : Config) (past : List Request) (instance : Option (List ℕ)) (cpu time : ℕ) → length past < 2 ^ 64
+    → count_by (λ r. timestamp r.rec == time) (read_records g instance cpu past) ≤ 1
 
 -- and the timestamps of those of one ring rise strictly
 abbrev pub ReadTimesRise : Type 0
 ReadTimesRise =
-    (g : Config) (entries : List Entry) (instance : Option (List ℕ)) (side cpu : ℕ) → IsInRange g → IsLegalNewestFirst g entries
-    → AllPairs (λ earlier later. timestamp earlier.rec < timestamp later.rec) (read_from_side g instance side cpu (requests_of entries))
+    (g : Config) (past : List Request) (instance : Option (List ℕ)) (side cpu : ℕ) → length past < 2 ^ 64
+    → AllPairs (λ earlier later. timestamp earlier.rec < timestamp later.rec) (read_from_side g instance side cpu past)

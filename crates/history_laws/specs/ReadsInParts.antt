@@ -9,6 +9,7 @@ use Rattle.trace_command.specs.declared.file_name.CpuFile.TheVariants as per_cpu
 use Rattle.trace_command.specs.declared.file_name.TopFile.TheVariants as top
 use Rattle.tracer_specification.specs.History.{answer_with_room}
 use Rattle.tracer_specification.specs.Rings.{rings, other_rings}
+use Rattle.tracer_specification.specs.Waiting.{waiting}
 
 -- the pipes of an instance
 abbrev pub is_pipe : File → Bool
@@ -43,3 +44,18 @@ ReadsLeaveTheSame =
     ≡ rings g other (ReadFile instance (Some pipe) (in_all first second) ∷ past))
     × (other_rings g other (ReadFile instance (Some pipe) second ∷ ReadFile instance (Some pipe) (Some first) ∷ past)
     ≡ other_rings g other (ReadFile instance (Some pipe) (in_all first second) ∷ past))
+
+-- so every later answer is the same after the two as after the one, whatever is done then, were there no limit on the history
+abbrev pub ReadsLeaveAnswers : Type 0
+ReadsLeaveAnswers =
+    (g : Config) (past later : List Request) (instance : Option (List ℕ)) (pipe : File) (first : ℕ) (second : Option ℕ) (next : Request) → is_pipe pipe ≡ true
+    → answer_with_room g (later ++ ReadFile instance (Some pipe) second ∷ ReadFile instance (Some pipe) (Some first) ∷ past) next
+    ≡ answer_with_room g (later ++ ReadFile instance (Some pipe) (in_all first second) ∷ past) next
+
+-- and a look at whether a record waits in a pipe tells the same
+abbrev pub ReadsLeaveWaiting : Type 0
+ReadsLeaveWaiting =
+    (g : Config) (past later : List Request) (instance at : Option (List ℕ)) (pipe : File) (first : ℕ) (second : Option ℕ) (file : Option File)
+    → is_pipe pipe ≡ true
+    → waiting g (later ++ ReadFile instance (Some pipe) second ∷ ReadFile instance (Some pipe) (Some first) ∷ past) at file
+    ≡ waiting g (later ++ ReadFile instance (Some pipe) (in_all first second) ∷ past) at file

@@ -7,7 +7,7 @@ use Rattle.trace_command.specs.declared.command.Config.{Config}
 use Rattle.tracer_specification.specs.Rings.{rings_of_side}
 use Rattle.tracer_specification.specs.Settings.{makes}
 use Rattle.tracer_specification.specs.Snapshots.{live_side}
-use Rattle.history_laws.specs.AccountedFor.{counted, emissions_of, empties_live, empties_spare, shown_of}
+use Rattle.history_laws.specs.AccountedFor.{counted, emissions_of, empties_live, empties_spare, not_read, shown_of}
 use Rattle.history_laws.specs.ReadOnce.{taken_by}
 
 -- whether a request that follows this past empties a CPU's ring of a side, 0 or 1, or makes it anew
@@ -39,6 +39,13 @@ abbrev pub ReadIsWhatPipesShowed : Type 0
 ReadIsWhatPipesShowed =
     (g : Config) (past : List Request) (instance : Option (List ℕ)) (side cpu : ℕ)
     → (cpu_stats g.pages g.page_bytes (rings_of_side g instance side past) cpu).read ≡ since_new (shown_of g instance cpu) instance side cpu past
+
+-- so those that pipes showed, and those that it keeps, overwrote and refused, are together all that were recorded in it
+abbrev pub RingsAreAccountedFor : Type 0
+RingsAreAccountedFor =
+    (g : Config) (past : List Request) (instance : Option (List ℕ)) (side cpu : ℕ) → cpu < g.cpus
+    → since_new (shown_of g instance cpu) instance side cpu past + not_read (cpu_stats g.pages g.page_bytes (rings_of_side g instance side past) cpu)
+    ≡ since_new (emissions_of instance cpu) instance side cpu past
 
 -- its `overrun` is the lost records of which pipes told and those of which its kept records are going to tell
 abbrev pub LossesAreTold : Type 0

@@ -1,5 +1,5 @@
 -- Triggers meet the emissions of which the trees of their conditions hold (events.rst, "Event triggers"; histogram.rst, "hist triggers"). The newest
--- entry comes first.
+-- request comes first.
 use Rattle.std.specs.Prelude.{◌≡◌, ◌↔◌, ℕ, IsTrue, Bool, false, codes, List, ◌∷◌, ◌++◌, length, take, Option, Some, None, ⊤}
 use Rattle.std.specs.List.{Contains}
 use Rattle.trace_filter.specs.Filters.{Parsed, Passes}
@@ -10,11 +10,10 @@ use Rattle.trace_trigger.specs.TriggerGrammar as snapshot
 use Rattle.trace_command.specs.Paths.{OfEvent}
 use Rattle.trace_command.specs.Requests.{Request, WriteFile}
 use Rattle.trace_command.specs.declared.command.Config.{Config}
-use Rattle.trace_command.specs.declared.command.Entry.{Entry}
 use Rattle.trace_command.specs.declared.file_name.EventFile.TheVariants as per_event
 use Rattle.tracer_specification.specs.Emissions.{Emitted, emitted}
 use Rattle.tracer_specification.specs.HistTriggers.{HistTrigger, hist_triggers}
-use Rattle.tracer_specification.specs.History.{requests_of, IsLegalNewestFirst}
+use Rattle.tracer_specification.specs.Pasts.{AreDone}
 use Rattle.tracer_specification.specs.Settings.{NumberedEvent, event_named}
 use Rattle.tracer_specification.specs.Triggers.{Trigger, passes, trigger_of}
 
@@ -51,9 +50,9 @@ pub record SnapshotMeets (instance : Option (List ℕ)) (event : Definition) (t 
 
 abbrev pub SnapshotTriggersMeetAsTheirTrees : Type 0
 SnapshotTriggersMeetAsTheirTrees =
-    (g : Config) (entries : List Entry) (instance : Option (List ℕ)) (name : List ℕ) (k : NumberedEvent) (t : Trigger)
-    → IsLegalNewestFirst g entries → event_named name (requests_of entries) ≡ Some k → trigger_of instance k.event (requests_of entries) ≡ Some t
-    → SnapshotMeets instance k.event t (requests_of entries)
+    (g : Config) (past : List Request) (instance : Option (List ℕ)) (name : List ℕ) (k : NumberedEvent) (t : Trigger)
+    → AreDone g past → event_named name past ≡ Some k → trigger_of instance k.event past ≡ Some t
+    → SnapshotMeets instance k.event t past
 
 -- and such a string attached a hist trigger
 pub record HistMeets (instance : Option (List ℕ)) (t : HistTrigger) (past : List Request) : Type 0 where
@@ -67,5 +66,5 @@ pub record HistMeets (instance : Option (List ℕ)) (t : HistTrigger) (past : Li
 
 abbrev pub HistTriggersMeetAsTheirTrees : Type 0
 HistTriggersMeetAsTheirTrees =
-    (g : Config) (entries : List Entry) (instance : Option (List ℕ)) (t : HistTrigger)
-    → IsLegalNewestFirst g entries → Contains (hist_triggers instance (requests_of entries)) t → HistMeets instance t (requests_of entries)
+    (g : Config) (past : List Request) (instance : Option (List ℕ)) (t : HistTrigger)
+    → AreDone g past → Contains (hist_triggers instance past) t → HistMeets instance t past

@@ -2,7 +2,7 @@
 
 ghost use Rattle.history_laws.specs.CpuSums.{ShownAreAllEntries, WaitingAreAllEntries, HeadHasTheSums, CpuHeadHasItsCounts, SnapshotHeadHasTheSums};
 ghost use Rattle.history_laws.specs.HistogramRows.{HistogramsAreAccountedFor, HistogramsKeepTheirEntries};
-ghost use Rattle.history_laws.specs.Looks.{LookingChangesNothing, LookingTakesOnlyRoom, LookingLeavesWaiting, LooksCanBeLeftOut};
+ghost use Rattle.history_laws.specs.Looks.{LookingChangesNothing, LookingTakesOnlyRoom, LookingLeavesWaiting, LooksCanBeDoneWithout, LooksCanBeLeftOut};
 ghost use Rattle.history_laws.specs.OneOrder.{KeptTimesRise, PipesReadTheTrace, TraceAndPipeShowOneOrder, EachCpuKeepsItsOrder, OrdersAreOne};
 ghost use Rattle.history_laws.specs.TriggerTrees.{SnapshotTriggersMeetAsTheirTrees, HistTriggersMeetAsTheirTrees, EmissionsHaveTheirRows};
 
@@ -17,8 +17,8 @@ pub fn the_whole_is_the_sum()
     ensures snapshot { SnapshotHeadHasTheSums }
 {}
 
-/// `trace` and `trace_pipe` show one order. In a legal history with a configuration in range the timestamps that a ring keeps rise strictly, on
-/// either side; `cat trace_pipe` takes the records that `cat trace` shows, in the same order, and a read with a limit the first of them; and those of
+/// `trace` and `trace_pipe` show one order. Whatever was done, by fewer than 2^64 requests, the timestamps that a ring keeps rise strictly, on either
+/// side; `cat trace_pipe` takes the records that `cat trace` shows, in the same order, and a read with a limit the first of them; and those of
 /// a CPU are in the order of its ring. Reads of whatever rings take the merged order if the timestamps of none fall.
 pub fn trace_and_pipe_show_one_order()
     ensures rise { KeptTimesRise }
@@ -31,9 +31,9 @@ pub fn trace_and_pipe_show_one_order()
     tracer_specification::laws::pipe_reads_consume_what_they_show();
 }
 
-/// Triggers meet as their trees. In a legal history each trigger that an event has, for snapshots or of a histogram, was attached by a string written
-/// to the event's trigger file, and it meets just the emissions of which a tree of that string's condition holds, or all where it has none.
-/// Each emission in a history has the event of its name, and a row of it, then and later.
+/// Triggers meet as their trees. After requests that were done each trigger that an event has, for snapshots or of a histogram, was attached by a
+/// string written to the event's trigger file, and it meets just the emissions of which a tree of that string's condition holds, or all where it has
+/// none. Each emission has the event of its name, and a row of it, then and later.
 pub fn triggers_meet_as_their_trees()
     ensures snapshot { SnapshotTriggersMeetAsTheirTrees }
     ensures hist { HistTriggersMeetAsTheirTrees }
@@ -46,11 +46,13 @@ pub fn triggers_meet_as_their_trees()
 }
 
 /// Looking changes nothing. A read of a file that is no pipe leaves the answer to every later request as it is without the read, whatever was done
-/// before and after, as long as the history has room; and looks at pipes tell the same. A legal history is legal without it.
+/// before and after, as long as the history has room; and looks at pipes tell the same. Requests that were done were done without it, and a legal
+/// history is legal without it.
 pub fn looking_changes_nothing()
     ensures later { LookingChangesNothing }
     ensures room { LookingTakesOnlyRoom }
     ensures waiting { LookingLeavesWaiting }
+    ensures done { LooksCanBeDoneWithout }
     ensures legal { LooksCanBeLeftOut }
 {}
 

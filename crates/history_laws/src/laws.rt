@@ -1,9 +1,11 @@
 //! Theorems about histories of requests, newest first. Each function does nothing: its contract is a theorem.
 
 ghost use Rattle.history_laws.specs.AccountedFor.{EmissionsAreAccountedFor, EmissionsAreShownOrCounted, ShownCountsAccountForEmissions};
+ghost use Rattle.history_laws.specs.LegalPasts.{LegalPastsWereDone};
 ghost use Rattle.history_laws.specs.ReadOnce.{NothingIsReadTwice, ReadTimesRise};
-ghost use Rattle.history_laws.specs.ReadsInParts.{ReadsShowInTurn, ReadsLeaveTheSame};
-ghost use Rattle.history_laws.specs.RingTotals.{RingsCountEmissions, ReadIsWhatPipesShowed, LossesAreTold, LostAddsUp};
+ghost use Rattle.history_laws.specs.ReadsInParts.{ReadsShowInTurn, ReadsLeaveTheSame, ReadsLeaveAnswers, ReadsLeaveWaiting};
+ghost use Rattle.history_laws.specs.SmallPasts.{AreRead, IsEmptied};
+ghost use Rattle.history_laws.specs.RingTotals.{RingsCountEmissions, ReadIsWhatPipesShowed, RingsAreAccountedFor, LossesAreTold, LostAddsUp};
 
 /// Emissions are accounted for. As long as nothing empties a ring of a CPU (`>` to a trace file, a number but 1 written to `snapshot`), `entries`,
 /// `overrun`, `read` and `dropped` of the CPU, over the instance's live side and the other one, are together the emissions on the CPU that the
@@ -17,11 +19,12 @@ pub fn emissions_are_accounted_for()
     rings_count_what_was_done();
 }
 
-/// What one ring counts, a CPU's of one side, is what was done since it was new or emptied: its counts are together the emissions recorded in it, and
-/// its `read` is the records that pipes showed of it.
+/// What one ring counts, a CPU's of one side, is what was done since it was new or emptied, whatever was done: its counts are together the emissions
+/// recorded in it, its `read` is the records that pipes showed of it, and so these and those that it keeps, overwrote and refused are all of them.
 pub fn rings_count_what_was_done()
     ensures recorded { RingsCountEmissions }
     ensures read { ReadIsWhatPipesShowed }
+    ensures all { RingsAreAccountedFor }
 {
     page_ring::laws::offered_is_puts();
     page_ring::laws::counts_are_of_records();
@@ -29,8 +32,8 @@ pub fn rings_count_what_was_done()
     tracer_specification::laws::pipe_reads_consume_what_they_show();
 }
 
-/// Nothing is read twice: in a legal history each timestamp is that of at most one record of a CPU that an instance's pipes showed, whatever was
-/// emptied, exchanged or made again between, and the timestamps of those of one ring rise strictly.
+/// Nothing is read twice: whatever was done, each timestamp is that of at most one record of a CPU that an instance's pipes showed, whatever was
+/// emptied, exchanged or made again between, and the timestamps of those of one ring rise strictly. (Of fewer than 2^64 requests.)
 pub fn nothing_is_read_twice()
     ensures once { NothingIsReadTwice }
     ensures rise { ReadTimesRise }
@@ -40,10 +43,13 @@ pub fn nothing_is_read_twice()
 }
 
 /// Reads of a pipe add up: a read of so many records, and then one of so many others or of all the rest, show in turn what one read of all of them
-/// shows, and leave the same rings, those of every instance.
+/// shows, and leave the same rings, those of every instance. Every later answer is the same after the two as after the one, whatever is done then, and
+/// looks at pipes tell the same.
 pub fn reads_add_up()
     ensures shown { ReadsShowInTurn }
     ensures left { ReadsLeaveTheSame }
+    ensures later { ReadsLeaveAnswers }
+    ensures waiting { ReadsLeaveWaiting }
 {
     page_ring::laws::least_is_read();
 }
@@ -58,3 +64,16 @@ pub fn losses_add_up()
     page_ring::laws::counts_are_of_records();
     tracer_specification::laws::pipe_reads_consume_what_they_show();
 }
+
+/// A legal history with a configuration in range is one of requests that were done, with numbers that fit their types, and fewer than 2^64 of them.
+/// So what is proved of such requests, which a mounted tracer and the library have too, holds of it.
+pub fn legal_histories_were_done()
+    ensures { LegalPastsWereDone }
+{}
+
+/// Small pasts, worked by hand, come to what stands beside them: after a `> trace` a ring tells of what was recorded since then, and no longer of all
+/// that its instance recorded; and two readers of a CPU's ring get a record each.
+pub fn small_pasts_come_to_this()
+    ensures emptied { IsEmptied }
+    ensures read { AreRead }
+{}

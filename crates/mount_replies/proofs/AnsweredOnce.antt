@@ -95,7 +95,7 @@ kind-step g s read offset cached flags file kinds.ErrorLog =
 kind-step g s read offset cached flags file _ =
     counted-step s read cached offset file (read_text (scene_of g s) read.handle offset read.size file s.files) (text-step g s read offset file)
 
-read-step : (g : Terms) (s : Service) (read : Parked) (offset : ℕ) (cached : Bool) (flags : ℕ) (slot : Option OpenSeen)
+pub read-step : (g : Terms) (s : Service) (read : Parked) (offset : ℕ) (cached : Bool) (flags : ℕ) (slot : Option OpenSeen)
     → IsReadStep read.unique (read_file g s read offset cached flags slot)
 read-step g s read offset cached flags None = refl
 read-step g s read offset cached flags (Some file) =

@@ -32,3 +32,8 @@ pub mod CountedLemmas
 pub mod KeptTexts
 pub mod OtherSteps
 pub mod ArmedLemmas
+pub mod ToolReads
+pub mod ServedErrors
+pub mod NotedWrites
+pub mod ComputedSteps
+pub mod SetEvents

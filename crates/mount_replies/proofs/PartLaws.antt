@@ -8,11 +8,10 @@ use Rattle.trace_command.specs.Requests.{Request}
 use Rattle.trace_command.specs.declared.command.Reply.{Reply as Answer}
 use Rattle.trace_command.specs.declared.refusal.Refusal.{Refusal}
 use Rattle.mount_replies.proofs.RunLemmas.{Adds, adds-none, lines-add}
-use Rattle.mount_replies.specs.MountLaws.{FirstTextIsKept, NothingLeftIsAll, ReadsGiveParts, ReadsGoOn, StepsDoCommands, given_together, most_commands}
+use Rattle.mount_replies.specs.MountLaws.{NothingLeftIsAll, ReadsGoOn, StepsDoCommands, given_together, most_commands}
 use Rattle.mount_replies.specs.Mounted.{Does, past_after}
 use Rattle.mount_replies.specs.Served.{part_of}
 use Rattle.mount_replies.specs.Services.{OpenSeen, Service, Terms, after_reading, file_at, is_read_out, most_data, text_at, with_change, with_reading}
-use Rattle.mount_replies.specs.Sizes.{text_in}
 use Rattle.mount_replies.specs.Steps.{Asks, AsksLines, AsksNoting, Counts, Interrupts, Parks, Plain, Step, Takes, Tells}
 
 -- a part is as long as it is
@@ -46,9 +45,6 @@ reads_go_on (size ∷ sizes) offset text =
     joined part rest (drop offset text) (own-length (min size most_data) (drop offset text))
     (reads_go_on sizes (offset + length part) text ∙ ap (λ (l : List ℕ). take (length rest) l) (drop-plus offset (length part) text))
 
-pub reads_give_parts : ReadsGiveParts
-reads_give_parts scene handle offset size file files text made later going = rw (later, made, going) refl
-
 none-left : (k : ℕ) (l : List ℕ) → 0 < k → take k l ≡ [] → l ≡ []
 none-left k [] some nothing = refl
 none-left zero (x ∷ l) some nothing = absurd (omega (arith, some))
@@ -78,9 +74,6 @@ pub reading-kept : (handle offset size : ℕ) (text : List ℕ) (file : OpenSeen
     → is_read_out offset size text ≡ false → text_at handle (with_reading offset size text handle files) ≡ Some text
 reading-kept handle offset size text file files there going =
     text-kept (after_reading offset size text) files handle text file there (rw going refl)
-
-pub first_text_is_kept : FirstTextIsKept
-first_text_is_kept handle offset size file files answer there going = reading-kept handle offset size (text_in answer) file files there going
 
 -- ---- commands
 

@@ -1,10 +1,9 @@
 -- What reads of a file show.
-use Rattle.std.proofs.Common.{◌≡◌, inl, inr, ℕ, zero, suc, ◌+◌, ◌==◌, ◌≤◌, nat_lt, min, Bool, true, false, not, ◌&&◌, if◌then◌else◌, List, [], ◌∷◌, length, take, Option, Some, None, Result, Ok, Err, refl, sym, ap, subst, ◌∙◌}
-use Rattle.std.proofs.lemmas.Bool.{false≢true, le-ltb}
+use Rattle.std.proofs.Common.{◌≡◌, inl, inr, ℕ, ◌+◌, Bool, true, false, not, ◌&&◌, if◌then◌else◌, List, [], ◌∷◌, length, Option, Some, None, Result, Ok, Err, refl, sym, ap, subst, ◌∙◌}
+use Rattle.std.proofs.lemmas.Bool.{false≢true}
 use Rattle.std.specs.Option.{option_map}
 use Rattle.fuse_wire.specs.declared.errno.Errno.TheVariants.{ENOENT}
 use Rattle.fuse_wire.specs.declared.reply.Reply.{Reply}
-use Rattle.fuse_wire.specs.declared.reply.Reply.TheVariants as replies
 use Rattle.trace_command.specs.Configs.{IsInRange}
 use Rattle.trace_command.specs.Paths as paths
 use Rattle.trace_command.specs.Paths.{address_of}
@@ -29,16 +28,16 @@ use Rattle.mount_tree.specs.declared.file.File.TheVariants as files
 use Rattle.mount_tree.specs.declared.file.FileKind.{FileKind}
 use Rattle.mount_tree.specs.declared.file.FileKind.TheVariants as kinds
 use Rattle.mount_replies.proofs.DoneLemmas.{events-are, had-room, pasts_are_done}
-use Rattle.mount_replies.proofs.PartLaws.{drop-nil, reading-kept}
+use Rattle.mount_replies.proofs.PartLaws.{reading-kept}
 use Rattle.mount_replies.specs.Errnos.{errno_of}
 use Rattle.mount_replies.specs.FileWrites.{write_file, write_kind, write_other, write_text, write_there}
 use Rattle.mount_replies.specs.Lines.{command_lines, command_text, has_newline, is_blank_line, line_command, lines_of, one_command, pieces_of, without_newline, written_lines}
 use Rattle.mount_replies.specs.Mounted.{Does, IsAnswered, MayRun, bytes_of_reply}
-use Rattle.mount_replies.specs.PastLaws.{IsMissing, IsReason, LaterReadsGoOn, NotShown, ReadsAnew, ReadsEndWithTheText, ReadsShowThePast, RemovedFilesAreMissing, Shown, StatsShowThePast, WasDone, WritesAreCommands, WritesLines, instance_of, is_file, is_text, line_written, read_whole, write_once}
-use Rattle.mount_replies.specs.Served.{is_cached, part_of, read_anew, read_file, read_kind, read_text, read_there}
-use Rattle.mount_replies.specs.Services.{OpenSeen, Service, Terms, file_at, most_data, node_of, read_of_pipe, scene_of}
+use Rattle.mount_replies.specs.PastLaws.{IsMissing, IsReason, NotShown, ReadsAnew, ReadsShowThePast, RemovedFilesAreMissing, Shown, StatsShowThePast, WasDone, WritesAreCommands, WritesLines, instance_of, is_file, is_text, line_written, read_whole, write_once}
+use Rattle.mount_replies.specs.Served.{is_cached, read_anew, read_file, read_kind, read_text, read_there}
+use Rattle.mount_replies.specs.Services.{OpenSeen, Service, Terms, file_at, node_of, read_of_pipe, scene_of}
 use Rattle.mount_replies.specs.Sizes.{text_in}
-use Rattle.mount_replies.specs.Steps.{Asking, AsksFor, LineAsked, Step, failed, plain, read_of, write_of}
+use Rattle.mount_replies.specs.Steps.{Asking, AsksFor, LineAsked, Step, failed, read_of, write_of}
 use Rattle.mount_replies.specs.declared.parked.Parked.{Parked}
 
 -- ---- answers
@@ -198,35 +197,6 @@ pub stats_show_the_past : StatsShowThePast
 stats_show_the_past g requests messages before after request bytes handle size read_flags flags cpu file ranges served is asks direct opened stats there =
     reads_show_the_past g requests messages before after request bytes handle size read_flags flags file (paths.OfCpu cpu per_cpu.Stats) ranges served is asks
     direct opened (ap (λ (f : File). is_text (kind_of_file f)) stats) there (ap (file_meant (scene_of g before)) stats)
-
-pub later_reads_go_on : LaterReadsGoOn
-later_reads_go_on g before after request bytes handle offset size read_flags flags file text is asks direct later opened whole keeps there =
-    let step = file-reads g before (read_of_pipe request.unique handle size) offset (is_cached read_flags) flags file (file_at handle before.files) opened direct whole there in
-    let does = subst (λ (s : Step). Does g before s is.reply after) step (rw asks at is.does) in
-    let did = rw (later, keeps) at does in
-    (is.told ∙ ap (bytes_of_reply request.unique) did.0, did.1)
-
-none-taken : (n : ℕ) → take {A = ℕ} n [] ≡ []
-none-taken zero = refl
-none-taken (suc n) = refl
-
-part-of-none : (offset size : ℕ) → part_of offset size [] ≡ []
-part-of-none offset size = ap (λ (l : List ℕ). take (min size most_data) l) (drop-nil offset) ∙ none-taken (min size most_data)
-
--- a text that was read to its end is not made anew there
-ended-goes-on : (scene : SceneSeen) (handle offset size end : ℕ) (file : OpenSeen) (open_files : List (Option OpenSeen)) → (offset == 0) ≡ false
-    → file.text ≡ None → file.ended ≡ Some end → end ≤ offset
-    → read_text scene handle offset size file open_files ≡ plain (replies.Data []) open_files
-ended-goes-on scene handle offset size end file open_files later none ended after =
-    let over : nat_lt offset end ≡ false = le-ltb offset end after in
-    rw (later, none, ended, over) (ap (λ (part : List ℕ). plain (replies.Data part) open_files) (part-of-none offset size))
-
-pub reads_end_with_the_text : ReadsEndWithTheText
-reads_end_with_the_text g before after request bytes handle offset size read_flags flags end file is asks direct later opened whole none ended over there =
-    let step = file-reads g before (read_of_pipe request.unique handle size) offset (is_cached read_flags) flags file (file_at handle before.files) opened direct whole there
-    ∙ ended-goes-on (scene_of g before) handle offset size end file before.files later none ended over in
-    let does = subst (λ (s : Step). Does g before s is.reply after) step (rw asks at is.does) in
-    (is.told ∙ ap (bytes_of_reply request.unique) does.0, does.1)
 
 -- ---- writes
 

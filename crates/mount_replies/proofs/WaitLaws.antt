@@ -14,7 +14,7 @@ use Rattle.mount_tree.specs.declared.node.Node.TheVariants as nodes
 use Rattle.tracer_specification.specs.Waiting.{waiting}
 use Rattle.mount_replies.specs.Mounted.{Does}
 use Rattle.mount_replies.specs.Owed.{ReplyAt, WakeupAt, first_owed, is_due, is_ready, step_of_parked}
-use Rattle.mount_replies.specs.ParkedLaws.{ClosedReadsTakeNothing, InterruptedReadsTakeNothing, InterruptingAsksNothing, NoPollWaitsForWhatIsThere, NoReadWaitsForWhatIsThere, NothingIsOwedToRequests, OldestIsAnsweredFirst, TakenTextIsGivenOrKept, TellingDoesOneCommandAtMost, WaitingAsksNothing, WaitsForRecords}
+use Rattle.mount_replies.specs.ParkedLaws.{ClosedReadsTakeNothing, InterruptedReadsTakeNothing, NoPollWaitsForWhatIsThere, NoReadWaitsForWhatIsThere, OldestIsAnsweredFirst, TakenTextIsGivenOrKept, TellingDoesOneCommandAtMost, WaitsForRecords}
 use Rattle.mount_replies.specs.Pipes.{ends, has_news, is_dry, is_no, is_used_up, waits_at}
 use Rattle.mount_replies.specs.Served.{part_of}
 use Rattle.mount_replies.specs.Services.{OpenSeen, Service, Terms, file_at, most_data, scene_of, text_at, with_dry_read, with_records, without_read}
@@ -22,13 +22,6 @@ use Rattle.mount_replies.specs.Steps.{Asks, Parks, Plain, Step, Takes, failed}
 use Rattle.mount_replies.specs.declared.parked.Parked.{Parked}
 use Rattle.mount_replies.proofs.AnsweredOnce.{IsReadStep, parked-step}
 use Rattle.mount_replies.proofs.Firsts.{none-before, none-passes}
-
-pub waiting_asks_nothing : WaitingAsksNothing
-waiting_asks_nothing g before after read reply (inl does) = (ap (λ (s : Service). s.past) does.1, ap (λ (s : Service). s.files) does.1)
-waiting_asks_nothing g before after read reply (inr does) = (ap (λ (s : Service). s.past) does.1, ap (λ (s : Service). s.files) does.1)
-
-pub interrupting_asks_nothing : InterruptingAsksNothing
-interrupting_asks_nothing g before after unique reply does = (ap (λ (s : Service). s.past) does.1, ap (λ (s : Service). s.files) does.1)
 
 pub interrupted_reads_take_nothing : InterruptedReadsTakeNothing
 interrupted_reads_take_nothing g before after index bytes told interrupted =
@@ -154,9 +147,6 @@ no_poll_waits_for_what_is_there g s handle wakeup file nothing is wanted =
     none-passes (is_ready g s) s.files handle (Some file) none (slot-is s.files handle file is) in
     no-news (is_used_up file) (is_dry g s file.owner file.file) (ends g s file) file.polls.told_end
     (subst (λ (w : Option ℕ). (is_some w && has_news g s file) ≡ false) wanted quiet)
-
-pub nothing_is_owed_to_requests : NothingIsOwedToRequests
-nothing_is_owed_to_requests g before after byte asked bytes exchanged = exchanged.0
 
 pub oldest_is_answered_first : OldestIsAnsweredFirst
 oldest_is_answered_first g s index older read first before is =

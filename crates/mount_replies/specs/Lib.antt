@@ -13,4 +13,8 @@ pub mod Mounted
 pub mod MountLaws
 pub mod ParkedLaws
 pub mod PastLaws
+pub mod ServedErrors
+pub mod SetEvents
+pub mod ComputedSteps
+pub mod MountExamples
 pub mod private

@@ -1,17 +1,14 @@
 -- What reads of a file give, and which lines a stream is, as theorems that speak of no program.
-use Rattle.std.specs.Prelude.{◌≡◌, ℕ, ◌+◌, ◌-◌, ◌<◌, ◌≤◌, ◌==◌, false, map, List, [], ◌∷◌, ◌++◌, length, take, drop, Option, Some, Ok}
+use Rattle.std.specs.Prelude.{◌≡◌, ℕ, ◌+◌, ◌-◌, ◌<◌, ◌≤◌, ◌==◌, false, map, List, [], ◌∷◌, ◌++◌, length, take, drop, Option, Some}
 use Rattle.std.specs.List.{flat_map}
 use Rattle.fuse_wire.specs.declared.reply.Reply.TheVariants as replies
 use Rattle.fuse_wire.specs.declared.reply.Reply.{Reply}
-use Rattle.mount_tree.specs.Scenes.{SceneSeen}
 use Rattle.trace_command.specs.Requests.{Request}
-use Rattle.trace_command.specs.declared.command.Reply.{Reply as Answer}
 use Rattle.mount_replies.specs.FileWrites.{flush_file}
 use Rattle.mount_replies.specs.Lines.{last_piece, most_kept, pieces_of, stream_lines}
 use Rattle.mount_replies.specs.Mounted.{Does}
-use Rattle.mount_replies.specs.Served.{given_text, part_of, read_text}
-use Rattle.mount_replies.specs.Services.{OpenSeen, Service, Terms, file_at, is_read_out, text_at}
-use Rattle.mount_replies.specs.Sizes.{text_in}
+use Rattle.mount_replies.specs.Served.{part_of}
+use Rattle.mount_replies.specs.Services.{OpenSeen, Service, Terms}
 use Rattle.mount_replies.specs.Steps.{Asking, Asks, AsksLines, AsksNoting, LineAsked, Step, plain}
 
 -- what reads of these sizes give together, each of which goes on after the bytes that those before it gave
@@ -25,21 +22,6 @@ abbrev pub ReadsGoOn : Type 0
 ReadsGoOn =
     (sizes : List ℕ) (offset : ℕ) (text : List ℕ)
     → given_together sizes offset text ≡ take (length (given_together sizes offset text)) (drop offset text)
-
--- and each of these reads but the one at the beginning asks nothing of the tracer: it gives a part of the text that was made then, which is kept until one
--- comes to its end
-abbrev pub ReadsGiveParts : Type 0
-ReadsGiveParts =
-    (scene : SceneSeen) (handle offset size : ℕ) (file : OpenSeen) (files : List (Option OpenSeen)) (text : List ℕ) → file.text ≡ Some text
-    → (offset == 0) ≡ false → is_read_out offset size text ≡ false
-    → read_text scene handle offset size file files ≡ plain (replies.Data (part_of offset size text)) files
-
--- the text that the first of them made is what the open file keeps
-abbrev pub FirstTextIsKept : Type 0
-FirstTextIsKept =
-    (handle offset size : ℕ) (file : OpenSeen) (files : List (Option OpenSeen)) (answer : Answer) → file_at handle files ≡ Some file
-    → is_read_out offset size (text_in answer) ≡ false
-    → text_at handle (given_text handle offset size files (Ok answer)).files ≡ Some (text_in answer)
 
 -- and once nothing is left, it is all of the text from where they began
 abbrev pub NothingLeftIsAll : Type 0

@@ -162,18 +162,7 @@ NoRecordIsLostOrToldTwice =
     → kept_for handle before ++ taken_for handle g before asked bytes after exchanged
     ≡ given_to handle g before asked bytes after exchanged ++ kept_for handle after
 
--- a read that waits, or waits no more, asks nothing of the tracer, and changes no open file
-abbrev pub WaitingAsksNothing : Type 0
-WaitingAsksNothing =
-    (g : Terms) (before after : Service) (read : Parked) (reply : Option Reply) → Does g before (Parks read) reply after
-    → (after.past ≡ before.past) × (after.files ≡ before.files)
-
-abbrev pub InterruptingAsksNothing : Type 0
-InterruptingAsksNothing =
-    (g : Terms) (before after : Service) (unique : ℕ) (reply : Option Reply) → Does g before (Interrupts unique) reply after
-    → (after.past ≡ before.past) × (after.files ≡ before.files)
-
--- one that was interrupted gets EINTR, and takes nothing; its poll, if it has one, is to be told again
+-- a parked read that was interrupted gets EINTR, and takes nothing; its poll, if it has one, is to be told again
 abbrev pub InterruptedReadsTakeNothing : Type 0
 InterruptedReadsTakeNothing =
     (g : Terms) (before after : Service) (index : ℕ) (bytes : List ℕ) (told : IsReplied g before index bytes after) → told.read.interrupted ≡ true
@@ -221,11 +210,6 @@ NoPollWaitsForWhatIsThere =
     (g : Terms) (s : Service) (handle wakeup : ℕ) (file : OpenSeen) → owed g s ≡ None → file_at handle s.files ≡ Some file
     → file.polls.wakeup ≡ Some wakeup
     → (is_used_up file ≡ true) × (is_dry g s file.owner file.file ≡ true) × ((ends g s file ≡ false) ⊎ (file.polls.told_end ≡ true))
-
--- and so it is whenever a request is answered
-abbrev pub NothingIsOwedToRequests : Type 0
-NothingIsOwedToRequests =
-    (g : Terms) (before after : Service) (byte : ℕ) (asked bytes : List ℕ) → IsExchanged g before (byte ∷ asked) bytes after → owed g before ≡ None
 
 -- ---- polls are told again
 

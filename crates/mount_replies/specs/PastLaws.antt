@@ -20,6 +20,7 @@ use Rattle.error_log.specs.Errors.{ErrorSeen}
 use Rattle.mount_tree.specs.Children.{is_there, owner_is_there}
 use Rattle.mount_tree.specs.FileKinds.{kind_of_file}
 use Rattle.mount_tree.specs.NodePaths.{file_meant, owner_name, path_of}
+use Rattle.mount_tree.specs.TreeLaws.{IsSound}
 use Rattle.mount_tree.specs.declared.file.File.{File}
 use Rattle.mount_tree.specs.declared.file.File.TheVariants as files
 use Rattle.mount_tree.specs.declared.node.Node.{Node}
@@ -27,6 +28,7 @@ use Rattle.mount_tree.specs.declared.node.Node.TheVariants as nodes
 use Rattle.mount_tree.specs.declared.node.Owner.{Owner}
 use Rattle.mount_tree.specs.declared.file.FileKind.{FileKind}
 use Rattle.mount_tree.specs.declared.file.FileKind.TheVariants as kinds
+use Rattle.mount_stub_files.specs.ToolTexts.{tool_text}
 use Rattle.mount_replies.specs.Errnos.{errno_of}
 use Rattle.mount_replies.specs.FileWrites.{begun_now}
 use Rattle.mount_replies.specs.Lines.{command_text, lines_of, noted_command, noted_if_first, written}
@@ -49,13 +51,19 @@ pub record WasDone (g : Terms) (past : List Request) : Type 0 where
   pub done : AreDone g.config past
   pub few : length past ≤ most_done
 
--- whatever a mounted tracer served, its past is a list of such commands, so that what is proved of histories holds of it
+-- whatever a mounted tracer served, its past is a list of such commands, so that what history_laws says of requests that were done holds of it
 abbrev pub PastsAreDone : Type 0
 PastsAreDone = (g : Terms) (requests messages : List (List ℕ)) (after : Service) → Serves g just_mounted requests messages after → WasDone g after.past
 
 -- ---- reads
 
--- a file that commands know and that reads show whole: no pipe
+-- a file that reads show whole: no pipe, and not `inject`
+abbrev pub is_shown : FileKind → Bool
+is_shown kinds.Pipe = false
+is_shown kinds.Inject = false
+is_shown _ = true
+
+-- and that a command reads
 abbrev pub is_text : FileKind → Bool
 is_text kinds.Text = true
 is_text kinds.Trace = true
@@ -116,12 +124,29 @@ StatsShowThePast =
     → ReadsAnew g before (read_whole (instance_of g before file) (paths.OfCpu cpu per_cpu.Stats)) request.unique handle size
     (cpu_stats_text g.config (instance_of g before file) before.past cpu) bytes after
 
+-- A READ of a file that shows its text without a command gives the beginning of it, which the open file keeps unless that is all of it; or there was no
+-- memory. No command is done.
+abbrev pub ShowsNow : Service → ℕ → ℕ → ℕ → List ℕ → List ℕ → Service → Type 0
+ShowsNow before unique handle size text bytes after =
+    ((bytes ≡ reply_bytes unique (replies.Data (part_of 0 size text))) × (after ≡ record before { files = with_reading 0 size text handle before.files }))
+    ⊎ ((bytes ≡ reply_bytes unique (replies.Error ENOMEM)) × (after ≡ before))
+
+-- A file that tools ask for shows what it is after the commands that were done by then: `set_event` the events that are enabled, `available_events` those
+-- that are declared.
+abbrev pub ToolReadsShowThePast : Type 0
+ToolReadsShowThePast =
+    (g : Terms) (before after : Service) (request : Asked) (bytes : List ℕ) (handle size read_flags flags : ℕ) (file : OpenSeen) (text : List ℕ)
+    → IsServed g before request bytes after → request.operation ≡ operations.Read handle 0 size read_flags flags → is_cached read_flags ≡ false
+    → file_at handle before.files ≡ Some file → kind_of_file file.file ≡ kinds.Tool → is_there (scene_of g before) (node_of file) ≡ true
+    → tool_text g.config before.past file.owner file.file ≡ Some text
+    → ShowsNow before request.unique handle size text bytes after
+
 -- a READ at a later offset goes on in the text that the open file keeps, and changes nothing but that this is given back at its end
 abbrev pub LaterReadsGoOn : Type 0
 LaterReadsGoOn =
     (g : Terms) (before after : Service) (request : Asked) (bytes : List ℕ) (handle offset size read_flags flags : ℕ) (file : OpenSeen) (text : List ℕ)
     → IsServed g before request bytes after → request.operation ≡ operations.Read handle offset size read_flags flags → is_cached read_flags ≡ false
-    → (offset == 0) ≡ false → file_at handle before.files ≡ Some file → is_text (kind_of_file file.file) ≡ true → file.text ≡ Some text
+    → (offset == 0) ≡ false → file_at handle before.files ≡ Some file → is_shown (kind_of_file file.file) ≡ true → file.text ≡ Some text
     → is_there (scene_of g before) (node_of file) ≡ true
     → (bytes ≡ reply_bytes request.unique (replies.Data (part_of offset size text)))
     × (after ≡ record before { files = with_going_on offset size (Some text) handle before.files })
@@ -131,7 +156,7 @@ abbrev pub ReadsEndWithTheText : Type 0
 ReadsEndWithTheText =
     (g : Terms) (before after : Service) (request : Asked) (bytes : List ℕ) (handle offset size read_flags flags end : ℕ) (file : OpenSeen)
     → IsServed g before request bytes after → request.operation ≡ operations.Read handle offset size read_flags flags → is_cached read_flags ≡ false
-    → (offset == 0) ≡ false → file_at handle before.files ≡ Some file → is_text (kind_of_file file.file) ≡ true → file.text ≡ None
+    → (offset == 0) ≡ false → file_at handle before.files ≡ Some file → is_shown (kind_of_file file.file) ≡ true → file.text ≡ None
     → file.ended ≡ Some end → end ≤ offset → is_there (scene_of g before) (node_of file) ≡ true
     → (bytes ≡ reply_bytes request.unique (replies.Data [])) × (after ≡ before)
 
@@ -199,13 +224,16 @@ ErrorsAreOfInstances =
     (g : Terms) (requests messages : List (List ℕ)) (after : Service) → Serves g just_mounted requests messages after
     → All (IsOfOneThere g after) after.errors
 
--- ---- sizes
+-- ---- folders
 
--- a file that reads show whole, whether commands know it or not
-abbrev pub is_shown : FileKind → Bool
-is_shown kinds.Pipe = false
-is_shown kinds.Inject = false
-is_shown _ = true
+-- The folders and files are those of a scene in which all have names and no two have one name, so that lists are look-ups (`lists_are_lookups` of
+-- mount_tree), whatever was served.
+abbrev pub ServedScenesAreSound : Type 0
+ServedScenesAreSound =
+    (g : Terms) (requests messages : List (List ℕ)) (after : Service) → IsInRange g.config → Serves g just_mounted requests messages after
+    → IsSound (scene_of g after)
+
+-- ---- sizes
 
 -- what is told of a file with a size: its text's length, or that there was no memory
 abbrev pub TellsLength : Terms → Service → Telling → Owner → File → ℕ → List ℕ → Type 0

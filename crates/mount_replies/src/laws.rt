@@ -1,15 +1,16 @@
 //! What reads of a file give, and what a step does. The functions do nothing: their contracts are theorems.
 
-ghost use Rattle.mount_replies.specs.MountLaws.{CutsDontMatter, FirstTextIsKept, LinesEndAtNewlines, NothingLeftIsAll, OthersFlushNothing, ReadsGiveParts, ReadsGoOn, StepsDoCommands, StreamsLoseNothing};
-ghost use Rattle.mount_replies.specs.ParkedLaws.{ClosedReadsTakeNothing, InterruptedReadsTakeNothing, InterruptingAsksNothing, NoPollWaitsForWhatIsThere, NoReadWaitsForWhatIsThere, NoRecordIsLostOrToldTwice, NothingIsOwedToRequests, OldestIsAnsweredFirst, ParkedReadsArmPolls, ReadsAreAnsweredOnce, ReadsArmPolls, TakenTextIsGivenOrKept, TellingDoesOneCommandAtMost, WaitingAsksNothing};
-ghost use Rattle.mount_replies.specs.PastLaws.{ErrorsAreOfInstances, LaterReadsGoOn, PastsAreDone, ReadsEndWithTheText, ReadsShowThePast, RemovedFilesAreMissing, SizesAreLengths, StatsShowThePast, WritesAreCommands};
+ghost use Rattle.mount_replies.specs.ComputedSteps.{StepsAreComputed};
+ghost use Rattle.mount_replies.specs.MountExamples.{SessionsAreServed};
+ghost use Rattle.mount_replies.specs.MountLaws.{CutsDontMatter, LinesEndAtNewlines, NothingLeftIsAll, OthersFlushNothing, ReadsGoOn, StepsDoCommands, StreamsLoseNothing};
+ghost use Rattle.mount_replies.specs.ParkedLaws.{ClosedReadsTakeNothing, InterruptedReadsTakeNothing, NoPollWaitsForWhatIsThere, NoReadWaitsForWhatIsThere, NoRecordIsLostOrToldTwice, OldestIsAnsweredFirst, ParkedReadsArmPolls, ReadsAreAnsweredOnce, ReadsArmPolls, TakenTextIsGivenOrKept, TellingDoesOneCommandAtMost};
+ghost use Rattle.mount_replies.specs.PastLaws.{ErrorsAreOfInstances, LaterReadsGoOn, PastsAreDone, ReadsEndWithTheText, ReadsShowThePast, RemovedFilesAreMissing, ServedScenesAreSound, SizesAreLengths, StatsShowThePast, ToolReadsShowThePast, WritesAreCommands};
+ghost use Rattle.mount_replies.specs.ServedErrors.{LastEightAreKept, LogReadsShowTheLastEight, NotedWritesWereRefused};
+ghost use Rattle.mount_replies.specs.SetEvents.{SetEventsAreShown};
 
-/// Reads of a file that go on one after another give together one part of the text that the first of them made, and so from the beginning on what
-/// one read gives.
+/// Reads of a text that go on one after another give together one part of it, and so from the beginning on what one read gives.
 pub fn reads_give_one_text()
-    ensures parts { ReadsGiveParts }
     ensures together { ReadsGoOn }
-    ensures first { FirstTextIsKept }
     ensures all { NothingLeftIsAll }
 {}
 
@@ -35,25 +36,22 @@ pub fn reads_are_answered_once()
 
 /// Of a pipe that stays open nothing that was taken for its reads is lost or given twice. What is kept for them when it is closed is lost.
 ///
-/// `records`: what was kept and what an exchange took for it is, in order, what the exchange gave of it and what is kept then. A read that begins to wait,
-/// or is interrupted, asks nothing; one that was interrupted, or that lost its file, takes nothing; what is told asks one command at most; and what a
+/// `records`: what was kept and what an exchange took for it is, in order, what the exchange gave of it and what is kept then. A read
+/// that was interrupted, or that lost its file, takes nothing; what is told asks one command at most; and what a
 /// command took for a read is its reply and what its open file keeps.
 pub fn waiting_loses_nothing()
     ensures records { NoRecordIsLostOrToldTwice }
-    ensures waiting { WaitingAsksNothing }
-    ensures interrupting { InterruptingAsksNothing }
     ensures interrupted { InterruptedReadsTakeNothing }
     ensures closed { ClosedReadsTakeNothing }
     ensures one { TellingDoesOneCommandAtMost }
     ensures text { TakenTextIsGivenOrKept }
 {}
 
-/// Where something waits, no read does that could take it, and no poll that is to be told of it, whenever a request is answered; but that a pipe ends is
-/// told a poll only if its last read was not told so.
+/// Where something waits, no read does that could take it, and no poll that is to be told of it, whenever nothing is owed, as where a request is answered;
+/// but that a pipe ends is told a poll only if its last read was not told so.
 pub fn no_read_waits_for_what_is_there()
     ensures waits { NoReadWaitsForWhatIsThere }
     ensures polls { NoPollWaitsForWhatIsThere }
-    ensures requests { NothingIsOwedToRequests }
 {}
 
 /// After a read of a pipe that was told data, its end or to come again, a poll that ever asked to be told is to be told again: no edge is lost.
@@ -67,16 +65,19 @@ pub fn oldest_is_answered_first()
     ensures { OldestIsAnsweredFirst }
 {}
 
-/// Whatever was served, the commands that the tracer did were done, one after another, so that what is proved of histories holds of them.
+/// Whatever was served, the commands that the tracer did were done, one after another, so that what history_laws says of such requests holds of them.
 pub fn pasts_are_done()
     ensures { PastsAreDone }
 {}
 
-/// A read from its beginning of a file that commands know and that is no pipe, whatever was served before it, shows what the file shows after the commands
-/// that were done by then, unless it is the page cache's; of `stats` these are the counts that are defined over them. Later reads go on in that text.
+/// A read of a file from its beginning, whatever was served before it, shows what the file shows after the commands that were done by then, unless it is
+/// the page cache's; of `stats` these are the counts that are defined over them. So it is of files that tools ask for, as `set_event`, and `error_log`
+/// shows the last eight writes that were refused since it was cleared. Later reads go on in that text.
 pub fn reads_show_the_past()
     ensures files { ReadsShowThePast }
     ensures stats { StatsShowThePast }
+    ensures tools { ToolReadsShowThePast }
+    ensures log { LogReadsShowTheLastEight }
     ensures later { LaterReadsGoOn }
     ensures ended { ReadsEndWithTheText }
 {}
@@ -87,13 +88,38 @@ pub fn writes_are_commands()
     ensures { WritesAreCommands }
 {}
 
+/// A write to `set_event` whose first word is to switch an event that is there, whatever was served before it, is refused, or switches it: from then on
+/// the file shows a line of each event that is enabled, and of this one just if it was switched on.
+pub fn set_events_are_shown()
+    ensures { SetEventsAreShown }
+{}
+
 /// Of an instance that was removed nothing is read, written or noted, and no error is kept.
 pub fn removed_instances_are_gone()
     ensures files { RemovedFilesAreMissing }
     ensures errors { ErrorsAreOfInstances }
 {}
 
+/// Whatever was served, the log of an instance has its last eight writes that were refused since it was cleared. What is noted is a write to a file that
+/// was written, opened or closed, and its refusal was told; the caret stands under the byte that is to blame by the refusal.
+pub fn logs_have_the_last_eight()
+    ensures kept { LastEightAreKept }
+    ensures noted { NotedWritesWereRefused }
+{}
+
+/// Whatever was served, all folders and files have names, and no two in a folder have one name, so that lists are look-ups.
+pub fn served_scenes_are_sound()
+    ensures { ServedScenesAreSound }
+{}
+
 /// The size that is told of a file that reads show whole is the length of what it shows then, whatever was served.
 pub fn sizes_are_lengths()
     ensures { SizesAreLengths }
+{}
+
+/// What is computed of a step where no memory is refused is what it does, and so a shell's session is served: a write that is refused and one that isn't,
+/// what they leave in the files, and a reader that waits.
+pub fn examples_are_computed()
+    ensures steps { StepsAreComputed }
+    ensures sessions { SessionsAreServed }
 {}

@@ -1,3 +1,4 @@
 pub mod ServiceLemmas
 pub mod KnownBytes
 pub mod RecordLemmas
+pub mod ReaderLemmas

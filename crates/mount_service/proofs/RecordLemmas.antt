@@ -2,10 +2,12 @@
 use Rattle.std.proofs.Common.{◌≡◌, ℕ, ◌<◌, nat_lt, ◌&&◌, Bool, true, false, List, refl, sym, ap, subst, ◌∙◌, ltb-true}
 use Rattle.std.proofs.lemmas.Bool.{false≢true}
 use Rattle.history_laws.specs.AccountedFor.{EmissionsAreAccountedFor, EmissionsAreShownOrCounted, ShownCountsAccountForEmissions}
+use Rattle.history_laws.specs.RingTotals.{RingsAreAccountedFor, RingsCountEmissions}
 use Rattle.trace_command.specs.Paths as paths
 use Rattle.trace_command.specs.declared.file_name.CpuFile.TheVariants as per_cpu
 use Rattle.tracer_specification.specs.FileTexts.{cpu_stats_text}
 use Rattle.tracer_specification.specs.Settings.{now_of}
+use Rattle.tracer_specification.specs.Snapshots.{live_side}
 use Rattle.record_text.specs.StatsText.{stats_text}
 use Rattle.mount_tree.specs.Children.{is_there, owner_is_there}
 use Rattle.mount_tree.specs.declared.file.File.{File}
@@ -15,9 +17,13 @@ use Rattle.mount_service.specs.RecordLaws.{ServicesAreAccountedFor, StatsTellAll
 use Rattle.mount_replies.specs.PastLaws.{PastsAreDone, ReadsAnew, StatsShowThePast, instance_of, read_whole}
 use Rattle.mount_replies.specs.Services.{OpenSeen, Service, Terms, node_of, scene_of}
 
-pub accounted_for : EmissionsAreAccountedFor → EmissionsAreShownOrCounted → PastsAreDone → ServicesAreAccountedFor
-accounted_for all shown pasts g old new exchanges left after serving = record {
+pub accounted_for : RingsCountEmissions → RingsAreAccountedFor → EmissionsAreAccountedFor → EmissionsAreShownOrCounted → PastsAreDone → ServicesAreAccountedFor
+accounted_for counts accounts all shown pasts g old new exchanges left after serving = record {
   done = (pasts g _ _ after serving.served).done;
+  rings = λ instance side cpu within. record {
+    records = counts g.config after.past instance side cpu within;
+    handed_out = accounts g.config after.past instance side cpu within;
+  };
   records = λ instance cpu within unemptied. all g.config after.past instance cpu within unemptied;
   handed_out = λ instance cpu within unemptied. shown g.config after.past instance cpu within unemptied;
 }
@@ -40,10 +46,13 @@ stats-are : (g : Terms) (s : Service) (file : OpenSeen) (cpu : ℕ)
 unfolding cpu_stats_text
 stats-are g s file cpu = refl
 
-pub tell_all : ShownCountsAccountForEmissions → StatsShowThePast → StatsTellAllRecords
-tell_all shown stats g requests messages before after request bytes handle size read_flags flags cpu file ranges served is asks direct opened is_stats there unemptied unexchanged = (
+pub tell_all : RingsCountEmissions → ShownCountsAccountForEmissions → StatsShowThePast → StatsTellAllRecords
+tell_all counts shown stats g requests messages before after request bytes handle size read_flags flags cpu file ranges served is asks direct opened is_stats there = (
   live_stats g (instance_of g before file) cpu before.past,
   subst (λ (text : List ℕ). ReadsAnew g before (read_whole (instance_of g before file) (paths.OfCpu cpu per_cpu.Stats)) request.unique handle size text bytes after) (stats-are g before file cpu)
       (stats g requests messages before after request bytes handle size read_flags flags cpu file ranges served is asks direct opened is_stats there),
-  shown g.config before.past (instance_of g before file) cpu (cpu-there g before file cpu is_stats there) unemptied unexchanged,
+  (
+    counts g.config before.past (instance_of g before file) (live_side (instance_of g before file) before.past) cpu (cpu-there g before file cpu is_stats there),
+    shown g.config before.past (instance_of g before file) cpu (cpu-there g before file cpu is_stats there),
+  ),
 )

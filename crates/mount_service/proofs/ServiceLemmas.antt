@@ -2,17 +2,18 @@
 use Rattle.std.proofs.Common.{◌≡◌, ◌⊎◌, ℕ, Bool, true, false, ◌||◌, List, [], ◌∷◌, map, Option, Result, Err, refl, sym, ap, subst, ◌∙◌}
 use Rattle.std.proofs.lemmas.Bool.{false≢true}
 use Rattle.std.proofs.lemmas.List.Elements.{All-cons, All-nil}
-use Rattle.std.specs.List.{All}
+use Rattle.fuse_serve.proofs.CallLemmas.{no_call}
 use Rattle.fuse_serve.proofs.CutLemmas.{next_whole}
 use Rattle.fuse_serve.proofs.Serving.{served_none}
 use Rattle.fuse_serve.specs.Endings.{EndsAs}
-use Rattle.fuse_serve.specs.Exchanges.{AnswersAll, AreWhole, Devices, Exchange, HasServed, IsWritten, devices}
+use Rattle.fuse_serve.specs.Calls.{Call}
+use Rattle.fuse_serve.specs.Exchanges.{AnswersAll, AreDelivered, AreWhole, DeviceSeen, Exchange, HasServed, device_seen}
+use Rattle.fuse_serve.specs.Exchanges as service
 use Rattle.fuse_serve.specs.Framing.{IsRequest}
-use Rattle.fuse_serve.specs.declared.call_log.CallLog.{CallLog}
 use Rattle.fuse_serve.specs.declared.fault.Ended.{Ended}
 use Rattle.fuse_serve.specs.declared.fault.Fault.{Fault}
 use Rattle.fuse_serve.specs.declared.fault.Fault.TheVariants.{Memory}
-use Rattle.mount_service.specs.TracerServices.{HasBeenServed, IsServed, StopsAtDestroy, failure_of, has_destroy, is_destroy, owes_after}
+use Rattle.mount_service.specs.TracerServices.{AreServed, HasBeenServed, IsReadNext, IsServed, StopsAtDestroy, failure_of, has_destroy, is_destroy, owes_after}
 use Rattle.mount_service.specs.declared.mount_server.MountServer.{MountServer}
 use Rattle.mount_service.specs.private.MountServers.{Answers, IsTurn, destroyed_after}
 use Rattle.trace_command.specs.Requests.{Request}
@@ -33,7 +34,6 @@ pub record IsAnswered (g : Terms) (past : List Request) (before : MountServer) (
   pub last : Service
   pub served : Serves g (service_of past before.mount) (map (λ (one : Exchange). one.request) exchanges) (map (λ (one : Exchange). one.reply) exchanges) last
   pub whole : AreWhole exchanges
-  pub kept : All (λ (one : Exchange). IsWritten one.fate one.reply one.written) exchanges
   pub stops : StopsAtDestroy exchanges
   pub ends : before.is_destroyed ≡ false → after.is_destroyed ≡ has_destroy exchanges
   pub owes : after.mount.owes ≡ owes_after g last
@@ -75,77 +75,101 @@ answered g past before [] after mounted terms h = record {
   last = service_of past before.mount;
   served = refl;
   whole = All-nil (λ (one : Exchange). (one.request ≡ []) ⊎ IsRequest one.request);
-  kept = All-nil (λ (one : Exchange). IsWritten one.fate one.reply one.written);
   stops = tt;
   ends = λ begun. ap (λ (s : MountServer). s.is_destroyed) h ∙ begun;
   owes = ap (λ (s : MountServer). s.mount.owes) h ∙ (mounted.owes ∙ ap (λ (t : Terms). owes_after t (service_of past before.mount)) terms);
 }
 answered g past before (one ∷ more) after mounted terms h =
-    let next : MountServer = h.3 in
-    let turn = turned past before.mount next.mount one.request one.reply (h.4.called past mounted) in
-    let rest = answered g turn.after next more after turn.mounted (turn.terms ∙ terms) h.5 in
+    let next : MountServer = h.2 in
+    let turn = turned past before.mount next.mount one.request one.reply (h.3.called past mounted) in
+    let rest = answered g turn.after next more after turn.mounted (turn.terms ∙ terms) h.4 in
     let destroys : before.is_destroyed ≡ false → next.is_destroyed ≡ is_destroy one.request =
-    λ begun. h.4.destroyed ∙ destroyed_is before.is_destroyed one.request begun in record {
+    λ begun. h.3.destroyed ∙ destroyed_is before.is_destroyed one.request begun in record {
       last = rest.last;
       served = (service_of turn.after next.mount, subst (λ (t : Terms). IsExchanged t (service_of past before.mount) one.request one.reply (service_of turn.after next.mount)) terms turn.served, rest.served);
       whole = All-cons (λ (x : Exchange). (x.request ≡ []) ⊎ IsRequest x.request) one more (next_whole (owes before) one.request h.1) rest.whole;
-      kept = All-cons (λ (x : Exchange). IsWritten x.fate x.reply x.written) one more h.2 rest.kept;
-      stops = (λ destroyed. none_after next more after h.5 (destroys h.0 ∙ destroyed), rest.stops);
-      ends = λ begun. destroyed_by (is_destroy one.request) next more after h.5 (destroys begun) rest.ends;
+      stops = (λ destroyed. none_after next more after h.4 (destroys h.0 ∙ destroyed), rest.stops);
+      ends = λ begun. destroyed_by (is_destroy one.request) next more after h.4 (destroys begun) rest.ends;
       owes = rest.owes;
     }
 
--- what a service came to, from a tracer that was just mounted
-pub is_served : (g : Terms) (result : Result Ended Fault) (before after : MountServer) (old new : Devices) (exchanges : List Exchange) (left : List ℕ)
-    → IsMounted [] before.mount → terms_of before.mount ≡ g → before.mount.files ≡ [] → before.mount.parked ≡ [] → before.mount.errors ≡ [] → before.mount.counted ≡ []
-    → before.is_destroyed ≡ false
-    → HasServed Answers ends owes before after old new exchanges left → EndsAs result after.is_destroyed after.mount.owes old new exchanges left
-    → IsServed g result old new
-is_served g result before after old new exchanges left mounted terms closed unparked unrefused uncounted begun h ended =
-    let all = answered g [] before exchanges after mounted terms h.answered in
-    let first : service_of [] before.mount ≡ just_mounted = rw (closed, unparked, unrefused, uncounted) refl in (
-      exchanges,
-      left,
-      all.last,
-      record {
-        read = h.read;
-        whole = all.whole;
-        served = subst (λ (s : Service). Serves g s (map (λ (one : Exchange). one.request) exchanges) (map (λ (one : Exchange). one.reply) exchanges) all.last) first all.served;
-        stops = all.stops;
-        kept = all.kept;
-        written = h.written;
-        offered = h.offered;
-        first_whole = h.first_whole;
-        sent = h.sent;
-      },
-      subst (λ (b : Bool). EndsAs result (has_destroy exchanges) b old new exchanges left) all.owes
-          (subst (λ (b : Bool). EndsAs result b after.mount.owes old new exchanges left) (all.ends begun) ended),
-    )
+module _ (g : Terms) (before : MountServer) (mounted : IsMounted [] before.mount) (terms : terms_of before.mount ≡ g) (closed : before.mount.files ≡ []) (unparked : before.mount.parked ≡ [])
+    (unrefused : before.mount.errors ≡ []) (uncounted : before.mount.counted ≡ []) (begun : before.is_destroyed ≡ false) where
+  all_served : (exchanges : List Exchange) (after : MountServer) (h : AnswersAll Answers ends owes before exchanges after) → AreServed g exchanges (answered g [] before exchanges after mounted terms h).last
+  all_served exchanges after h =
+      let all = answered g [] before exchanges after mounted terms h in
+      let first : service_of [] before.mount ≡ just_mounted = rw (closed, unparked, unrefused, uncounted) refl in
+      subst (λ (s : Service). Serves g s (map (λ (one : Exchange). one.request) exchanges) (map (λ (one : Exchange). one.reply) exchanges) all.last) first all.served
+
+  -- where a read comes next
+  read_next : (calls : List Call) (exchanges : List Exchange) → service.IsReadNext Answers ends owes before calls exchanges → IsReadNext g calls exchanges
+  read_next calls exchanges h =
+      let all = answered g [] before h.done h.now mounted terms h.answered in record {
+        done = h.done;
+        later = h.later;
+        are = h.are;
+        left = h.left;
+        gave = h.gave;
+        none_left = h.none_left;
+        took = h.took;
+        now = all.last;
+        served = all_served h.done h.now h.answered;
+        nothing_owed = sym all.owes ∙ h.waiting.1;
+        mounted = sym (all.ends begun) ∙ h.waiting.0;
+      }
+
+  -- what a service came to, from a tracer that was just mounted
+  pub is_served : (result : Result Ended Fault) (after : MountServer) (old new : DeviceSeen) (calls : List Call) (exchanges : List Exchange) (left : List ℕ)
+      → HasServed Answers ends owes before after old new calls exchanges left → EndsAs result after.is_destroyed after.mount.owes new.remaining calls exchanges left
+      → IsServed g result old new
+  is_served result after old new calls exchanges left h ended =
+      let all = answered g [] before exchanges after mounted terms h.answered in (
+        exchanges,
+        left,
+        all.last,
+        record {
+          calls = calls;
+          made = h.made;
+          gave = h.gave;
+          whole = all.whole;
+          served = all_served exchanges after h.answered;
+          stops = all.stops;
+          took = h.took;
+          delivered = h.delivered;
+          in_order = λ earlier one later e is. read_next earlier exchanges (h.in_order earlier one later e is);
+          read = h.read;
+          written = h.written;
+        },
+        subst (λ (b : Bool). EndsAs result (has_destroy exchanges) b new.remaining calls exchanges left) all.owes
+            (subst (λ (b : Bool). EndsAs result b after.mount.owes new.remaining calls exchanges left) (all.ends begun) ended),
+      )
 
 -- where nothing was read or written
-pub never_begun : (g : Terms) (remaining : Option (List ℕ)) (reads : CallLog) (contents : Option (List ℕ)) (offers : Option (List (List ℕ))) (writes : CallLog)
-    → IsServed g (Err Memory) (devices remaining reads contents offers writes) (devices remaining reads contents offers writes)
-never_begun g remaining reads contents offers writes =
-    let h = served_none (λ (before : ℕ) (request : List ℕ) (after : ℕ) (reply : List ℕ). ⊥) (λ (server : ℕ). false) (λ (server : ℕ). false) 0 remaining contents offers reads writes in (
+pub never_begun : (g : Terms) (calls : List Call) (remaining contents : Option (List ℕ))
+    → IsServed g (Err Memory) (device_seen calls remaining contents) (device_seen calls remaining contents)
+never_begun g calls remaining contents =
+    let h = served_none (λ (before : ℕ) (request : List ℕ) (after : ℕ) (reply : List ℕ). ⊥) (λ (server : ℕ). false) (λ (server : ℕ). false) 0 calls remaining contents in (
       [],
       [],
       just_mounted,
       record {
-        read = h.read;
+        calls = [];
+        made = h.made;
+        gave = h.gave;
         whole = All-nil (λ (one : Exchange). (one.request ≡ []) ⊎ IsRequest one.request);
         served = refl;
         stops = tt;
-        kept = All-nil (λ (one : Exchange). IsWritten one.fate one.reply one.written);
+        took = h.took;
+        delivered = h.delivered;
+        in_order = λ earlier one later e is. absurd (no_call earlier one later e);
+        read = h.read;
         written = h.written;
-        offered = h.offered;
-        first_whole = h.first_whole;
-        sent = h.sent;
       },
       (refl, refl),
     )
 
 -- a tracer that can't be made
-pub not_made : (g : Terms) (refusal : Refusal) (remaining : Option (List ℕ)) (reads : CallLog) (contents : Option (List ℕ)) (offers : Option (List (List ℕ))) (writes : CallLog)
-    → HasBeenServed g (Err (failure_of refusal)) (devices remaining reads contents offers writes) (devices remaining reads contents offers writes)
-not_made g refusals.Memory remaining reads contents offers writes = never_begun g remaining reads contents offers writes
-not_made g _ remaining reads contents offers writes = tt
+pub not_made : (g : Terms) (refusal : Refusal) (calls : List Call) (remaining contents : Option (List ℕ))
+    → HasBeenServed g (Err (failure_of refusal)) (device_seen calls remaining contents) (device_seen calls remaining contents)
+not_made g refusals.Memory calls remaining contents = never_begun g calls remaining contents
+not_made g _ calls remaining contents = tt

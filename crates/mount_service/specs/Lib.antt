@@ -1,4 +1,5 @@
 pub mod TracerServices
 pub mod TracerLaws
 pub mod RecordLaws
+pub mod ReaderLaws
 pub mod private

@@ -1,12 +1,13 @@
--- What a service of a mounted tracer comes to: requests that were read, each with its reply as mount_replies defines it, what was told in between, as
--- the replies of reads that waited, and what was written.
-use Rattle.std.specs.Prelude.{◌≡◌, ℕ, ◌==◌, ◌&&◌, Bool, true, is_some, List, [], ◌∷◌, ◌++◌, length, drop, map, Result, Ok, Err, count_by}
+-- What a service of a mounted tracer comes to: its calls of the device, the requests that were read, each with its reply as mount_replies defines it,
+-- and what was told in between, as the replies of reads that waited.
+use Rattle.std.specs.Prelude.{◌≡◌, ℕ, ◌==◌, ◌&&◌, Bool, true, false, is_some, List, [], ◌∷◌, ◌++◌, length, drop, map, Result, Ok, Err}
 use Rattle.std.specs.Int.{w32, from_le_bytes}
 use Rattle.std.specs.Io.KnownBytes.{Appends, Consumes}
-use Rattle.std.specs.List.{All, flat_map, list_any}
-use Rattle.fuse_serve.specs.Counts.{HasRisenBy}
+use Rattle.std.specs.List.{list_any}
+use Rattle.fuse_serve.specs.Calls.{Call, given, is_read, taken, writes_in}
 use Rattle.fuse_serve.specs.Endings.{EndsAs}
-use Rattle.fuse_serve.specs.Exchanges.{AreOffers, AreWhole, Devices, Exchange, HasOffered, IsWritten, is_sent}
+use Rattle.fuse_serve.specs.Exchanges.{AreDelivered, AreWhole, DeviceSeen, Exchange, asked, writes_of}
+use Rattle.fuse_serve.specs.Framing.{BeginsNoRequest}
 use Rattle.fuse_serve.specs.declared.fault.Ended.{Ended}
 use Rattle.fuse_serve.specs.declared.fault.Fault.{Fault}
 use Rattle.fuse_serve.specs.declared.fault.Fault.TheVariants as faults
@@ -40,32 +41,53 @@ StopsAtDestroy (one ∷ more) = (is_destroy one.request ≡ true → more ≡ []
 abbrev pub has_destroy : List Exchange → Bool
 has_destroy exchanges = list_any (λ (one : Exchange). is_destroy one.request) exchanges
 
--- What was read are the requests of the exchanges that have one, one after another, each whole, and then some bytes that are left. The tracer, just
--- mounted, served the exchanges so: where one has no request, what was owed was told, all of it before the next request was answered. What was written
--- are the bytes of their replies that were written, one after another, each reply offered whole at first.
-pub record IsServing (g : Terms) (old new : Devices) (exchanges : List Exchange) (left : List ℕ) (after : Service) : Type 0 where
-  pub read : Consumes old.remaining new.remaining (flat_map (λ (one : Exchange). one.request) exchanges ++ left)
-  pub whole : AreWhole exchanges
-  pub served : Serves g just_mounted (map (λ (one : Exchange). one.request) exchanges) (map (λ (one : Exchange). one.reply) exchanges) after
-  pub stops : StopsAtDestroy exchanges
-  pub kept : All (λ (one : Exchange). IsWritten one.fate one.reply one.written) exchanges
-  pub written : Appends old.contents new.contents (flat_map (λ (one : Exchange). one.written) exchanges)
-  pub offered : HasOffered old.offers new.offers (flat_map (λ (one : Exchange). one.offers) exchanges)
-  pub first_whole : All (λ (one : Exchange). AreOffers one.reply one.offers) exchanges
-  pub sent : HasRisenBy (count_by (λ (one : Exchange). is_sent one.fate one.reply) exchanges) old.writes.wholes new.writes.wholes
-
 -- something is owed
 abbrev pub owes_after : Terms → Service → Bool
 owes_after g after = is_some (owed g after)
 
+-- the tracer, just mounted, served the exchanges so: where one has no request, what was owed was told, all of it before the next request was answered
+abbrev pub AreServed : Terms → List Exchange → Service → Type 0
+AreServed g exchanges after = Serves g just_mounted (map (λ (one : Exchange). one.request) exchanges) (map (λ (one : Exchange). one.reply) exchanges) after
+
+-- After these calls a read comes: all that was read before was served, but for bytes that begin no whole request, and all replies and all that was
+-- owed were written; nothing is owed then, and no DESTROY came.
+pub record IsReadNext (g : Terms) (calls : List Call) (exchanges : List Exchange) : Type 0 where
+  pub done : List Exchange
+  pub later : List Exchange
+  pub are : exchanges ≡ done ++ later
+  pub left : List ℕ
+  pub gave : given calls ≡ asked done ++ left
+  pub none_left : BeginsNoRequest left
+  pub took : writes_in calls ≡ writes_of done
+  pub now : Service
+  pub served : AreServed g done now
+  pub nothing_owed : owes_after g now ≡ false
+  pub mounted : has_destroy done ≡ false
+
+-- The device's calls were these: its reads gave the requests of the exchanges that have one, one after another, each whole, and then some bytes that are
+-- left; the tracer served the exchanges; and its writes were those of their replies, one after another. Each read came when all before it was served and
+-- written.
+pub record IsServing (g : Terms) (old new : DeviceSeen) (exchanges : List Exchange) (left : List ℕ) (after : Service) : Type 0 where
+  pub calls : List Call
+  pub made : new.calls ≡ old.calls ++ calls
+  pub gave : given calls ≡ asked exchanges ++ left
+  pub whole : AreWhole exchanges
+  pub served : AreServed g exchanges after
+  pub stops : StopsAtDestroy exchanges
+  pub took : writes_in calls ≡ writes_of exchanges
+  pub delivered : AreDelivered exchanges
+  pub in_order : (earlier : List Call) (one : Call) (later : List Call) → calls ≡ earlier ++ one ∷ later → is_read one.outcome ≡ true → IsReadNext g earlier exchanges
+  pub read : Consumes old.remaining new.remaining (given calls)
+  pub written : Appends old.contents new.contents (taken calls)
+
 -- there are such exchanges, and the service ended as it is said
-abbrev pub IsServed : Terms → Result Ended Fault → Devices → Devices → Type 0
+abbrev pub IsServed : Terms → Result Ended Fault → DeviceSeen → DeviceSeen → Type 0
 IsServed g result old new =
-    (exchanges : List Exchange) × (left : List ℕ) × (after : Service) × IsServing g old new exchanges left after
-    × EndsAs result (has_destroy exchanges) (owes_after g after) old new exchanges left
+    (exchanges : List Exchange) × (left : List ℕ) × (after : Service) × (serving : IsServing g old new exchanges left after)
+    × EndsAs result (has_destroy exchanges) (owes_after g after) new.remaining serving.calls exchanges left
 
 -- likewise, if it began
-abbrev pub HasBeenServed : Terms → Result Ended Failure → Devices → Devices → Type 0
+abbrev pub HasBeenServed : Terms → Result Ended Failure → DeviceSeen → DeviceSeen → Type 0
 HasBeenServed g (Ok ended) old new = IsServed g (Ok ended) old new
 HasBeenServed g (Err BadValue) old new = Unit {0}
 HasBeenServed g (Err (Stopped fault)) old new = IsServed g (Err fault) old new

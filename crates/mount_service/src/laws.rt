@@ -1,22 +1,41 @@
 //! What the definitions of a service mean. Each function does nothing: its contract is a theorem.
 
+ghost use Rattle.mount_service.specs.ReaderLaws.{ExchangesTakeForOne, NoRecordIsTakenTwice, TakenIsOfOneRead};
 ghost use Rattle.mount_service.specs.RecordLaws.{ServicesAreAccountedFor, StatsTellAllRecords};
-ghost use Rattle.mount_service.specs.TracerLaws.{KnownBytesAreServed};
+ghost use Rattle.mount_service.specs.TracerLaws.{CallsAreServed, KnownBytesAreServed};
 
-/// If a reader has whole requests to give, a service that found its end served exactly these, and wrote exactly the replies and what was owed unless a
-/// write failed.
+/// If what the reads of a device gave are whole requests, a service that found the end served exactly these, and its writes took exactly the replies and
+/// what was owed unless one failed by ENOENT. So it is of a device whose bytes are known.
 pub fn known_bytes_are_served()
-    ensures { KnownBytesAreServed }
+    ensures calls { CallsAreServed }
+    ensures bytes { KnownBytesAreServed }
 {}
 
-/// Whatever was served, the tracer's commands were done, one after another; and as long as nothing empties a ring of a CPU, the records that pipes
-/// handed out, that are kept, and that were overwritten or refused are together all that were recorded there. The counts that a `stats` file shows,
-/// when a program reads it from its beginning, and not the page cache for it, are together all that were recorded by then, until a snapshot is taken.
+/// Whatever was served, the tracer's commands were done, one after another; and of each ring, a CPU's of one side, the records that pipes handed out,
+/// that are kept, and that were overwritten or refused are together all that were recorded in it since it was new or emptied. As long as nothing
+/// empties a ring of a CPU, so it is of both sides together, from the making of the instance on. The counts that a `stats` file shows, when a program
+/// reads it from its beginning, and not the page cache for it, are together all that were recorded by then in the ring that is live.
 pub fn records_are_accounted_for()
     ensures services { ServicesAreAccountedFor }
     ensures stats { StatsTellAllRecords }
 {
+    history_laws::laws::rings_count_what_was_done();
     history_laws::laws::emissions_are_accounted_for();
     mount_replies::laws::pasts_are_done();
     mount_replies::laws::reads_show_the_past();
+}
+
+/// No record goes to two readers, whatever was served: of all records that reads of an instance's pipes took no two are one (`once`); what an
+/// exchange took for an open pipe is what one such read answered, the exchange's only command (`taken`); and it took it for one handle (`one`), whose
+/// reads give it in order, as `waiting_loses_nothing` of mount_replies says.
+///
+/// A record may yet be lost after it was taken: what is kept for an open file's reads when it is closed, what stood in a reply that the device
+/// dropped or cut, and what a reader was given that ended before it used it. Of what was overwritten or refused before, `stats` tells.
+pub fn no_record_goes_to_two_readers()
+    ensures once { NoRecordIsTakenTwice }
+    ensures taken { TakenIsOfOneRead }
+    ensures one { ExchangesTakeForOne }
+{
+    history_laws::laws::nothing_is_read_twice();
+    mount_replies::laws::pasts_are_done();
 }

@@ -3,4 +3,5 @@ pub mod EventWords
 pub mod ToolTexts
 pub mod ToolWrites
 pub mod WrongWords
+pub mod ToolExamples
 pub mod private

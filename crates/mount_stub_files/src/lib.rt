@@ -2,11 +2,13 @@
 #![tactic(auto)]
 
 mod config;
+mod laws;
 mod text;
 mod word;
 mod write;
 mod wrong;
 
+pub use laws::examples_are_computed;
 pub use text::text_of;
 pub use write::{ToolWrite, write_of};
 pub use wrong::{wrong_offset, wrong_words};

@@ -7,13 +7,14 @@ ghost use Rattle.trace_session.specs.Sessions.{IsWhole};
 ghost use Rattle.session_laws.specs.HeardSessions.{HasHeard, heard_in};
 
 use crate::heard_lines::{HeardLine, HeardLines};
-use script_reader::{Source, Told};
+use script_reader::{Input, Source, Told};
 use shared_book::SharedBook;
 use std::alloc::Global;
 use std::io;
 use std::snapshot::Snapshot;
 use std::sync::Wait;
 use std::thread::Threads;
+use trace_book::Book;
 use trace_command::Config;
 use trace_script::Outcome;
 use trace_session::{OpenGate, Sink, Status, run_session};
@@ -86,4 +87,19 @@ pub fn hear_session<B: SharedBook + Send, T: Threads + Wait + Sync, R: Source>(
     let mut listener = Listener::new();
     let status = run_session::<B, _, _, _, _>(rt, alloc, config, reader, &mut listener, &OpenGate);
     (status, listener)
+}
+
+/// As `hear_session`, of a script in memory and on a `Book`. So that function has callers: a book that it can run on, and a
+/// reader whose bytes are known. It waits for turns and threads, so it is not promised that it returns.
+pub fn hear_script<T: Threads + Wait + Sync>(
+    rt: &T,
+    alloc: Global,
+    config: Config,
+    script: &[u8],
+) -> (Status, Listener)
+    requires { IsInRange config }
+    ensures { IsWhole result.0 → HasHeard config script.now result.0 result.1.written.bytes (map heard_in result.1.heard.lines) }
+{
+    let mut reader = Input::new(script);
+    hear_session::<Book, _, _>(rt, alloc, config, &mut reader)
 }

@@ -1,10 +1,12 @@
 //! What a book has to be, so that callers can share it through a lock.
 
-ghost use Rattle.std.specs.Prelude.{◌≡◌, ◌<◌, [], ◌∷◌, ◌++◌, All, Err, IfOk, IfErr, OnOk, OnErr};
+ghost use Rattle.std.specs.Prelude.{◌≡◌, ◌≢◌, ◌<◌, [], ◌∷◌, ◌++◌, All, Err, IfOk, IfErr, OnOk, OnErr};
+ghost use Rattle.trace_command.specs.Configs.{IsInRange};
 ghost use Rattle.trace_command.specs.Refusals.{OrMemory, IsFoundEarly};
 ghost use Rattle.trace_command.specs.Requests.{request_of};
 ghost use Rattle.trace_command.specs.declared.command.Config.{Config};
 ghost use Rattle.trace_command.specs.declared.command.Entry.{Entry};
+ghost use Rattle.trace_command.specs.declared.refusal.Refusal.TheVariants as refusal;
 ghost use Rattle.tracer_specification.specs.History.{answer_to, IsLegal};
 ghost use Rattle.tracer_specification.specs.LateMemory.{TakesMemoryLate};
 ghost use Rattle.shared_book.specs.Asks.{caller_of};
@@ -20,9 +22,10 @@ pub trait SharedBook: Logged<Entry = Entry> + Drop + Sized {
     // The configuration that it was made with.
     ghost made_with: { Self → Config };
 
-    /// A book with no history.
+    /// A book with no history. Refused only if a number of the configuration is out of range, or with `Memory`.
     fn start(alloc: Global, config: Config) -> Result<Self, Refusal>
-        ensures { IfOk result (λ book. (made_with book ≡ config) × (Self.entries book ≡ [])) };
+        ensures made { IfOk result (λ book. (made_with book ≡ config) × (Self.entries book ≡ [])) }
+        ensures refused { IfErr result (λ r. r ≢ refusal.Memory → ¬ IsInRange config) };
 
     /// Runs a command, or refuses it. The answer is the one that the history gives. A command that is done becomes the history's next entry, under
     /// this ticket and caller's number; a refused one changes nothing. The history stays legal. If an allocation is refused, `Memory` may replace the

@@ -9,8 +9,8 @@ use Rattle.trace_snapshot.specs.Sides.{SidesSeen}
 use Rattle.trace_instance.specs.Changes.{changed_filter, changed_filters}
 use Rattle.trace_instance.specs.Deliveries.{counted_down}
 use Rattle.trace_instance.specs.Instances.{InstanceSeen}
-use Rattle.trace_instance.specs.private.EventLists.{all_enabled, all_filters, all_hists, all_triggers, with_filters}
-use Rattle.trace_instance.specs.private.TriggerLists.{TriggersSeen}
+use Rattle.trace_instance.specs.EventLists.{all_enabled, all_filters, all_hists, all_triggers, with_filters}
+use Rattle.trace_instance.specs.TriggerLists.{TriggersSeen}
 use Rattle.trace_instance.specs.declared.change.FilterChange.{FilterChange}
 use Rattle.trace_instance.specs.declared.event.InstanceEvent.{InstanceEvent}
 use Rattle.trace_instance.specs.declared.instance.Instance.TheInside.{Inside}

@@ -26,7 +26,7 @@ use Rattle.tracer_specification.specs.Settings.{declared_events, event_named, fi
 use Rattle.record_text.specs.FormatText.{format_text}
 use Rattle.trace_instance.specs.FileAnswers.{IsSource}
 use Rattle.trace_instance.specs.private.Commands.{shown_attached, shown_filter, shown_of, shown_with}
-use Rattle.trace_instance.specs.private.TriggerLists.{in_order}
+use Rattle.trace_instance.specs.TriggerLists.{in_order}
 use Rattle.trace_instance.specs.Instances.{HasShape, kept_as, kept_trigger}
 use Rattle.trace_instance.specs.KeptHists.{KeptTable, TableStandsFor, attached_as, kept_hists}
 use Rattle.trace_instance.specs.Files.{name_at}

@@ -12,9 +12,9 @@ use Rattle.trace_instance.specs.Changes.{IsApplied, hists_changed, sides_changed
 use Rattle.trace_instance.specs.Instances.{InstanceSeen, IsAlike, IsShaped, WereOffered}
 use Rattle.trace_instance.specs.KeptHists.{AreHit, KeptTable, asked, asked_if, is_used, kept_at, kept_table}
 use Rattle.trace_instance.specs.Deliveries.{IsOffered, row_of}
-use Rattle.trace_instance.specs.private.EventLists.{all_hists, all_triggers}
+use Rattle.trace_instance.specs.EventLists.{all_hists, all_triggers}
 use Rattle.trace_instance.specs.private.Tables.{AreSet}
-use Rattle.trace_instance.specs.private.TriggerLists.{TriggersSeen}
+use Rattle.trace_instance.specs.TriggerLists.{TriggersSeen}
 use Rattle.trace_instance.specs.declared.change.Delivery.{Delivery}
 use Rattle.trace_instance.specs.declared.change.InstanceChange.TheVariants.{Triggers}
 use Rattle.trace_instance.specs.declared.change.TriggerChange.{TriggerChange}

@@ -15,6 +15,7 @@ use Rattle.trace_trigger.specs.declared.trigger.TriggerText.TheVariants as said
 use Rattle.trace_command.specs.Refusals.{refusal_of_trigger}
 use Rattle.trace_command.specs.declared.refusal.Refusal.TheVariants.{Memory}
 use Rattle.tracer_specification.proofs.SaidHists.{snapshot-no_hist}
+use Rattle.trace_instance.specs.MemoryTaken.{attaches_none}
 
 -- a fault that is not out of memory becomes no such refusal
 pub other-fault : (faulty : TriggerFault) → faulty ≢ fault.Memory → refusal_of_trigger faulty ≢ Memory
@@ -59,6 +60,35 @@ removed-begins definition text spec e =
     blank false false is true also body h = rw (is, also) refl
     blank false false is false also None h = absurd (attached (trigger_of definition text text) h)
     blank false false is false also (Some body) h = absurd (removed (trigger_of definition text body) h)
+
+-- a string that attaches no trigger doesn't say one for snapshots
+pub attaches-begins : (definition : Definition) (text : List ℕ) (trigger : SnapshotTrigger) → said_of definition text ≡ Ok (said.Attach trigger)
+    → attaches_none text ≡ true → ⊥
+unfolding said_of snapshot_said
+attaches-begins definition text trigger e none =
+    blank (list_all is_blank text) (begins (codes "hist:") text) (begins (codes "!hist:") text) (after (codes "!") text) e none
+  where
+    hist : (read : Result SpecSeen TriggerFault) → (read >>= λ s. Ok (said.Hist s)) ≡ Ok (said.Attach trigger) → ⊥
+    hist (Ok s) h = cc
+    hist (Err f) h = cc
+
+    removed_hist : (read : Result SpecSeen TriggerFault) → (read >>= λ s. Ok (said.RemoveHist s)) ≡ Ok (said.Attach trigger) → ⊥
+    removed_hist (Ok s) h = cc
+    removed_hist (Err f) h = cc
+
+    removed : (read : Result SnapshotTrigger TriggerFault) → (read >>= λ t. Ok said.Remove) ≡ Ok (said.Attach trigger) → ⊥
+    removed (Ok t) h = cc
+    removed (Err f) h = cc
+
+    blank : (nothing one two : Bool) (body : Option (List ℕ))
+        → (if nothing then Ok said.Nothing
+        else if one then (spec_of definition text >>= λ s. Ok (said.Hist s)) else if two then (spec_of definition text >>= λ s. Ok (said.RemoveHist s)) else said_after definition text body) ≡ Ok (said.Attach trigger)
+        → (nothing || is_some body) ≡ true → ⊥
+    blank true one two body h n = cc
+    blank false true two body h n = hist (spec_of definition text) h
+    blank false false true body h n = removed_hist (spec_of definition text) h
+    blank false false false None h n = cc
+    blank false false false (Some body) h n = removed (trigger_of definition text body) h
 
 -- a string that begins so begins with these bytes
 begun : (beginning text : List ℕ) → begins beginning text ≡ true → take (length beginning) text ≡ beginning

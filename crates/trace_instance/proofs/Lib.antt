@@ -28,3 +28,4 @@ pub mod Effects
 pub mod Filtering
 pub mod UsableInstance
 pub mod TriggerLists
+pub mod TakingNone

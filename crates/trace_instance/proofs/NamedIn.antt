@@ -7,7 +7,7 @@ use Rattle.std.proofs.lemmas.List.{get_or-set_other, get_or-set_same, length-map
 use Rattle.std.proofs.lemmas.List.Folds.{find-append}
 use Rattle.trace_trigger.specs.HistSpecs.{SpecSeen}
 use Rattle.trace_instance.specs.private.SharedTables.{left_of, named_in, names_table_of}
-use Rattle.trace_instance.specs.private.EventLists.{all_hists}
+use Rattle.trace_instance.specs.EventLists.{all_hists}
 use Rattle.trace_instance.specs.declared.attach.EventTriggers.{EventTriggers}
 use Rattle.trace_instance.specs.declared.event.InstanceEvent.{InstanceEvent}
 use Rattle.trace_instance.specs.declared.hists.AttachedHist.{AttachedHist}

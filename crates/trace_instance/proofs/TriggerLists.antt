@@ -11,7 +11,7 @@ use Rattle.trace_instance.specs.Changes.{IsNewest}
 use Rattle.trace_instance.specs.Deliveries.{counted_down}
 use Rattle.trace_instance.specs.FileAnswers.{AreThere}
 use Rattle.trace_instance.specs.private.Commands.{shown_attached, shown_of}
-use Rattle.trace_instance.specs.private.TriggerLists.{HasTable, IsOnly, counted, hist_of, hists_in, in_order, is_hist, is_snapshot, number_of, snapshot_in, snapshot_of, with_snapshot}
+use Rattle.trace_instance.specs.TriggerLists.{HasTable, IsOnly, counted, hist_of, hists_in, in_order, is_hist, is_snapshot, number_of, snapshot_in, snapshot_of, with_snapshot}
 use Rattle.trace_instance.specs.declared.hists.AttachedHist.{AttachedHist}
 use Rattle.trace_instance.specs.declared.tables.Table.{Table}
 use Rattle.trace_instance.specs.declared.trigger.EventTrigger.{EventTrigger}

@@ -32,7 +32,7 @@ use Rattle.trace_instance.specs.FileAnswers.{IsWriteChange}
 use Rattle.trace_instance.specs.Files.{name_at}
 use Rattle.trace_instance.specs.Instances.{InstanceSeen, InstanceStandsFor, IsSpared, TablesFit, kept_as, kept_trigger, side_families}
 use Rattle.trace_instance.specs.KeptHists.{attached_as, kept_hists}
-use Rattle.trace_instance.specs.private.EventLists.{all_hists}
+use Rattle.trace_instance.specs.EventLists.{all_hists}
 use Rattle.trace_instance.specs.declared.attach.EventTriggers.{EventTriggers}
 use Rattle.trace_instance.specs.declared.change.InstanceChange.TheVariants.{Triggers}
 use Rattle.trace_instance.specs.declared.change.TriggerChange.{TriggerChange}

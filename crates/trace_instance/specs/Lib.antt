@@ -1,9 +1,12 @@
 pub mod KeptHists
 pub mod Instances
 pub mod Changes
+pub mod MemoryTaken
 pub mod Plans
 pub mod Rows
 pub mod Deliveries
 pub mod Files
 pub mod FileAnswers
+pub mod TriggerLists
+pub mod EventLists
 pub mod private

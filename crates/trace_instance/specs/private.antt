@@ -3,5 +3,3 @@ pub mod Attaching
 pub mod Commands
 pub mod Tables
 pub mod SharedTables
-pub mod TriggerLists
-pub mod EventLists

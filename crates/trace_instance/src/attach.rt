@@ -1,10 +1,11 @@
 //! Trigger strings: the change that a string written to an event's `trigger` file makes (events.rst, "Event triggers"; histogram.rst, "hist
 //! triggers").
 
-ghost use Rattle.std.specs.Prelude.{◌≡◌, ◌≢◌, ◌<◌, ◌≤◌, false, [], length, slice_index_or, None, Ok, option_copied, OnOk, IfErr};
+ghost use Rattle.std.specs.Prelude.{◌≡◌, ◌≢◌, ◌<◌, ◌≤◌, true, false, [], length, slice_index_or, None, Ok, option_copied, OnOk, IfOk, IfErr};
 ghost use Rattle.trace_trigger.specs.TriggerTexts.{HasFilter, is_hist_text, said_of};
+ghost use Rattle.trace_instance.specs.MemoryTaken.{TriggersTakeMemory, attaches_none};
 ghost use Rattle.trace_instance.specs.private.Attaching as attaching;
-ghost use Rattle.trace_instance.specs.private.EventLists.{all_hists};
+ghost use Rattle.trace_instance.specs.EventLists.{all_hists};
 ghost use Rattle.trace_instance.specs.private.SharedTables as sharing;
 ghost use Rattle.trace_trigger.specs.declared.trigger.TriggerText.TheVariants as said;
 
@@ -55,6 +56,8 @@ impl<'a> EventTriggers<'a> {
         ensures change { attaching.IsChangeOf event.now self.entry written.entry result }
         ensures memory { (HasFilter written.entry.text.now → ⊥) → is_hist_text written.entry.text.now ≡ false
             → IfErr result (λ r. r ≢ Refusal.Memory) }
+        ensures takes_none { is_hist_text written.entry.text.now ≡ false → attaches_none written.entry.text.now ≡ true
+            → IfOk result (λ change. TriggersTakeMemory change → ⊥) }
     {
         match TriggerText::parse(alloc, written.text, event)? {
             TriggerText::Nothing => Ok(TriggerChange::Keep),

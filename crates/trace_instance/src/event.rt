@@ -4,7 +4,7 @@ ghost use Rattle.std.specs.Prelude.{◌≡◌, ◌&&◌, false, not, None, is_so
 ghost use Rattle.std.specs.List.{list_all, list_any};
 ghost use Rattle.trace_instance.specs.KeptHists.{uses_table};
 ghost use Rattle.trace_instance.specs.Rows.{kept_acts, kept_holds};
-ghost use Rattle.trace_instance.specs.private.EventLists.{with_filters};
+ghost use Rattle.trace_instance.specs.EventLists.{with_filters};
 ghost use Rattle.trace_instance.specs.declared.event.InstanceEvent.{InstanceEvent as Kept};
 
 use crate::change::FilterChange;

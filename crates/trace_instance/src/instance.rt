@@ -10,7 +10,8 @@ ghost use Rattle.trace_buffer.specs.Families.{cpu_stats};
 ghost use Rattle.trace_snapshot.specs.Sides.{IsNewSide};
 ghost use Rattle.trace_instance.specs.Changes as changes;
 ghost use Rattle.trace_instance.specs.Changes.{with_event};
-ghost use Rattle.trace_instance.specs.private.EventLists as lists;
+ghost use Rattle.trace_instance.specs.EventLists as lists;
+ghost use Rattle.trace_instance.specs.MemoryTaken.{TakesMemory, TriggersTakeMemory};
 ghost use Rattle.trace_instance.specs.private.Tables.{AreSet};
 ghost use Rattle.trace_instance.specs.declared.change.TriggerChange.TheVariants as attaching;
 
@@ -46,7 +47,7 @@ pub struct Instance {
 impl Model for Instance {
     ghost use Rattle.std.specs.Prelude.{◌≤◌, vec_len, vec_capacity};
     ghost use Rattle.trace_instance.specs.Instances.{InstanceSeen};
-    ghost use Rattle.trace_instance.specs.private.EventLists.{all_enabled, all_filters, all_hists, all_triggers};
+    ghost use Rattle.trace_instance.specs.EventLists.{all_enabled, all_filters, all_hists, all_triggers};
 
     ghost Value = { InstanceSeen };
 
@@ -199,11 +200,12 @@ impl Instance {
         self.events.push_reserved(InstanceEvent::new(self.alloc));
     }
 
-    /// Applies a change. Fails only if memory for a spare side or a trigger is refused, and then changes nothing.
+    /// Applies a change. Fails only if memory is refused for a spare side, where there is none, or for a trigger, and then changes nothing.
     pub fn apply(&mut self, change: InstanceChange) -> Result<(), AllocError>
         requires { changes.IsLawful self.old change }
         ensures applied { OnOk result (changes.IsApplied change self.old self.new) }
         ensures refused { OnErr result (self.new ≡ self.old) }
+        ensures memory { OnErr result (TakesMemory self.old change) }
     {
         match change {
             InstanceChange::Keep => {}
@@ -281,6 +283,7 @@ impl Instance {
         requires possible { changes.IsPossible change (slice_index_or self.old.triggers event None) (if append then slice_index_or self.old.hists event [] else []) }
         ensures applied { OnOk result (AreSet event append change self.old self.new) }
         ensures refused { OnErr result (self.new ≡ self.old) }
+        ensures memory { OnErr result (TriggersTakeMemory change) }
     {
         match change {
             TriggerChange::Keep => self.events[event].triggers.keep(append),

@@ -16,7 +16,7 @@ ghost use Rattle.trace_text.specs.TriggerText.{trigger_text as trigger_text_of};
 ghost use Rattle.trace_text.specs.HistText.{hist_text as hist_text_of};
 ghost use Rattle.trace_instance.specs.FileAnswers.{AreThere, HasAll, IsRead, IsReadable, IsSource};
 ghost use Rattle.trace_instance.specs.private.Commands.{shown_attached, shown_of};
-ghost use Rattle.trace_instance.specs.private.TriggerLists.{in_order};
+ghost use Rattle.trace_instance.specs.TriggerLists.{in_order};
 ghost use Rattle.trace_instance.specs.Files.{IsThere, file_at, name_at};
 
 use crate::change::InstanceChange;

@@ -5,7 +5,7 @@ ghost use Rattle.std.specs.List.{filter};
 ghost use Rattle.trace_hist.specs.Hists.{HasRoom, IsReservedAs};
 ghost use Rattle.trace_instance.specs.KeptHists as kept;
 ghost use Rattle.trace_instance.specs.KeptHists.{table_numbered, kept_at};
-ghost use Rattle.trace_instance.specs.private.EventLists.{all_hists};
+ghost use Rattle.trace_instance.specs.EventLists.{all_hists};
 ghost use Rattle.trace_instance.specs.private.Tables as steps;
 ghost use Rattle.trace_instance.specs.declared.tables.Table.{Table as TableSeen};
 

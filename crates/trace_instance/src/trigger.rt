@@ -6,7 +6,7 @@ ghost use Rattle.tracer_specification.specs.Triggers as triggers;
 ghost use Rattle.trace_instance.specs.Rows.{kept_acts, kept_holds};
 ghost use Rattle.trace_instance.specs.Deliveries.{acted_once};
 ghost use Rattle.trace_instance.specs.private.Commands.{shown_kept, shown_of};
-ghost use Rattle.trace_instance.specs.private.TriggerLists as lists;
+ghost use Rattle.trace_instance.specs.TriggerLists as lists;
 ghost use Rattle.trace_text.specs.ShownTriggers.{shown_trigger};
 
 use crate::hists::AttachedHist;

@@ -9,7 +9,7 @@ ghost use Rattle.trace_instance.specs.KeptHists as kept;
 ghost use Rattle.trace_instance.specs.KeptHists.{kept_at};
 ghost use Rattle.trace_instance.specs.private.Commands.{shown_attached, shown_of};
 ghost use Rattle.trace_instance.specs.private.SharedTables as sharing;
-ghost use Rattle.trace_instance.specs.private.TriggerLists as lists;
+ghost use Rattle.trace_instance.specs.TriggerLists as lists;
 ghost use Rattle.trace_text.specs.HistText.{hist_text};
 ghost use Rattle.trace_text.specs.ShownTriggers.{shown_trigger};
 
@@ -31,7 +31,7 @@ pub(crate) struct TriggerList {
 
 impl Model for TriggerList {
     ghost use Rattle.std.specs.Prelude.{◌≡◌, ◌≤◌, ◌-◌, length, vec_len, vec_capacity};
-    ghost use Rattle.trace_instance.specs.private.TriggerLists.{TriggersSeen, hists_in, in_order, snapshot_in};
+    ghost use Rattle.trace_instance.specs.TriggerLists.{TriggersSeen, hists_in, in_order, snapshot_in};
 
     ghost Value = { TriggersSeen };
 

@@ -1,6 +1,6 @@
 //! Writes to the files of an instance.
 
-ghost use Rattle.std.specs.Prelude.{◌≡◌, ◌≢◌, ℕ, ◌≤◌, ◌<◌, Bool, List, [], length, map, Option, Some, None, true, IfOk, IfErr, OnOk, Ok};
+ghost use Rattle.std.specs.Prelude.{◌≡◌, ◌≢◌, ℕ, ◌≤◌, ◌<◌, Bool, List, [], length, map, Option, Some, None, is_some, true, IfOk, IfErr, OnOk, Ok};
 ghost use Rattle.std.specs.List.{list_any};
 ghost use Rattle.trace_format.specs.Catalogs.{AreEvents};
 ghost use Rattle.trace_command.specs.Paths as paths;
@@ -17,7 +17,8 @@ ghost use Rattle.trace_instance.specs.Changes.{change_of, is_set};
 ghost use Rattle.trace_instance.specs.FileAnswers.{IsWriteChange};
 ghost use Rattle.trace_instance.specs.private.Commands.{IsWrittenFilter};
 ghost use Rattle.trace_instance.specs.Files.{HasEvent, IsThere, file_at, name_at};
-ghost use Rattle.trace_instance.specs.Instances.{InstanceStandsFor};
+ghost use Rattle.trace_instance.specs.Instances.{InstanceSeen, InstanceStandsFor};
+ghost use Rattle.trace_instance.specs.MemoryTaken.{TakesMemory, WriteTakesNoMemory};
 
 use crate::attach::EventTriggers;
 use crate::change::{FilterChange, InstanceChange};
@@ -53,6 +54,8 @@ pub fn written_change(
         → InstanceStandsFor g name past instance.now
         → IsThere g.cpus catalog.now file → IsWriteChange g name past written.entry.append written.entry.text.now (file_at catalog.now file) result }
     ensures memory { WriteTakesMemoryLate (file_at catalog.now file) written.entry.text.now → IfErr result (λ r. r ≢ Refusal.Memory) }
+    ensures takes_none { WriteTakesNoMemory (is_some instance.now.sides.spare) (file_at catalog.now file) written.entry.text.now
+        → IfOk result (λ change. TakesMemory instance.now change → ⊥) }
 {
     match file {
         File::OfInstance(file) => change_of_instance(alloc, catalog, instance, file, written),
@@ -76,6 +79,8 @@ fn change_of_instance(
         → InstanceStandsFor g name past instance.now
         → IsWriteChange g name past written.entry.append written.entry.text.now (paths.OfInstance file) result }
     ensures memory { WriteTakesMemoryLate (paths.OfInstance file) written.entry.text.now → IfErr result (λ r. r ≢ Refusal.Memory) }
+    ensures takes_none { WriteTakesNoMemory (is_some instance.now.sides.spare) (paths.OfInstance file) written.entry.text.now
+        → IfOk result (λ change. TakesMemory instance.now change → ⊥) }
 {
     let WrittenText { text, append, .. } = written;
     match file {
@@ -114,6 +119,7 @@ fn change_of_cpu(cpu: u32, file: CpuFile, append: bool) -> Result<InstanceChange
     ensures change { (g : Config) (name : Option (List ℕ)) (past : List Request) (text : List ℕ) → cpu < g.cpus
         → IsWriteChange g name past append text (paths.OfCpu cpu file) result }
     ensures memory { IfErr result (λ r. r ≢ Refusal.Memory) }
+    ensures takes_none { (i : InstanceSeen) → IfOk result (λ change. TakesMemory i change → ⊥) }
 {
     match file {
         CpuFile::Trace => {
@@ -144,6 +150,8 @@ fn change_of_event(
         → InstanceStandsFor g name past instance.now
         → IsWriteChange g name past written.entry.append written.entry.text.now (paths.OfEvent (name_at catalog.now event) file) result }
     ensures memory { WriteTakesMemoryLate (paths.OfEvent (name_at catalog.now event) file) written.entry.text.now → IfErr result (λ r. r ≢ Refusal.Memory) }
+    ensures takes_none { (spare : Bool) → WriteTakesNoMemory spare (paths.OfEvent (name_at catalog.now event) file) written.entry.text.now
+        → IfOk result (λ change. TakesMemory instance.now change → ⊥) }
 {
     let WrittenText { text, append, .. } = written;
     match file {
@@ -171,6 +179,8 @@ fn written_snapshot(instance: &Instance, text: &[u8]) -> Result<InstanceChange, 
     ensures change { (g : Config) (name : Option (List ℕ)) (past : List Request) (append : Bool) → InstanceStandsFor g name past instance.now
         → IsWriteChange g name past append text.now (paths.OfInstance top.Snapshot) result }
     ensures memory { IfErr result (λ r. r ≢ Refusal.Memory) }
+    ensures takes_none { WriteTakesNoMemory (is_some instance.now.sides.spare) (paths.OfInstance top.Snapshot) text.now
+        → IfOk result (λ change. TakesMemory instance.now change → ⊥) }
 {
     match written_number(text) {
         None => Err(Refusal::BadValue),
@@ -241,6 +251,7 @@ fn written_filters(alloc: Global, catalog: &Catalog, text: &[u8]) -> Result<Inst
     ensures change { (g : Config) (name : Option (List ℕ)) (past : List Request) (append : Bool) → catalog.now ≡ declared_events past → AreEvents [] catalog.now
         → IsWriteChange g name past append text.now (paths.OfInstance top.EventsFilter) result }
     ensures memory { settings.clears_filter text.now ≡ true → IfErr result (λ r. r ≢ Refusal.Memory) }
+    ensures takes_none { (i : InstanceSeen) → IfOk result (λ change. TakesMemory i change → ⊥) }
 {
     if catalog.is_empty() {
         return Err(Refusal::NoSuchEvent);

@@ -25,7 +25,7 @@ use std::alloc::Global;
 use std::sync::Wait;
 use std::thread::Threads;
 use ticket_lock::{Pass, TicketLock};
-use trace_command::Config;
+use trace_command::{Config, Refusal};
 use trace_workers::Gate;
 
 /// The status after one more item, which is no fault.
@@ -169,9 +169,11 @@ fn new_book<B: SharedBook>(alloc: Global, config: Config) -> Result<(TicketLock<
     ensures device { IsErrOf result Stop.Device → ⊥ }
     ensures stopped { IsErrOf result Stop.Stopped → ⊥ }
 {
-    // The configuration is in range, so a book is refused only if out of memory.
-    let Ok(book) = B::start(alloc, config) else {
-        return Err(Stop::Memory);
+    let book = match B::start(alloc, config) {
+        Ok(book) => book,
+        Err(Refusal::Memory) => return Err(Stop::Memory),
+        // The configuration is in range.
+        Err(_) => unreachable!(),
     };
     let made = TicketLock::starting_at(alloc, 0, book)?;
     Ok(made)

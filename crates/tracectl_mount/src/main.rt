@@ -5,7 +5,7 @@ mod help;
 mod stop;
 mod words;
 
-use fuse_serve::Logged;
+use fuse_serve::Joined;
 use mount_service::{Owners, serve_tracer};
 use std::process::ExitCode;
 use stop::{Stop, tell};
@@ -20,14 +20,13 @@ fn run(rt: &HostRuntime) -> Result<(), Stop> {
         gid,
         mode,
     } = Words::read(rt, &words)?;
-    let mut reader = Logged::new(rt.stdin());
-    let mut writer = Logged::new(rt.stdout());
+    let mut device = Joined::new(rt.stdin(), rt.stdout());
     let owners = Owners {
         uid,
         gid,
         mode: mode as u16,
     };
-    match serve_tracer(rt.alloc(), config, owners, &mut reader, &mut writer) {
+    match serve_tracer(rt.alloc(), config, owners, &mut device) {
         Ok(_) => Ok(()),
         Err(failure) => Err(Stop::Failed(failure)),
     }

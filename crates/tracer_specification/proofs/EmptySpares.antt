@@ -8,11 +8,10 @@ use Rattle.trace_format.specs.Definitions.{Definition}
 use Rattle.trace_format.specs.Cells.{Cells}
 use Rattle.trace_format.specs.Rows.{row_of}
 use Rattle.trace_command.specs.Paths.{OfInstance}
-use Rattle.trace_command.specs.Requests.{Request, Emission, MakeInstance, WriteFile, request_of}
+use Rattle.trace_command.specs.Requests.{Request, Emission, MakeInstance, WriteFile}
 use Rattle.trace_command.specs.declared.command.Config.{Config}
 use Rattle.trace_command.specs.declared.file_name.TopFile.TheVariants as top
 use Rattle.tracer_specification.specs.Emissions.{Emitted, emitted, emitted_event, emitted_row}
-use Rattle.tracer_specification.specs.History.{requests_of}
 use Rattle.tracer_specification.specs.Laws.{SparesBeginEmpty}
 use Rattle.tracer_specification.specs.Rings.{new_rings, spare_after, other_rings}
 use Rattle.tracer_specification.specs.Settings.{NumberedEvent, is_same, makes, set_by, event_named, now_of}
@@ -121,8 +120,8 @@ acting-has_trigger instance past (Emission name cpu pid pairs) is = by (event_na
 acting-has_trigger instance past _ is = absurd (false≢true is)
 
 pub spares_begin_empty : SparesBeginEmpty
-spares_begin_empty g [] instance legal without = refl
-spares_begin_empty g (entry ∷ entries) instance legal without =
-    empty-after g instance (requests_of entries) (request_of entry.command)
-    (λ acting. triggers_have_their_spare g entries instance legal.3 (acting-has_trigger instance (requests_of entries) (request_of entry.command) acting))
-    (spares_begin_empty g entries instance legal.3) without
+spares_begin_empty g [] instance done without = refl
+spares_begin_empty g (request ∷ past) instance done without =
+    empty-after g instance past request
+    (λ acting. triggers_have_their_spare g past instance done.1 (acting-has_trigger instance past request acting))
+    (spares_begin_empty g past instance done.1) without

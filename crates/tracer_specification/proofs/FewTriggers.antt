@@ -21,7 +21,7 @@ use Rattle.trace_command.specs.declared.command.Config.{Config}
 use Rattle.trace_command.specs.declared.command.Reply.{Reply}
 use Rattle.trace_command.specs.declared.refusal.Refusal.{Refusal}
 use Rattle.trace_command.specs.declared.file_name.EventFile.TheVariants as per_event
-use Rattle.tracer_specification.specs.History.{answer_with_room, fitting_answer, missing_event, unless_refused, named_trigger_answer, trigger_answer, said_answer, new_hist_answer, room_answer, trigger_count, requests_of}
+use Rattle.tracer_specification.specs.History.{answer_with_room, fitting_answer, missing_event, unless_refused, named_trigger_answer, trigger_answer, said_answer, new_hist_answer, room_answer, trigger_count}
 use Rattle.tracer_specification.specs.HistTriggers.{HistTrigger, Written, fits_that, has_same, hist_triggers, hists_of, kept_by, left_by, named_by, new_hist, says_same, written_to}
 use Rattle.tracer_specification.specs.Laws.{AtMostFourTriggers}
 use Rattle.tracer_specification.specs.Pasts.{AreDone}
@@ -29,7 +29,7 @@ use Rattle.tracer_specification.specs.Settings.{NumberedEvent, is_same, makes, e
 use Rattle.tracer_specification.specs.Triggers.{Trigger, written_trigger, trigger_of}
 use Rattle.tracer_specification.proofs.EventHists.{hists_of-after, hists_of-made, own_after, own_said}
 use Rattle.tracer_specification.proofs.Events.{named_in-fewer, index_of_id}
-use Rattle.tracer_specification.proofs.LegalEvents.{done-legal, asked-done, named_in-more, named-is_numbered}
+use Rattle.tracer_specification.proofs.LegalEvents.{asked-done, named_in-more, named-is_numbered}
 use Rattle.tracer_specification.proofs.OwnFiles.{OwnWritten, as_written, own-declared, own-none, own_written, trigger_after, trigger_of-after}
 use Rattle.tracer_specification.proofs.Spares.{same-instance}
 
@@ -281,5 +281,4 @@ few-triggers g past instance name k done there =
     (few-done g past instance k done).few (subst (λ (n : List ℕ). event_named n past ≡ Some k) same there)
 
 pub at_most_four_triggers : AtMostFourTriggers
-at_most_four_triggers g entries instance name k legal there =
-    few-triggers g (requests_of entries) instance name k (done-legal g entries legal) there
+at_most_four_triggers g past instance name k done there = few-triggers g past instance name k done there

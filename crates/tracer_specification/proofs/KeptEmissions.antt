@@ -1,5 +1,5 @@
 -- Each record that a ring keeps was brought by an emission.
-use Rattle.std.proofs.Common.{◌≡◌, ◌⊎◌, inl, inr, ℕ, ◌-◌, ◌==◌, Bool, true, false, ◌&&◌, ◌||◌, if◌then◌else◌, List, [], ◌∷◌, ◌++◌, length, get_or, bytes_eq, All, Option, None, Some, refl, sym, ap, ◌∙◌, subst, eq-eqb, eqb-true}
+use Rattle.std.proofs.Common.{◌≡◌, ◌⊎◌, inl, inr, ℕ, suc, ◌-◌, ◌^◌, ◌<◌, ◌==◌, Bool, true, false, ◌&&◌, ◌||◌, if◌then◌else◌, List, [], ◌∷◌, ◌++◌, length, get_or, bytes_eq, All, Option, None, Some, refl, sym, ap, ◌∙◌, subst, arith, length-append, eq-eqb, eqb-true}
 use Rattle.std.specs.List.{AllByRecursion, list_any}
 use Rattle.std.proofs.lemmas.Bool.{or_cases, and_parts, false≢true}
 use Rattle.std.proofs.lemmas.List.Elements.{All-from_recursion}
@@ -13,15 +13,14 @@ use Rattle.trace_command.specs.Configs.{IsInRange}
 use Rattle.trace_command.specs.Paths.{File, OfInstance, OfCpu}
 use Rattle.trace_command.specs.declared.file_name.CpuFile.TheVariants as per_cpu
 use Rattle.trace_command.specs.declared.file_name.TopFile.TheVariants as top
-use Rattle.tracer_specification.specs.History.{requests_of, IsLegalNewestFirst}
+use Rattle.tracer_specification.specs.Pasts.{AreDone}
 use Rattle.tracer_specification.specs.Laws.{ShowsEmission, KeptRecordsShowEmissions, KeptSpareRecordsShowEmissions}
-use Rattle.trace_command.specs.Requests.{Request, Emission, MakeInstance, RemoveInstance, WriteFile, ReadFile, request_of}
+use Rattle.trace_command.specs.Requests.{Request, Emission, MakeInstance, RemoveInstance, WriteFile, ReadFile, FitsItsTypes}
 use Rattle.tracer_specification.specs.Emissions.{Emitted, emitted, emitted_bytes, is_recorded}
 use Rattle.tracer_specification.specs.Rings.{up_to_limit, with_emitted, rings_after_write, rings_after_read, rings_after, spare_after, rings_of_side}
 use Rattle.tracer_specification.specs.Settings.{is_same, makes, declared_events, overwrites}
 use Rattle.tracer_specification.specs.Snapshots.{clears_spare, live_side, written_snapshot}
 use Rattle.trace_command.specs.declared.command.Config.{Config}
-use Rattle.trace_command.specs.declared.command.Entry.{Entry}
 use Rattle.tracer_specification.proofs.Families.{with_events-are, with_takes-are, with_cleared-are, replicate-are_none, consumed-are}
 use Rattle.tracer_specification.proofs.ShownRecords.{records_show_their_rows}
 use Rattle.tracer_specification.proofs.Sides.{side-made}
@@ -160,34 +159,34 @@ rings-are g instance cpu side (request ∷ past) = by (makes instance request) r
 
 -- ---- the emission that brought it
 
--- an emission among the entries, in the instance's life
-record IsEmitted (instance : Option (List ℕ)) (cpu : ℕ) (entries : List Entry) (bytes : List ℕ) : Type 0 where
-  later : List Entry
-  entry : Entry
-  before : List Entry
-  cut : entries ≡ later ++ entry ∷ before
-  alive : list_any (makes instance) (requests_of later) ≡ false
+-- an emission among the requests, in the instance's life
+record IsEmitted (instance : Option (List ℕ)) (cpu : ℕ) (past : List Request) (bytes : List ℕ) : Type 0 where
+  later : List Request
+  request : Request
+  before : List Request
+  cut : past ≡ later ++ request ∷ before
+  alive : list_any (makes instance) later ≡ false
   e : Emitted
-  emission : emitted (requests_of before) (request_of entry.command) ≡ Some e
+  emission : emitted before request ≡ Some e
   there : e.cpu ≡ cpu
-  recorded : is_recorded instance (requests_of before) e ≡ true
+  recorded : is_recorded instance before e ≡ true
   written : bytes ≡ emitted_bytes e
 
-here-emitted : (instance : Option (List ℕ)) (cpu : ℕ) (entry : Entry) (entries : List Entry) (bytes : List ℕ)
-    → is_that bytes (brought_by instance cpu (requests_of entries) (emitted (requests_of entries) (request_of entry.command))) ≡ true
-    → IsEmitted instance cpu (entry ∷ entries) bytes
-here-emitted instance cpu entry entries bytes is = by (emitted (requests_of entries) (request_of entry.command)) refl is
+here-emitted : (instance : Option (List ℕ)) (cpu : ℕ) (request : Request) (past : List Request) (bytes : List ℕ)
+    → is_that bytes (brought_by instance cpu past (emitted past request)) ≡ true
+    → IsEmitted instance cpu (request ∷ past) bytes
+here-emitted instance cpu request past bytes is = by (emitted past request) refl is
   where
-    by_on : (e : Emitted) → emitted (requests_of entries) (request_of entry.command) ≡ Some e → (on : Bool)
-        → (e.cpu == cpu && is_recorded instance (requests_of entries) e) ≡ on → is_that bytes (if on then Some (emitted_bytes e) else None) ≡ true
-        → IsEmitted instance cpu (entry ∷ entries) bytes
+    by_on : (e : Emitted) → emitted past request ≡ Some e → (on : Bool)
+        → (e.cpu == cpu && is_recorded instance past e) ≡ on → is_that bytes (if on then Some (emitted_bytes e) else None) ≡ true
+        → IsEmitted instance cpu (request ∷ past) bytes
     by_on e emission false test h = absurd (false≢true h)
     by_on e emission true test h =
-        let parts = and_parts (e.cpu == cpu) (is_recorded instance (requests_of entries) e) test in
+        let parts = and_parts (e.cpu == cpu) (is_recorded instance past e) test in
         record {
           later = [];
-          entry = entry;
-          before = entries;
+          request = request;
+          before = past;
           cut = refl;
           alive = refl;
           e = e;
@@ -197,18 +196,18 @@ here-emitted instance cpu entry entries bytes is = by (emitted (requests_of entr
           written = (bytes_eq-Decides bytes (emitted_bytes e)).0 h;
         }
 
-    by : (e : Option Emitted) → emitted (requests_of entries) (request_of entry.command) ≡ e
-        → is_that bytes (brought_by instance cpu (requests_of entries) e) ≡ true → IsEmitted instance cpu (entry ∷ entries) bytes
+    by : (e : Option Emitted) → emitted past request ≡ e
+        → is_that bytes (brought_by instance cpu past e) ≡ true → IsEmitted instance cpu (request ∷ past) bytes
     by None emission h = absurd (false≢true h)
-    by (Some e) emission h = by_on e emission (e.cpu == cpu && is_recorded instance (requests_of entries) e) refl h
+    by (Some e) emission h = by_on e emission (e.cpu == cpu && is_recorded instance past e) refl h
 
-later-emitted : (instance : Option (List ℕ)) (cpu : ℕ) (entry : Entry) (entries : List Entry) (bytes : List ℕ) → makes instance (request_of entry.command) ≡ false
-    → IsEmitted instance cpu entries bytes → IsEmitted instance cpu (entry ∷ entries) bytes
-later-emitted instance cpu entry entries bytes alive found = record {
-  later = entry ∷ found.later;
-  entry = found.entry;
+later-emitted : (instance : Option (List ℕ)) (cpu : ℕ) (request : Request) (past : List Request) (bytes : List ℕ) → makes instance request ≡ false
+    → IsEmitted instance cpu past bytes → IsEmitted instance cpu (request ∷ past) bytes
+later-emitted instance cpu request past bytes alive found = record {
+  later = request ∷ found.later;
+  request = found.request;
   before = found.before;
-  cut = ap (λ (es : List Entry). entry ∷ es) found.cut;
+  cut = ap (λ (rs : List Request). request ∷ rs) found.cut;
   alive = rw (alive, found.alive) refl;
   e = found.e;
   emission = found.emission;
@@ -217,41 +216,46 @@ later-emitted instance cpu entry entries bytes alive found = record {
   written = found.written;
 }
 
-brought-emitted : (instance : Option (List ℕ)) (cpu : ℕ) (entries : List Entry) (bytes : List ℕ) → was_brought instance cpu (requests_of entries) bytes ≡ true
-    → IsEmitted instance cpu entries bytes
+brought-emitted : (instance : Option (List ℕ)) (cpu : ℕ) (past : List Request) (bytes : List ℕ) → was_brought instance cpu past bytes ≡ true
+    → IsEmitted instance cpu past bytes
 brought-emitted instance cpu [] bytes is = absurd (false≢true is)
-brought-emitted instance cpu (entry ∷ entries) bytes is =
-    by_life (makes instance (request_of entry.command)) refl is (brought-emitted instance cpu entries bytes)
+brought-emitted instance cpu (request ∷ past) bytes is =
+    by_life (makes instance request) refl is (brought-emitted instance cpu past bytes)
   where
     here : Bool
-    here = is_that bytes (brought_by instance cpu (requests_of entries) (emitted (requests_of entries) (request_of entry.command)))
+    here = is_that bytes (brought_by instance cpu past (emitted past request))
 
     before : Bool
-    before = was_brought instance cpu (requests_of entries) bytes
+    before = was_brought instance cpu past bytes
 
-    by : makes instance (request_of entry.command) ≡ false → (here ≡ true) ⊎ (before ≡ true) → (before ≡ true → IsEmitted instance cpu entries bytes)
-        → IsEmitted instance cpu (entry ∷ entries) bytes
-    by alive (inl this) others = here-emitted instance cpu entry entries bytes this
-    by alive (inr older) others = later-emitted instance cpu entry entries bytes alive (others older)
+    by : makes instance request ≡ false → (here ≡ true) ⊎ (before ≡ true) → (before ≡ true → IsEmitted instance cpu past bytes)
+        → IsEmitted instance cpu (request ∷ past) bytes
+    by alive (inl this) others = here-emitted instance cpu request past bytes this
+    by alive (inr older) others = later-emitted instance cpu request past bytes alive (others older)
 
-    by_life : (new : Bool) → makes instance (request_of entry.command) ≡ new → (if new then false else here || before) ≡ true
-        → (before ≡ true → IsEmitted instance cpu entries bytes) → IsEmitted instance cpu (entry ∷ entries) bytes
+    by_life : (new : Bool) → makes instance request ≡ new → (if new then false else here || before) ≡ true
+        → (before ≡ true → IsEmitted instance cpu past bytes) → IsEmitted instance cpu (request ∷ past) bytes
     by_life true new h others = absurd (false≢true h)
     by_life false alive h others = by alive (or_cases here before h) others
 
 -- ---- its line
 
--- the entries before some entry of a legal history are legal
-legal-before : (g : Config) (later before : List Entry) → IsLegalNewestFirst g (later ++ before) → IsLegalNewestFirst g before
-legal-before g [] before legal = legal
-legal-before g (entry ∷ later) before legal = legal-before g later before legal.3
+-- the requests before some request were done, too
+done-before : (g : Config) (later before : List Request) → AreDone g (later ++ before) → AreDone g before
+done-before g [] before done = done
+done-before g (request ∷ later) before done = done-before g later before done.1
 
-emitted-shows : (g : Config) (entries : List Entry) (instance : Option (List ℕ)) (cpu : ℕ) (bytes : List ℕ) → IsInRange g → IsLegalNewestFirst g entries
-    → IsEmitted instance cpu entries bytes → ShowsEmission instance cpu entries (record_line (declared_events (requests_of entries)) cpu bytes)
-emitted-shows g entries instance cpu bytes in_range legal found =
+fits-there : (later : List Request) (request : Request) (before : List Request) → All FitsItsTypes (later ++ request ∷ before) → FitsItsTypes request
+fits-there [] request before all = all 0 request (omega arith)
+fits-there (first ∷ later) request before all = fits-there later request before (λ k d within. all (suc k) d (omega (arith, within)))
+
+emitted-shows : (g : Config) (past : List Request) (instance : Option (List ℕ)) (cpu : ℕ) (bytes : List ℕ) → IsInRange g → AreDone g past
+    → length past < 2 ^ 64 → All FitsItsTypes past
+    → IsEmitted instance cpu past bytes → ShowsEmission instance cpu past (record_line (declared_events past) cpu bytes)
+emitted-shows g past instance cpu bytes in_range done short fits found =
     record {
       later = found.later;
-      entry = found.entry;
+      request = found.request;
       before = found.before;
       cut = found.cut;
       alive = found.alive;
@@ -259,36 +263,42 @@ emitted-shows g entries instance cpu bytes in_range legal found =
       emission = found.emission;
       there = found.there;
       recorded = found.recorded;
-      shown = ap (λ (es : List Entry). record_line (declared_events (requests_of es)) cpu bytes) found.cut
-          ∙ ap (record_line (declared_events (requests_of whole)) cpu) found.written
-          ∙ ap (λ (c : ℕ). record_line (declared_events (requests_of whole)) c (emitted_bytes found.e)) (sym found.there)
-          ∙ records_show_their_rows g found.entry found.before found.later found.e in_range legal_then found.emission;
+      shown = ap (λ (rs : List Request). record_line (declared_events rs) cpu bytes) found.cut
+          ∙ ap (record_line (declared_events whole) cpu) found.written
+          ∙ ap (λ (c : ℕ). record_line (declared_events whole) c (emitted_bytes found.e)) (sym found.there)
+          ∙ records_show_their_rows g found.request found.before found.later found.e in_range done_then.1 short_then
+          (fits-there found.later found.request found.before (subst (All FitsItsTypes) found.cut fits)) found.emission;
     }
   where
-    whole : List Entry
-    whole = found.later ++ found.entry ∷ found.before
+    whole : List Request
+    whole = found.later ++ found.request ∷ found.before
 
-    legal_then : IsLegalNewestFirst g (found.entry ∷ found.before)
-    legal_then = legal-before g found.later (found.entry ∷ found.before) (subst (IsLegalNewestFirst g) found.cut legal)
+    done_then : AreDone g (found.request ∷ found.before)
+    done_then = done-before g found.later (found.request ∷ found.before) (subst (AreDone g) found.cut done)
 
-side_records_show_emissions : KeptWerePut → (g : Config) (entries : List Entry) (instance : Option (List ℕ)) (side cpu : ℕ) → IsInRange g
-    → IsLegalNewestFirst g entries
-    → All (λ (r : Reading). ShowsEmission instance cpu entries (record_line (declared_events (requests_of entries)) cpu r.rec))
-    (cpu_readings g.pages g.page_bytes (rings_of_side g instance side (requests_of entries)) cpu)
-side_records_show_emissions kept_were_put g entries instance side cpu in_range legal = λ i r inside.
-    let past = requests_of entries in
+    short_then : length (found.request ∷ found.before) < 2 ^ 64
+    short_then =
+        let both = length-append found.later (found.request ∷ found.before) in
+        let all = ap length found.cut in
+        omega (arith, both, all, short)
+
+side_records_show_emissions : KeptWerePut → (g : Config) (past : List Request) (instance : Option (List ℕ)) (side cpu : ℕ) → IsInRange g
+    → AreDone g past → length past < 2 ^ 64 → All FitsItsTypes past
+    → All (λ (r : Reading). ShowsEmission instance cpu past (record_line (declared_events past) cpu r.rec))
+    (cpu_readings g.pages g.page_bytes (rings_of_side g instance side past) cpu)
+side_records_show_emissions kept_were_put g past instance side cpu in_range done short fits = λ i r inside.
     let test : List ℕ → Bool = was_brought instance cpu past in
     let events : List ring.Event = events_of (rings_of_side g instance side past) cpu in
     let put : All (λ (e : ring.Event). puts_pass test e ≡ true) events =
     All-from_recursion (λ (e : ring.Event). puts_pass test e ≡ true) events (rings-are g instance cpu side past) in
     let readings = cpu_readings g.pages g.page_bytes (rings_of_side g instance side past) cpu in
-    emitted-shows g entries instance cpu (get_or readings i r).rec in_range legal
-    (brought-emitted instance cpu entries (get_or readings i r).rec (kept_were_put g.pages g.page_bytes events test put i r inside))
+    emitted-shows g past instance cpu (get_or readings i r).rec in_range done short fits
+    (brought-emitted instance cpu past (get_or readings i r).rec (kept_were_put g.pages g.page_bytes events test put i r inside))
 
 pub kept_records_show_emissions : KeptWerePut → KeptRecordsShowEmissions
-kept_records_show_emissions kept_were_put g entries instance cpu in_range legal =
-    side_records_show_emissions kept_were_put g entries instance (live_side instance (requests_of entries)) cpu in_range legal
+kept_records_show_emissions kept_were_put g past instance cpu in_range done short fits =
+    side_records_show_emissions kept_were_put g past instance (live_side instance past) cpu in_range done short fits
 
 pub kept_spare_records_show_emissions : KeptWerePut → KeptSpareRecordsShowEmissions
-kept_spare_records_show_emissions kept_were_put g entries instance cpu in_range legal =
-    side_records_show_emissions kept_were_put g entries instance (1 - live_side instance (requests_of entries)) cpu in_range legal
+kept_spare_records_show_emissions kept_were_put g past instance cpu in_range done short fits =
+    side_records_show_emissions kept_were_put g past instance (1 - live_side instance past) cpu in_range done short fits

@@ -1,4 +1,4 @@
--- The events that are declared in a legal history.
+-- The events that are declared by requests that were done.
 use Rattle.std.proofs.Common.{◌≡◌, ℕ, ◌+◌, ◌<◌, ◌≤◌, Bool, true, false, nat_lt, nat_le, not, ◌&&◌, if◌then◌else◌, List, [], ◌∷◌, ◌++◌, length, bytes_eq, is_some, Option, None, Some, IsOk, Result, Ok, Err, ok_or, refl, sym, ap, ◌∙◌, subst, arith, append-nil, length-append, ltb-true}
 use Rattle.std.specs.List.{AllByRecursion}
 use Rattle.std.specs.Option.{option_to_list}
@@ -49,6 +49,11 @@ pub done-legal : (g : Config) (entries : List Entry) → IsLegalNewestFirst g en
 done-legal g [] legal = tt
 done-legal g (entry ∷ entries) legal =
     ((done-had_room g (requests_of entries) (request_of entry.command) legal.2).0, done-legal g entries legal.3)
+
+-- as many as the limit at most
+pub legal-short : (g : Config) (entries : List Entry) → IsLegalNewestFirst g entries → length (requests_of entries) ≤ g.history_limit
+legal-short g [] legal = omega arith
+legal-short g (entry ∷ entries) legal = let room = (done-had_room g (requests_of entries) (request_of entry.command) legal.2).1 in omega (arith, room)
 
 -- what an instance was asked was done only where the instance is there
 pub asked-done : (instance : Option (List ℕ)) (past : List Request) (answered : Result Reply Refusal) → IsOk (instance_answer instance past answered) → IsOk answered
@@ -131,7 +136,7 @@ declared-is_new g past (WriteFile instance (Some SyntheticEvents) append text) e
         by_busy (not append && nat_lt 0 (length (declared_events past))) (definition_of-is_definition text event (was ∙ ap Ok same)) (rw same at d)
 declared-is_new g past _ event done is = absurd (none-some event is)
 
--- ---- the events of a legal history
+-- ---- the events of such requests
 
 -- they are few, each may be declared after those before it, and its record fits a page
 pub record AreLegalEvents (g : Config) (events : List Definition) : Type 0 where
@@ -139,19 +144,15 @@ pub record AreLegalEvents (g : Config) (events : List Definition) : Type 0 where
   pub are : AreEvents [] events
   pub fit : AllByRecursion (IsFit g.page_bytes) events
 
-pub legal-events : (g : Config) (entries : List Entry) → IsLegalNewestFirst g entries → AreLegalEvents g (declared_events (requests_of entries))
-legal-events g [] legal = record { few = omega arith; are = tt; fit = tt }
-legal-events g (entry ∷ entries) legal =
-    by (declares (request_of entry.command)) refl (legal-events g entries legal.3)
+pub done-events : (g : Config) (past : List Request) → AreDone g past → AreLegalEvents g (declared_events past)
+done-events g [] done = record { few = omega arith; are = tt; fit = tt }
+done-events g (request ∷ past) done = by (declares request) refl (done-events g past done.1)
   where
-    past : List Request
-    past = requests_of entries
-
-    by : (declared : Option Definition) → declares (request_of entry.command) ≡ declared → AreLegalEvents g (declared_events past)
-        → AreLegalEvents g (declared_events past ++ option_to_list (declares (request_of entry.command)))
+    by : (declared : Option Definition) → declares request ≡ declared → AreLegalEvents g (declared_events past)
+        → AreLegalEvents g (declared_events past ++ option_to_list (declares request))
     by None is before = rw (is, append-nil) before
     by (Some event) is before =
-        let new = declared-is_new g past (request_of entry.command) event (done-had_room g past (request_of entry.command) legal.2).0 is in
+        let new = declared-is_new g past request event done.0 is in
         rw is (record {
           few = omega (arith, length-append (declared_events past) (event ∷ []), new.room);
           are = AreEvents-push [] (declared_events past) event before.are new.is_event;
@@ -170,11 +171,11 @@ named-is_numbered events name k found =
     subst (IsNumbered events name) event.gives (record { named = number.was; there = event.was })
 
 -- and so it is a definition
-pub named-is_definition : (g : Config) (entries : List Entry) (name : List ℕ) (k : NumberedEvent) → IsLegalNewestFirst g entries
-    → event_named name (requests_of entries) ≡ Some k → IsDefinition k.event
-named-is_definition g entries name k legal found =
-    let events = declared_events (requests_of entries) in
-    (found_event events k.id k.event (legal-events g entries legal).are (named-is_numbered events name k found).there).defined
+pub named-is_definition : (g : Config) (past : List Request) (name : List ℕ) (k : NumberedEvent) → AreDone g past
+    → event_named name past ≡ Some k → IsDefinition k.event
+named-is_definition g past name k done found =
+    let events = declared_events past in
+    (found_event events k.id k.event (done-events g past done).are (named-is_numbered events name k found).there).defined
 
 -- ---- later declarations
 

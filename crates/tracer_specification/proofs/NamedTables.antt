@@ -10,19 +10,18 @@ use Rattle.trace_trigger.specs.declared.fault.TriggerFault.{TriggerFault}
 use Rattle.trace_trigger.specs.declared.trigger.TriggerText.{TriggerText}
 use Rattle.trace_trigger.specs.declared.trigger.TriggerText.TheVariants.{Nothing, Attach, Remove, Hist, RemoveHist}
 use Rattle.trace_trigger.proofs.FittingLaws.{fitting_fits, fitting_is_reflexive, fitting_is_symmetric, fitting_is_transitive}
-use Rattle.trace_command.specs.Requests.{Request, request_of}
+use Rattle.trace_command.specs.Requests.{Request}
 use Rattle.trace_command.specs.declared.command.Config.{Config}
-use Rattle.trace_command.specs.declared.command.Entry.{Entry}
-use Rattle.tracer_specification.specs.History.{IsLegalNewestFirst, answer_with_room, hist_answer, new_hist_answer, requests_of, said_answer}
+use Rattle.tracer_specification.specs.History.{answer_with_room, hist_answer, new_hist_answer, said_answer}
 use Rattle.tracer_specification.specs.HistTriggers.{HistTrigger, Written, fits_that, has_same, hist_triggers, hists_after, hists_of, hists_said, hits_of, is_name_of, is_of, is_pause, is_paused, kept_by, left_by, named_by, names_table_of, new_hist, says_same, table_or, those_of, written_to}
 use Rattle.tracer_specification.specs.Settings.{makes}
+use Rattle.tracer_specification.specs.Pasts.{AreDone}
 use Rattle.tracer_specification.specs.TableLaws.{NamedTablesAreShared, SharedTablesFit, TablesGoWithTheirLast}
 use Rattle.tracer_specification.specs.Triggers.{Trigger, trigger_of}
 use Rattle.tracer_specification.proofs.AskedTables.{asked-new}
 use Rattle.tracer_specification.proofs.AttachedHists.{attached-then, is-there}
 use Rattle.tracer_specification.proofs.EventHists.{own-left, tables-apart, tables-made_before}
 use Rattle.tracer_specification.proofs.FewTriggers.{new-was_taken, said-of_written}
-use Rattle.tracer_specification.proofs.LegalEvents.{done-had_room}
 use Rattle.tracer_specification.proofs.Members.{IsIn, all-in, contains-in, each-in, in-all, in-filter, in-push, left-in}
 use Rattle.tracer_specification.proofs.TableSteps.{table-new}
 use Rattle.tracer_specification.proofs.Tables.{AreApart, IsBefore, found-in, one-or_apart}
@@ -214,14 +213,11 @@ fit-step g instance past request done fit = by (makes instance request) (written
         (left-old instance past w.event w.append) (left-fit w.event w.append (hist_triggers instance past) fit)
         (λ spec says none. fits-named g instance past request w spec done is says none)
 
-pub fit-legal : (g : Config) (entries : List Entry) (instance : Option (List ℕ)) → IsLegalNewestFirst g entries
-    → AllFit (hist_triggers instance (requests_of entries))
-fit-legal g [] instance legal = fit-none
-fit-legal g (entry ∷ entries) instance legal =
-    fit-step g instance (requests_of entries) (request_of entry.command)
-    (done-had_room g (requests_of entries) (request_of entry.command) legal.2).0 (fit-legal g entries instance legal.3)
+pub fit-done : (g : Config) (past : List Request) (instance : Option (List ℕ)) → AreDone g past → AllFit (hist_triggers instance past)
+fit-done g [] instance done = fit-none
+fit-done g (request ∷ past) instance done = fit-step g instance past request done.0 (fit-done g past instance done.1)
 
 pub shared_tables_fit : SharedTablesFit
-shared_tables_fit g entries instance t u legal first second same =
-    let hists = hist_triggers instance (requests_of entries) in
-    fitting_fits t.spec u.spec (fit-legal g entries instance legal t u (contains-in t hists first) (contains-in u hists second) same)
+shared_tables_fit g past instance t u done first second same =
+    let hists = hist_triggers instance past in
+    fitting_fits t.spec u.spec (fit-done g past instance done t u (contains-in t hists first) (contains-in u hists second) same)

@@ -10,12 +10,11 @@ use Rattle.trace_trigger.specs.TriggerTexts.{said_of}
 use Rattle.trace_trigger.specs.declared.trigger.TriggerText.TheVariants.{Hist}
 use Rattle.trace_trigger.proofs.FittingLaws.{fitting_specs_count_alike}
 use Rattle.trace_command.specs.Requests.{Request}
-use Rattle.tracer_specification.specs.History.{requests_of}
 use Rattle.tracer_specification.specs.HistTriggers.{HistTrigger, hist_triggers, hits_of}
 use Rattle.tracer_specification.specs.TableLaws.{SharedTablesAreShownAlike}
 use Rattle.tracer_specification.proofs.AttachedHists.{hist_triggers_are_those_attached}
 use Rattle.tracer_specification.proofs.Members.{contains-in}
-use Rattle.tracer_specification.proofs.NamedTables.{fit-legal}
+use Rattle.tracer_specification.proofs.NamedTables.{fit-done}
 use Rattle.tracer_specification.proofs.SaidHists.{said-spec}
 
 -- ---- triggers that share a table
@@ -37,18 +36,15 @@ triggers-alike instance past t u first second fit =
 
 pub shared_tables_are_shown_alike : SharedTablesAreShownAlike
 unfolding grouped
-shared_tables_are_shown_alike g entries instance t u legal first second same = (
+shared_tables_are_shown_alike g past instance t u done first second same = (
   λ i. group (alike.size i) (alike.values i) (hits_of instance (same i) past),
   alike.sort_sources,
 )
   where
-    past : List Request
-    past = requests_of entries
-
     hists : List HistTrigger
     hists = hist_triggers instance past
 
     alike : CountsAlike t.spec u.spec
     alike =
         triggers-alike instance past t u first second
-        (fit-legal g entries instance legal t u (contains-in t hists first) (contains-in u hists second) same)
+        (fit-done g past instance done t u (contains-in t hists first) (contains-in u hists second) same)

@@ -1,4 +1,4 @@
--- The lines of the records of a legal history.
+-- The lines of the records that emissions bring.
 use Rattle.std.proofs.Common.{◌≡◌, ℕ, zero, suc, ℤ, FitsSigned, w32, ◌+◌, ◌*◌, ◌/◌, ◌<◌, ◌≤◌, ◌^◌, List, [], ◌∷◌, ◌++◌, length, filter_map, replicate, slice_get, Option, None, Some, Result, Ok, Err, refl, sym, ap, ◌∙◌, subst, arith, length-append}
 use Rattle.std.specs.List.{AllZip}
 use Rattle.std.specs.Option.{option_to_list}
@@ -15,17 +15,16 @@ use Rattle.trace_format.proofs.Payloads.{length-field_bytes}
 use Rattle.record_text.specs.Laws.{IsHeadOf}
 use Rattle.record_text.proofs.RecordLemmas.{record_shows_its_row}
 use Rattle.trace_command.specs.Configs.{IsInRange}
-use Rattle.tracer_specification.specs.History.{requests_of, IsEntry, IsLegalNewestFirst}
 use Rattle.tracer_specification.specs.Laws.{RecordsShowTheirRows}
-use Rattle.trace_command.specs.Requests.{Request, Emission, MakeInstance, RemoveInstance, WriteFile, ReadFile, request_of, FitsItsTypes}
+use Rattle.tracer_specification.specs.Pasts.{AreDone}
+use Rattle.trace_command.specs.Requests.{Request, Emission, MakeInstance, RemoveInstance, WriteFile, ReadFile, FitsItsTypes}
 use Rattle.tracer_specification.specs.Emissions.{record_bytes, Emitted, emitted, emitted_event, emitted_row}
 use Rattle.trace_record.specs.Record.{padding}
 use Rattle.tracer_specification.specs.Settings.{NumberedEvent, event_named, declares, declared_events, ticks, now_of}
 use Rattle.tracer_specification.specs.Declarations.{IsFit}
 use Rattle.trace_command.specs.declared.command.Config.{Config}
-use Rattle.trace_command.specs.declared.command.Entry.{Entry}
 use Rattle.tracer_specification.proofs.Events.{fit_at}
-use Rattle.tracer_specification.proofs.LegalEvents.{done-had_room, legal-events, named-is_numbered}
+use Rattle.tracer_specification.proofs.LegalEvents.{done-events, named-is_numbered}
 
 -- ---- rows
 
@@ -67,11 +66,11 @@ event_of-more events more zero event there = absurd (none-some event there)
 event_of-more events more (suc index) event there = slice_get-more events more index event there
 
 -- an event keeps its number
-event_of-later : (later entries : List Entry) (id : ℕ) (event : Definition) → event_of (declared_events (requests_of entries)) id ≡ Some event
-    → event_of (declared_events (requests_of (later ++ entries))) id ≡ Some event
-event_of-later [] entries id event there = there
-event_of-later (entry ∷ later) entries id event there =
-    event_of-more (declared_events (requests_of (later ++ entries))) (option_to_list (declares (request_of entry.command))) id event (event_of-later later entries id event there)
+event_of-later : (later past : List Request) (id : ℕ) (event : Definition) → event_of (declared_events past) id ≡ Some event
+    → event_of (declared_events (later ++ past)) id ≡ Some event
+event_of-later [] past id event there = there
+event_of-later (request ∷ later) past id event there =
+    event_of-more (declared_events (later ++ past)) (option_to_list (declares request)) id event (event_of-later later past id event there)
 
 -- ---- an event's number, its record's size and the clock are small
 
@@ -79,12 +78,12 @@ event_of-small : (events : List Definition) (id : ℕ) (event : Definition) → 
 event_of-small events zero event there = absurd (none-some event there)
 event_of-small events (suc index) event there = let within = slice_get_within events index event there in omega (arith, within)
 
-event_of-fit : (g : Config) (entries : List Entry) (id : ℕ) (event : Definition) → IsLegalNewestFirst g entries
-    → event_of (declared_events (requests_of entries)) id ≡ Some event → IsFit g.page_bytes event
-event_of-fit g entries zero event legal there = absurd (none-some event there)
-event_of-fit g entries (suc index) event legal there =
-    let events = declared_events (requests_of entries) in
-    fit_at g.page_bytes events index event (legal-events g entries legal).fit (slice_get_within events index event there) (sym (get_or_from_slice_get events index event event there))
+event_of-fit : (g : Config) (past : List Request) (id : ℕ) (event : Definition) → AreDone g past
+    → event_of (declared_events past) id ≡ Some event → IsFit g.page_bytes event
+event_of-fit g past zero event done there = absurd (none-some event there)
+event_of-fit g past (suc index) event done there =
+    let events = declared_events past in
+    fit_at g.page_bytes events index event (done-events g past done).fit (slice_get_within events index event there) (sym (get_or_from_slice_get events index event event there))
 
 ticks-le : (request : Request) → ticks request ≤ 1
 ticks-le (Emission event cpu pid pairs) = omega arith
@@ -96,10 +95,6 @@ ticks-le (ReadFile instance file limit) = omega arith
 now_of-le : (past : List Request) → now_of past ≤ length past
 now_of-le [] = omega arith
 now_of-le (request ∷ past) = omega (arith, now_of-le past, ticks-le request)
-
-pub legal-short : (g : Config) (entries : List Entry) → IsLegalNewestFirst g entries → length (requests_of entries) ≤ g.history_limit
-legal-short g [] legal = omega arith
-legal-short g (entry ∷ entries) legal = let room = (done-had_room g (requests_of entries) (request_of entry.command) legal.2).1 in omega (arith, room)
 
 payload-small : (g : Config) (event : Definition) (size : ℕ) → IsInRange g → IsFit g.page_bytes event → size ≡ payload_size_of event → size < 2 ^ 16
 payload-small g event size in_range fit is = by (payload_size_of event) fit.size is
@@ -137,21 +132,21 @@ emission-is past (Emission name cpu pid pairs) e is = by_event (event_named name
     by_event (Some k) named h = by_row k (row_of k.event pairs) named refl h
 emission-is past _ e is = absurd (none-some e is)
 
--- the process of an entry's emission has a number in 32 bits
-pid_of-fits : (entry : Entry) (name : List ℕ) (cpu : ℕ) (pid : ℤ) (pairs : List Pair) → IsEntry entry → request_of entry.command ≡ Emission name cpu pid pairs
+-- the process of an emission has a number in 32 bits
+pid_of-fits : (request : Request) (name : List ℕ) (cpu : ℕ) (pid : ℤ) (pairs : List Pair) → FitsItsTypes request → request ≡ Emission name cpu pid pairs
     → FitsSigned w32 pid
-pid_of-fits entry name cpu pid pairs fits emission = (subst FitsItsTypes emission fits.2).1
+pid_of-fits request name cpu pid pairs fits emission = (subst FitsItsTypes emission fits).1
 
 -- ---- the theorem
 
 pub records_show_their_rows : RecordsShowTheirRows
 unfolding record_bytes
-records_show_their_rows g entry before later e in_range legal emitted_is =
-    record_shows_its_row (declared_events (requests_of (later ++ entry ∷ before))) e.cpu e.k.event e.row head
+records_show_their_rows g request before later e in_range done short fits emitted_is =
+    record_shows_its_row (declared_events (later ++ request ∷ before)) e.cpu e.k.event e.row head
     (replicate (padding (length (payload_of e.row))) 0) is_row is_head
   where
-    is : IsEmission (requests_of before) (request_of entry.command) e
-    is = emission-is (requests_of before) (request_of entry.command) e emitted_is
+    is : IsEmission before request e
+    is = emission-is before request e emitted_is
 
     head : Head
     head = record { ts = e.timestamp; pid = e.pid; event = e.k.id; payload = length (payload_of e.row) }
@@ -159,18 +154,18 @@ records_show_their_rows g entry before later e in_range legal emitted_is =
     is_row : IsRowOf e.k.event e.row
     is_row = row_of-is_row e.k.event is.pairs e.row is.built
 
-    at_number : event_of (declared_events (requests_of before)) e.k.id ≡ Some e.k.event
-    at_number = (named-is_numbered (declared_events (requests_of before)) is.name e.k is.named).there
+    at_number : event_of (declared_events before) e.k.id ≡ Some e.k.event
+    at_number = (named-is_numbered (declared_events before) is.name e.k is.named).there
 
-    at_number_then : event_of (declared_events (requests_of (later ++ entry ∷ before))) e.k.id ≡ Some e.k.event
-    at_number_then = event_of-later later (entry ∷ before) e.k.id e.k.event (event_of-later (entry ∷ []) before e.k.id e.k.event at_number)
+    at_number_then : event_of (declared_events (later ++ request ∷ before)) e.k.id ≡ Some e.k.event
+    at_number_then = event_of-later later (request ∷ before) e.k.id e.k.event (event_of-later (request ∷ []) before e.k.id e.k.event at_number)
 
-    is_head : IsHeadOf (declared_events (requests_of (later ++ entry ∷ before))) e.k.event e.row head
+    is_head : IsHeadOf (declared_events (later ++ request ∷ before)) e.k.event e.row head
     is_head = record {
       event = at_number_then;
       payload = refl;
-      event_fits = omega (arith, event_of-small (declared_events (requests_of before)) e.k.id e.k.event at_number, (legal-events g before legal.3).few);
-      payload_fits = payload-small g e.k.event (length (payload_of e.row)) in_range (event_of-fit g before e.k.id e.k.event legal.3 at_number) (length-payload e.k.event e.row is_row);
-      ts_fits = omega (arith, is.time, now_of-le (requests_of before), legal-short g before legal.3, in_range.few_entries);
-      pid_fits = pid_of-fits entry is.name e.cpu e.pid is.pairs legal.0 is.emission;
+      event_fits = omega (arith, event_of-small (declared_events before) e.k.id e.k.event at_number, (done-events g before done).few);
+      payload_fits = payload-small g e.k.event (length (payload_of e.row)) in_range (event_of-fit g before e.k.id e.k.event done at_number) (length-payload e.k.event e.row is_row);
+      ts_fits = omega (arith, is.time, now_of-le before, short);
+      pid_fits = pid_of-fits request is.name e.cpu e.pid is.pairs fits is.emission;
     }

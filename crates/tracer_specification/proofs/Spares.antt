@@ -12,19 +12,19 @@ use Rattle.trace_trigger.specs.declared.fault.TriggerFault.{TriggerFault}
 use Rattle.trace_trigger.specs.declared.trigger.TriggerText.{TriggerText}
 use Rattle.trace_trigger.specs.declared.trigger.TriggerText.TheVariants.{Nothing, Attach, Remove, Hist, RemoveHist}
 use Rattle.trace_command.specs.Paths.{File, OfInstance, OfEvent}
-use Rattle.trace_command.specs.Requests.{Request, WriteFile, request_of}
+use Rattle.trace_command.specs.Requests.{Request, WriteFile}
 use Rattle.trace_command.specs.declared.command.Config.{Config}
-use Rattle.trace_command.specs.declared.command.Entry.{Entry}
 use Rattle.trace_command.specs.declared.file_name.EventFile.TheVariants as per_event
 use Rattle.trace_command.specs.declared.file_name.TopFile.TheVariants as top
-use Rattle.tracer_specification.specs.History.{answer_with_room, missing_event, unless_refused, spare_answer, snapshot_answer, named_trigger_answer, requests_of, IsLegalNewestFirst}
+use Rattle.tracer_specification.specs.History.{answer_with_room, missing_event, unless_refused, spare_answer, snapshot_answer, named_trigger_answer}
 use Rattle.tracer_specification.specs.Laws.{TriggersHaveTheirSpare}
+use Rattle.tracer_specification.specs.Pasts.{AreDone}
 use Rattle.tracer_specification.specs.Settings.{NumberedEvent, is_same, makes, set_by, event_named, declares, declared_events}
 use Rattle.tracer_specification.specs.Snapshots.{SnapshotWrite, Frees, Takes, Empties, written_snapshot, spare_written, spare_armed, spare_armed_for, sets_spare, has_spare}
 use Rattle.tracer_specification.specs.Triggers.{Trigger, written_trigger, sets_trigger, trigger_of, has_trigger}
 use Rattle.tracer_specification.proofs.Events.{named_in-fewer, index_of_id}
 use Rattle.tracer_specification.proofs.EventLists.{named_at}
-use Rattle.tracer_specification.proofs.LegalEvents.{done-had_room, asked-done, named_in-more, named-is_numbered, legal-events}
+use Rattle.tracer_specification.proofs.LegalEvents.{asked-done, done-events, named_in-more, named-is_numbered}
 
 -- ---- one instance by two names
 
@@ -243,12 +243,9 @@ armed-after g instance past request k done before = record { untriggered = untri
             let e : Some old ≡ Some k = sym (named_in-more k.event.name (declared_events past) more old was) ∙ there in
             by_life t (was ∙ e) (makes instance request) refl attached
 
-armed-legal : (g : Config) (entries : List Entry) (instance : Option (List ℕ)) (k : NumberedEvent) → IsLegalNewestFirst g entries
-    → IsArmed instance (requests_of entries) k
-armed-legal g [] instance k legal = record { untriggered = λ none. refl; armed = λ t there attached. absurd (none-some t attached) }
-armed-legal g (entry ∷ entries) instance k legal =
-    armed-after g instance (requests_of entries) (request_of entry.command) k
-    (done-had_room g (requests_of entries) (request_of entry.command) legal.2).0 (armed-legal g entries instance k legal.3)
+armed-done : (g : Config) (past : List Request) (instance : Option (List ℕ)) (k : NumberedEvent) → AreDone g past → IsArmed instance past k
+armed-done g [] instance k done = record { untriggered = λ none. refl; armed = λ t there attached. absurd (none-some t attached) }
+armed-done g (request ∷ past) instance k done = armed-after g instance past request k done.0 (armed-done g past instance k done.1)
 
 -- an event among the declared ones that passes a test
 record IsPassed (test : Definition → Bool) (events : List Definition) : Type 0 where
@@ -274,13 +271,12 @@ value_of-some None P is then_P = absurd (cc)
 value_of-some (Some x) P is then_P = then_P x refl
 
 pub triggers_have_their_spare : TriggersHaveTheirSpare
-triggers_have_their_spare g entries instance legal has =
-    let past = requests_of entries in
+triggers_have_their_spare g past instance done has =
     let events = declared_events past in
     let found = passed-in (λ (event : Definition). is_some (trigger_of instance event past)) events has in
     let k : NumberedEvent = record { id = suc found.index; event = found.event } in
     let there : event_named found.event.name past ≡ Some k =
     subst (λ (event : Definition). event_named event.name past ≡ Some (let n : NumberedEvent = record { id = suc found.index; event = event } in n)) found.there
-    (named_at events found.index found.event (legal-events g entries legal).are found.inside) in
+    (named_at events found.index found.event (done-events g past done).are found.inside) in
     value_of-some (trigger_of instance found.event past) (has_spare instance past ≡ true) found.passes
-    (λ t attached. (armed-legal g entries instance k legal).armed t there attached)
+    (λ t attached. (armed-done g past instance k done).armed t there attached)

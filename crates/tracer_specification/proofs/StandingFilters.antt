@@ -1,4 +1,4 @@
--- The filters that events have in a legal history.
+-- The filters that events have after requests that were done.
 use Rattle.std.proofs.Common.{◌≡◌, ◌⊎◌, inl, inr, ℕ, Bool, true, false, if◌then◌else◌, List, [], ◌∷◌, bytes_eq, Option, None, Some, unwrap_or, IsOk, is_ok, is_some, Result, Ok, Err, refl, sym, ap, ◌∙◌, subst}
 use Rattle.std.specs.Option.{option_to_list}
 use Rattle.std.proofs.lemmas.Bool.{false≢true}
@@ -9,19 +9,19 @@ use Rattle.trace_filter.specs.Filters.{Parsed, IsFilter, IsRefused, answer_of}
 use Rattle.trace_filter.proofs.FilterLemmas.{filter_or_refused, refusal_is_answered, holds_as_its_tree}
 use Rattle.trace_format.specs.Definitions.{Definition}
 use Rattle.trace_lex.proofs.Options.{if_some}
-use Rattle.tracer_specification.specs.History.{answer_with_room, missing_event, unless_refused, named_filter_answer, filter_answer, taken_answer, requests_of, IsLegalNewestFirst}
+use Rattle.tracer_specification.specs.History.{answer_with_room, missing_event, unless_refused, named_filter_answer, filter_answer, taken_answer}
 use Rattle.tracer_specification.specs.Laws.{FiltersAreOfTheirEvents, FiltersHoldAsTheirTrees}
+use Rattle.tracer_specification.specs.Pasts.{AreDone}
 use Rattle.trace_command.specs.Paths.{File, OfInstance, OfEvent}
-use Rattle.trace_command.specs.Requests.{Request, WriteFile, request_of}
+use Rattle.trace_command.specs.Requests.{Request, WriteFile}
 use Rattle.trace_command.specs.declared.file_name.EventFile.TheVariants as per_event
 use Rattle.trace_command.specs.declared.file_name.TopFile.TheVariants as top
 use Rattle.tracer_specification.specs.Emissions.{filter_holds}
 use Rattle.tracer_specification.specs.Settings.{NumberedEvent, set_by, is_same, makes, event_named, declares, declared_events, clears_filter, can_take, written_filter, written_to_all, sets_filter, filter_of}
 use Rattle.trace_command.specs.declared.command.Config.{Config}
-use Rattle.trace_command.specs.declared.command.Entry.{Entry}
 use Rattle.trace_command.specs.declared.refusal.Refusal.TheVariants.{NoSuchEvent}
 use Rattle.tracer_specification.proofs.Events.{named_in-fewer}
-use Rattle.tracer_specification.proofs.LegalEvents.{done-had_room, asked-done, named_in-more, named-is_definition}
+use Rattle.tracer_specification.proofs.LegalEvents.{asked-done, named_in-more, named-is_definition}
 
 -- ---- what a write sets
 
@@ -180,21 +180,18 @@ taken-after g instance past request name done before = record { unfiltered = unf
             let same : old ≡ k = same_Some _ _ e in
             by_life old was same (makes instance request) stands
 
-taken-legal : (g : Config) (entries : List Entry) (instance : Option (List ℕ)) (name : List ℕ) → IsLegalNewestFirst g entries
-    → IsTaken instance name (requests_of entries)
-taken-legal g [] instance name legal = record { unfiltered = λ none. refl; taken = λ k text there stands. absurd (none-some text stands) }
-taken-legal g (entry ∷ entries) instance name legal =
-    taken-after g instance (requests_of entries) (request_of entry.command) name
-    (done-had_room g (requests_of entries) (request_of entry.command) legal.2).0 (taken-legal g entries instance name legal.3)
+taken-done : (g : Config) (past : List Request) (instance : Option (List ℕ)) (name : List ℕ) → AreDone g past → IsTaken instance name past
+taken-done g [] instance name done = record { unfiltered = λ none. refl; taken = λ k text there stands. absurd (none-some text stands) }
+taken-done g (request ∷ past) instance name done = taken-after g instance past request name done.0 (taken-done g past instance name done.1)
 
 -- ---- the theorems
 
 pub standing_filters_are_filters : FiltersAreOfTheirEvents
-standing_filters_are_filters g entries instance name k text legal there stands =
-    takes-is_filter text k.event ((taken-legal g entries instance name legal).taken k text there stands)
+standing_filters_are_filters g past instance name k text done there stands =
+    takes-is_filter text k.event ((taken-done g past instance name done).taken k text there stands)
 
 pub filters_hold_as_their_trees : FiltersHoldAsTheirTrees
 unfolding filter_holds
-filters_hold_as_their_trees g entries instance name k text row cpu pid legal there stands is_row =
+filters_hold_as_their_trees g past instance name k text row cpu pid done there stands is_row =
     holds_as_its_tree k.event text row (record { values = row.values; cpu = cpu; pid = pid })
-    (standing_filters_are_filters g entries instance name k text legal there stands) (named-is_definition g entries name k legal there) is_row refl
+    (standing_filters_are_filters g past instance name k text done there stands) (named-is_definition g past name k done there) is_row refl

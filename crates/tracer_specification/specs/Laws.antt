@@ -1,6 +1,6 @@
--- What the words of the answers mean in legal histories, and after any requests what pipe reads consume and which records snapshots move. The newest
--- entry comes first.
-use Rattle.std.specs.Prelude.{◌≡◌, ◌↔◌, ℕ, ◌==◌, ◌<◌, ◌≤◌, nat_lt, ℤ, Bool, IsTrue, true, false, not, ◌&&◌, ◌||◌, List, [], ◌∷◌, ◌++◌, length, map, All, Option, Some, None, Result, Ok}
+-- What the words of the answers mean after requests that were done, and after any requests what pipe reads consume and which records snapshots move. The
+-- newest request comes first.
+use Rattle.std.specs.Prelude.{◌≡◌, ◌↔◌, ℕ, ◌^◌, ◌==◌, ◌<◌, ◌≤◌, nat_lt, ℤ, Bool, IsTrue, true, false, not, ◌&&◌, ◌||◌, List, [], ◌∷◌, ◌++◌, length, map, All, Option, Some, None, Result, Ok}
 use Rattle.std.specs.List.{AllPairs, Contains, filter, list_any}
 use Rattle.std.specs.Result.{result_err}
 use Rattle.page_ring.specs.Account.{Reading}
@@ -16,9 +16,10 @@ use Rattle.trace_trigger.specs.declared.fault.TriggerFault.{TriggerFault}
 use Rattle.trace_trigger.specs.declared.trigger.TriggerText.{TriggerText}
 use Rattle.trace_trigger.specs.declared.trigger.TriggerText.TheVariants.{Hist, RemoveHist}
 use Rattle.trace_command.specs.Configs.{IsInRange}
-use Rattle.tracer_specification.specs.History.{answer_with_room, trigger_count, requests_of, IsLegalNewestFirst}
+use Rattle.tracer_specification.specs.History.{answer_with_room, trigger_count}
+use Rattle.tracer_specification.specs.Pasts.{AreDone}
 use Rattle.trace_command.specs.Paths.{File, OfInstance, OfCpu}
-use Rattle.trace_command.specs.Requests.{Request, WriteFile, ReadFile, request_of}
+use Rattle.trace_command.specs.Requests.{Request, WriteFile, ReadFile, FitsItsTypes}
 use Rattle.trace_command.specs.declared.file_name.CpuFile.TheVariants as per_cpu
 use Rattle.trace_command.specs.declared.file_name.TopFile.TheVariants as top
 use Rattle.tracer_specification.specs.Emissions.{Emitted, emitted, emitted_bytes, filter_holds, is_recorded}
@@ -29,21 +30,20 @@ use Rattle.tracer_specification.specs.Triggers.{acts, trigger_of, has_trigger}
 use Rattle.tracer_specification.specs.Waiting.{waiting, waits_in}
 use Rattle.tracer_specification.specs.HistTriggers.{HistTrigger, Written, hist_triggers, hists_of, is_of, says_same, has_same, kept_by, left_by, new_hist, written_to}
 use Rattle.trace_command.specs.declared.command.Config.{Config}
-use Rattle.trace_command.specs.declared.command.Entry.{Entry}
 
 -- the filter that an event has in an instance is one of the event, by the grammar and the event's fields
 abbrev pub FiltersAreOfTheirEvents : Type 0
 FiltersAreOfTheirEvents =
-    (g : Config) (entries : List Entry) (instance : Option (List ℕ)) (name : List ℕ) (k : NumberedEvent) (text : List ℕ)
-    → IsLegalNewestFirst g entries → event_named name (requests_of entries) ≡ Some k
-    → filter_of instance name (requests_of entries) ≡ Some text → IsFilter k.event text
+    (g : Config) (past : List Request) (instance : Option (List ℕ)) (name : List ℕ) (k : NumberedEvent) (text : List ℕ)
+    → AreDone g past → event_named name past ≡ Some k
+    → filter_of instance name past ≡ Some text → IsFilter k.event text
 
 -- and it holds of just those emissions of which a tree that its text spells holds
 abbrev pub FiltersHoldAsTheirTrees : Type 0
 FiltersHoldAsTheirTrees =
-    (g : Config) (entries : List Entry) (instance : Option (List ℕ)) (name : List ℕ) (k : NumberedEvent) (text : List ℕ) (row : Cells) (cpu : ℕ) (pid : ℤ)
-    → IsLegalNewestFirst g entries → event_named name (requests_of entries) ≡ Some k
-    → filter_of instance name (requests_of entries) ≡ Some text → IsRowOf k.event row
+    (g : Config) (past : List Request) (instance : Option (List ℕ)) (name : List ℕ) (k : NumberedEvent) (text : List ℕ) (row : Cells) (cpu : ℕ) (pid : ℤ)
+    → AreDone g past → event_named name past ≡ Some k
+    → filter_of instance name past ≡ Some text → IsRowOf k.event row
     → IsTrue (filter_holds k.event (Some text) row cpu pid) ↔ Passes k.event text (record { values = row.values; cpu = cpu; pid = pid })
 
 -- the line that shows an emission
@@ -52,12 +52,12 @@ emitted_line e =
     row_line e.cpu (record { ts = e.timestamp; pid = e.pid; event = e.k.id; payload = length (payload_of e.row) }) e.k.event e.row.values
 
 -- the line of an emission's record shows the row that was emitted, then and whatever is done later: with numbers in range, as a book's are,
--- each number of the record's head fits its place
+-- each number of the record's head fits its place, while there are fewer than 2^64 requests
 abbrev pub RecordsShowTheirRows : Type 0
 RecordsShowTheirRows =
-    (g : Config) (entry : Entry) (before later : List Entry) (e : Emitted)
-    → IsInRange g → IsLegalNewestFirst g (entry ∷ before) → emitted (requests_of before) (request_of entry.command) ≡ Some e
-    → record_line (declared_events (requests_of (later ++ entry ∷ before))) e.cpu (emitted_bytes e) ≡ emitted_line e
+    (g : Config) (request : Request) (before later : List Request) (e : Emitted)
+    → IsInRange g → AreDone g before → length (request ∷ before) < 2 ^ 64 → FitsItsTypes request → emitted before request ≡ Some e
+    → record_line (declared_events (later ++ request ∷ before)) e.cpu (emitted_bytes e) ≡ emitted_line e
 
 -- the records that a CPU's ring of an instance's live side keeps, as consuming reads find them
 abbrev pub kept_readings : Config → Option (List ℕ) → ℕ → List Request → List Reading
@@ -67,33 +67,33 @@ kept_readings g instance cpu past = cpu_readings g.pages g.page_bytes (rings g i
 abbrev pub spare_readings : Config → Option (List ℕ) → ℕ → List Request → List Reading
 spare_readings g instance cpu past = cpu_readings g.pages g.page_bytes (other_rings g instance past) cpu
 
--- a line shows an emission of the history: one on this CPU, in this life of the instance, that the instance recorded. The line is that of the
+-- a line shows an emission of a past: one on this CPU, in this life of the instance, that the instance recorded. The line is that of the
 -- emission's row, with the number of its process and the time at which it came.
-pub record ShowsEmission (instance : Option (List ℕ)) (cpu : ℕ) (entries : List Entry) (line : List ℕ) : Type 0 where
-  pub later : List Entry
-  pub entry : Entry
-  pub before : List Entry
-  pub cut : entries ≡ later ++ entry ∷ before
-  pub alive : list_any (makes instance) (requests_of later) ≡ false
+pub record ShowsEmission (instance : Option (List ℕ)) (cpu : ℕ) (past : List Request) (line : List ℕ) : Type 0 where
+  pub later : List Request
+  pub request : Request
+  pub before : List Request
+  pub cut : past ≡ later ++ request ∷ before
+  pub alive : list_any (makes instance) later ≡ false
   pub e : Emitted
-  pub emission : emitted (requests_of before) (request_of entry.command) ≡ Some e
+  pub emission : emitted before request ≡ Some e
   pub there : e.cpu ≡ cpu
-  pub recorded : IsTrue (is_recorded instance (requests_of before) e)
+  pub recorded : IsTrue (is_recorded instance before e)
   pub shown : line ≡ emitted_line e
 
--- the line of each record that the live side keeps shows an emission
+-- the line of each record that the live side keeps shows an emission, with numbers that fit their types, and while there are fewer than 2^64 requests
 abbrev pub KeptRecordsShowEmissions : Type 0
 KeptRecordsShowEmissions =
-    (g : Config) (entries : List Entry) (instance : Option (List ℕ)) (cpu : ℕ) → IsInRange g → IsLegalNewestFirst g entries
-    → All (λ (r : Reading). ShowsEmission instance cpu entries (record_line (declared_events (requests_of entries)) cpu r.rec))
-    (kept_readings g instance cpu (requests_of entries))
+    (g : Config) (past : List Request) (instance : Option (List ℕ)) (cpu : ℕ) → IsInRange g → AreDone g past → length past < 2 ^ 64 → All FitsItsTypes past
+    → All (λ (r : Reading). ShowsEmission instance cpu past (record_line (declared_events past) cpu r.rec))
+    (kept_readings g instance cpu past)
 
 -- and so does the line of each record that the other side keeps
 abbrev pub KeptSpareRecordsShowEmissions : Type 0
 KeptSpareRecordsShowEmissions =
-    (g : Config) (entries : List Entry) (instance : Option (List ℕ)) (cpu : ℕ) → IsInRange g → IsLegalNewestFirst g entries
-    → All (λ (r : Reading). ShowsEmission instance cpu entries (record_line (declared_events (requests_of entries)) cpu r.rec))
-    (spare_readings g instance cpu (requests_of entries))
+    (g : Config) (past : List Request) (instance : Option (List ℕ)) (cpu : ℕ) → IsInRange g → AreDone g past → length past < 2 ^ 64 → All FitsItsTypes past
+    → All (λ (r : Reading). ShowsEmission instance cpu past (record_line (declared_events past) cpu r.rec))
+    (spare_readings g instance cpu past)
 
 -- ---- snapshots
 
@@ -125,17 +125,17 @@ SnapshotsStay =
     → makes instance request ≡ false → writes_snapshot instance request ≡ false → exchanges instance past request ≡ false
     → other_rings g instance (request ∷ past) ≡ other_rings g instance past
 
--- in a legal history a spare is there to exchange with where an event has a trigger for snapshots
+-- after requests that were done a spare is there to exchange with where an event has a trigger for snapshots
 abbrev pub TriggersHaveTheirSpare : Type 0
 TriggersHaveTheirSpare =
-    (g : Config) (entries : List Entry) (instance : Option (List ℕ)) → IsLegalNewestFirst g entries
-    → has_trigger instance (requests_of entries) ≡ true → has_spare instance (requests_of entries) ≡ true
+    (g : Config) (past : List Request) (instance : Option (List ℕ)) → AreDone g past
+    → has_trigger instance past ≡ true → has_spare instance past ≡ true
 
 -- and where there is none the other side is empty, so a spare that is made is as new
 abbrev pub SparesBeginEmpty : Type 0
 SparesBeginEmpty =
-    (g : Config) (entries : List Entry) (instance : Option (List ℕ)) → IsLegalNewestFirst g entries
-    → has_spare instance (requests_of entries) ≡ false → other_rings g instance (requests_of entries) ≡ new_rings g
+    (g : Config) (past : List Request) (instance : Option (List ℕ)) → AreDone g past
+    → has_spare instance past ≡ false → other_rings g instance past ≡ new_rings g
 
 -- ---- pipe reads
 
@@ -162,12 +162,12 @@ WholePipeReadsConsumeWhatTheyShow =
 
 -- ---- hist triggers
 
--- in a legal history an event has at most four triggers in an instance, those of both kinds together
+-- after requests that were done an event has at most four triggers in an instance, those of both kinds together
 abbrev pub AtMostFourTriggers : Type 0
 AtMostFourTriggers =
-    (g : Config) (entries : List Entry) (instance : Option (List ℕ)) (name : List ℕ) (k : NumberedEvent)
-    → IsLegalNewestFirst g entries → event_named name (requests_of entries) ≡ Some k
-    → trigger_count (trigger_of instance k.event (requests_of entries)) (hists_of instance k.event (requests_of entries)) ≤ 4
+    (g : Config) (past : List Request) (instance : Option (List ℕ)) (name : List ℕ) (k : NumberedEvent)
+    → AreDone g past → event_named name past ≡ Some k
+    → trigger_count (trigger_of instance k.event past) (hists_of instance k.event past) ≤ 4
 
 -- no two hist triggers of an event say the same
 abbrev pub HistTriggersDiffer : Type 0

@@ -1,4 +1,4 @@
--- What tables of hist triggers come to, after any requests and in legal histories (histogram.rst, "hist triggers"). The newest request comes first.
+-- What tables of hist triggers come to, after any requests and after those that were done (histogram.rst, "hist triggers"). The newest request comes first.
 use Rattle.std.specs.Prelude.{◌≡◌, ◌⊎◌, ℕ, ◌==◌, nat_lt, Bool, true, false, not, ◌&&◌, is_some, bytes_eq, List, [], ◌∷◌, ◌++◌, length, map, All, Option, Some, None, Ok}
 use Rattle.std.specs.List.{Contains, filter, flat_map}
 use Rattle.trace_format.specs.Definitions.{Definition}
@@ -13,10 +13,9 @@ use Rattle.trace_trigger.specs.declared.trigger.TriggerText.TheVariants.{Hist}
 use Rattle.trace_command.specs.Paths.{OfEvent}
 use Rattle.trace_command.specs.Requests.{Request, WriteFile}
 use Rattle.trace_command.specs.declared.command.Config.{Config}
-use Rattle.trace_command.specs.declared.command.Entry.{Entry}
 use Rattle.trace_command.specs.declared.file_name.EventFile.TheVariants as per_event
 use Rattle.tracer_specification.specs.Emissions.{Emitted, emitted}
-use Rattle.tracer_specification.specs.History.{requests_of, IsLegalNewestFirst}
+use Rattle.tracer_specification.specs.Pasts.{AreDone}
 use Rattle.tracer_specification.specs.HistTriggers.{HistTrigger, Written, asked_by, counted_hit, empties, hist_triggers, hists_of, hits_of, is_name_of, is_of, is_pause, is_paused, left_by, paused_after, says_same, table_of, written_for, written_to}
 use Rattle.tracer_specification.specs.Laws.{IsAttachedBy, some_later}
 use Rattle.tracer_specification.specs.Settings.{makes}
@@ -32,20 +31,20 @@ NamedTablesAreShared =
     → (is_name_of t.spec.name u.spec.name ≡ true → t.table ≡ u.table)
     × (t.table ≡ u.table → (t ≡ u) ⊎ (is_name_of t.spec.name u.spec.name ≡ true))
 
--- in a legal history those that share a table fit each other
+-- after requests that were done those that share a table fit each other
 abbrev pub SharedTablesFit : Type 0
 SharedTablesFit =
-    (g : Config) (entries : List Entry) (instance : Option (List ℕ)) (t u : HistTrigger) → IsLegalNewestFirst g entries
-    → Contains (hist_triggers instance (requests_of entries)) t → Contains (hist_triggers instance (requests_of entries)) u
+    (g : Config) (past : List Request) (instance : Option (List ℕ)) (t u : HistTrigger) → AreDone g past
+    → Contains (hist_triggers instance past) t → Contains (hist_triggers instance past) u
     → t.table ≡ u.table → Fits t.spec u.spec
 
 -- so they show the table alike: its entries and totals are the same for each of them, and so are the sort keys by which the entries are printed
 abbrev pub SharedTablesAreShownAlike : Type 0
 SharedTablesAreShownAlike =
-    (g : Config) (entries : List Entry) (instance : Option (List ℕ)) (t u : HistTrigger) → IsLegalNewestFirst g entries
-    → Contains (hist_triggers instance (requests_of entries)) t → Contains (hist_triggers instance (requests_of entries)) u
+    (g : Config) (past : List Request) (instance : Option (List ℕ)) (t u : HistTrigger) → AreDone g past
+    → Contains (hist_triggers instance past) t → Contains (hist_triggers instance past) u
     → t.table ≡ u.table
-    → (table_of instance t (requests_of entries) ≡ table_of instance u (requests_of entries)) × (t.spec.sort_sources ≡ u.spec.sort_sources)
+    → (table_of instance t past ≡ table_of instance u past) × (t.spec.sort_sources ≡ u.spec.sort_sources)
 
 -- a table begins with no row counted, and paused if the string that makes it asks for that
 abbrev pub TablesBeginEmpty : Type 0

@@ -1,5 +1,5 @@
-//! What the words of the answers mean in legal histories, what they give worked scripts, and what callers' trails come to. Entries stand newest
-//! first, those of a book reversed; in trails they stand as in a book. Each function does nothing: its contract is a theorem.
+//! What the words of the answers mean after requests that were done, what they give worked scripts, and what callers' trails come to. Requests stand
+//! newest first, those of a book reversed; in trails entries stand as in a book. Each function does nothing: its contract is a theorem.
 
 ghost use Rattle.std.specs.Prelude.{[]};
 ghost use Rattle.tracer_specification.specs.Examples.{small, IsAnswered, merged_reads, instances, instance_made_again, recording_off, lost_line_after_overrun, precedence_and_kept_filter};
@@ -12,20 +12,21 @@ ghost use Rattle.tracer_specification.specs.TableLaws.{CountedRowsAreOfEmissions
 ghost use Rattle.tracer_specification.specs.TrailLaws.{TrailsHoldDoneCallsOnce, EachCallIsAnswered, LoneCallersAreAnswered, WornIsNoAnswer, MemoryIsNoAnswer};
 ghost use Rattle.tracer_specification.specs.TrailExamples.{FirstMakes, SecondMakes, ExactlyOneMakes};
 
-/// In a legal history the filter that an event has in an instance is one of the event, and it holds of an emission as the trees of its text do.
+/// After requests that were done the filter that an event has in an instance is one of the event, and it holds of an emission as the trees of its
+/// text do.
 pub fn filters_are_of_their_events()
     ensures standing { FiltersAreOfTheirEvents }
     ensures holding { FiltersHoldAsTheirTrees }
 {}
 
-/// With a configuration in range: the line of an emission's record shows the row that was emitted, then and later.
+/// With a configuration in range and numbers that fit their types: the line of an emission's record shows the row that was emitted, then and later.
 pub fn records_show_their_rows()
     ensures { RecordsShowTheirRows }
 {}
 
-/// With a configuration in range: each record that a CPU's ring of an instance keeps, on the live side or on the other, has the line of an
-/// emission of the history: one on that CPU, since the instance was made, which the instance recorded: recording was on, the event was enabled
-/// and its filter held.
+/// With a configuration in range and numbers that fit their types: each record that a CPU's ring of an instance keeps after requests that were done, on
+/// the live side or on the other, has the line of an emission among them: one on that CPU, since the instance was made, which the instance recorded:
+/// recording was on, the event was enabled and its filter held.
 pub fn kept_records_show_emissions()
     ensures live { KeptRecordsShowEmissions }
     ensures spare { KeptSpareRecordsShowEmissions }
@@ -42,8 +43,8 @@ pub fn exchanges_swap_the_sides()
     ensures stay { SnapshotsStay }
 {}
 
-/// In a legal history an instance has a spare while one of its events has a trigger for snapshots, and as long as it has none the other side is
-/// empty: a spare that is made begins as new.
+/// After requests that were done an instance has a spare while one of its events has a trigger for snapshots, and as long as it has none the other
+/// side is empty: a spare that is made begins as new.
 pub fn spares_are_there_and_begin_empty()
     ensures armed { TriggersHaveTheirSpare }
     ensures empty { SparesBeginEmpty }
@@ -68,8 +69,8 @@ pub fn looks_tell_what_reads_take()
     trace_buffer::laws::reads_take_so_many();
 }
 
-/// In a legal history an event has at most four triggers in an instance. Its hist triggers are those that were attached and not taken away since; no
-/// two of them say the same, and they are in the order in which they were attached.
+/// After requests that were done an event has at most four triggers in an instance. Its hist triggers are those that were attached and not taken away
+/// since; no two of them say the same, and they are in the order in which they were attached.
 pub fn triggers_are_few_and_differ()
     ensures few { AtMostFourTriggers }
     ensures attached { HistTriggersAreThoseAttached }
@@ -77,8 +78,8 @@ pub fn triggers_are_few_and_differ()
     ensures order { HistTriggersAreInOrder }
 {}
 
-/// Hist triggers of an instance share a table if they have one name, and only then. In a legal history those that share one fit each other and
-/// show it alike. A table is made with its first trigger, with no row, and goes with its last.
+/// Hist triggers of an instance share a table if they have one name, and only then. After requests that were done those that share one fit each other
+/// and show it alike. A table is made with its first trigger, with no row, and goes with its last.
 pub fn named_tables_are_shared()
     ensures shared { NamedTablesAreShared }
     ensures fit { SharedTablesFit }

@@ -19,6 +19,7 @@ use Rattle.tracer_specification.specs.HistTriggers.{hists_of}
 use Rattle.trace_format.specs.Operands.{Emission}
 use Rattle.trace_instance.specs.Instances.{InstanceSeen, InstanceStandsFor, passed_in, IsAlike, IsUsableInstance}
 use Rattle.trace_instance.specs.Changes.{IsEffect, IsApplied, IsLawful, with_event}
+use Rattle.trace_instance.specs.MemoryTaken as taken
 use Rattle.tracer_state.specs.declared.change.Change.{Change}
 use Rattle.tracer_state.specs.declared.change.Change.TheVariants.{Declare, Make, Remove, Instance}
 use Rattle.trace_instance.specs.declared.change.InstanceChange.TheVariants.{Keep}
@@ -137,6 +138,14 @@ HasChanged old new (Instance index change) =
 -- a change was made, and the plans of events are what the settings say after it
 abbrev pub IsStep : State → State → Change → Type 0
 IsStep old new change = HasChanged old new change × IsPlanned new
+
+-- a change takes memory when it is made: for an event or an instance that is added, or in the instance that it changes
+abbrev pub TakesMemory : State → Change → Type 0
+TakesMemory state (Declare event) = ⊤
+TakesMemory state (Make named) = ⊤
+TakesMemory state (Remove index) = ⊥
+TakesMemory state (Instance index change) =
+    (d : Named) → taken.TakesMemory (slice_index_or state.instances.items index d).instance change
 
 -- an emission was brought to each instance, and the clock ticked; no plan changes
 abbrev pub IsEmitted : State → State → Delivery → Type 0

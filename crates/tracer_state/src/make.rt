@@ -7,7 +7,7 @@ ghost use Rattle.trace_command.specs.Requests.{Request, MakeInstance, RemoveInst
 ghost use Rattle.trace_command.specs.declared.command.Config.{Config};
 ghost use Rattle.tracer_specification.specs.Settings.{declared_events};
 ghost use Rattle.trace_instance.specs.Instances.{InstanceStandsFor};
-ghost use Rattle.tracer_state.specs.States.{StandsFor, IsPrepared, IsUsable};
+ghost use Rattle.tracer_state.specs.States.{StandsFor, IsPrepared, IsUsable, TakesMemory};
 
 use crate::change::Change;
 use crate::state::{Named, Prepared, State};
@@ -54,6 +54,7 @@ impl State {
         ensures prepared { (g : Config) (past : List Request) → StandsFor g self.now past
             → IsPrepared g past (RemoveInstance (paths.instance_of path.now)) self.now result }
         ensures memory { IfErr result (λ r. r ≢ Refusal.Memory) }
+        ensures takes_none { IfOk result (λ prepared. TakesMemory self.now prepared.change → ⊥) }
     {
         let Some(name) = instance_of(path) else {
             return Err(Refusal::NoSuchFile);

@@ -1,7 +1,7 @@
 //! Preparing commands, before anything changes: all their memory is allocated here, except that of the lists of events, instances, hist triggers,
 //! their tables and history entries, and that of a spare side.
 
-ghost use Rattle.std.specs.Prelude.{◌≡◌, ◌≢◌, ℕ, ◌^◌, ◌<◌, ◌≤◌, true, List, length, Option, Some, OnOk, IfErr};
+ghost use Rattle.std.specs.Prelude.{◌≡◌, ◌≢◌, ℕ, ◌^◌, ◌<◌, ◌≤◌, true, List, length, Option, Some, OnOk, IfOk, IfErr};
 ghost use Rattle.trace_command.specs.Configs.{IsInRange};
 ghost use Rattle.trace_command.specs.Paths as paths;
 ghost use Rattle.trace_command.specs.Requests as requests;
@@ -9,7 +9,8 @@ ghost use Rattle.trace_command.specs.Requests.{Request, WriteFile, ReadFile};
 ghost use Rattle.trace_command.specs.declared.command.Config.{Config};
 ghost use Rattle.tracer_specification.specs.LateMemory.{TakesMemoryLate};
 ghost use Rattle.tracer_specification.specs.Settings.{is_there, ticks};
-ghost use Rattle.tracer_state.specs.States.{StandsFor, IsPrepared, IsUsable};
+ghost use Rattle.trace_instance.specs.MemoryTaken.{TakesNoMemory};
+ghost use Rattle.tracer_state.specs.States.{StandsFor, IsPrepared, IsUsable, TakesMemory};
 
 use crate::change::Change;
 use crate::resolve::Target;
@@ -38,6 +39,8 @@ impl State {
         ensures fits { OnOk result (requests.FitsItsTypes (requests.request_of command.now)) }
         ensures memory { (past : List Request) → StandsFor config.now self.now past → TakesMemoryLate (requests.request_of command.now)
             → IfErr result (λ r. r ≢ Refusal.Memory) }
+        ensures takes_none { (past : List Request) → StandsFor config.now self.now past → TakesNoMemory past (requests.request_of command.now)
+            → IfOk result (λ prepared. TakesMemory self.now prepared.change → ⊥) }
     {
         match command {
             Command::Emit { .. } => unreachable!(),
@@ -73,6 +76,9 @@ impl State {
         ensures memory { (past : List Request) → StandsFor config.now self.now past
             → TakesMemoryLate (WriteFile (paths.address_of path.now).instance (paths.address_of path.now).file written.entry.append written.entry.text.now)
             → IfErr result (λ r. r ≢ Refusal.Memory) }
+        ensures takes_none { (past : List Request) → StandsFor config.now self.now past
+            → TakesNoMemory past (WriteFile (paths.address_of path.now).instance (paths.address_of path.now).file written.entry.append written.entry.text.now)
+            → IfOk result (λ prepared. TakesMemory self.now prepared.change → ⊥) }
     {
         match self.resolve(config, path)? {
             Target::Declarations => self.prepare_declaration(

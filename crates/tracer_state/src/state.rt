@@ -5,6 +5,7 @@ ghost use Rattle.trace_command.specs.Configs.{IsInRange};
 ghost use Rattle.trace_command.specs.declared.refusal.Refusal.TheVariants as refusal;
 ghost use Rattle.tracer_state.specs.States as states;
 ghost use Rattle.trace_instance.specs.Changes.{with_event, IsApplied, IsLawful};
+ghost use Rattle.trace_instance.specs.MemoryTaken.{TakesMemory};
 ghost use Rattle.trace_instance.specs.Deliveries.{CanCountRow, CanFire, HasFew, HasFewRows, IsWritable, most_requests, row_of};
 ghost use Rattle.tracer_state.specs.declared.state.Named.{Named};
 ghost use Rattle.trace_instance.specs.KeptHists.{KeysAgree};
@@ -99,6 +100,7 @@ impl State {
         ensures done { OnOk result (states.IsStep self.old self.new change) }
         ensures refused { OnErr result (states.IsUnchanged self.old self.new) }
         ensures memory { IfErr result (λ r. r ≡ refusal.Memory) }
+        ensures takes_memory { OnErr result (states.TakesMemory self.old change) }
     {
         let touched = change.touched(self.catalog.len());
         self.make_change(config, change)?;
@@ -119,6 +121,7 @@ impl State {
         ensures refused { OnErr result (states.IsUnchanged self.old self.new) }
         ensures plans { self.new.plans ≡ self.old.plans }
         ensures memory { IfErr result (λ r. r ≡ refusal.Memory) }
+        ensures takes_memory { OnErr result (states.TakesMemory self.old change) }
     {
         match change {
             Change::Declare(event) => {
@@ -142,6 +145,7 @@ impl State {
         ensures reply { IfOk result (λ r. r ≡ prepared.reply) }
         ensures refused { OnErr result (states.IsUnchanged self.old self.new) }
         ensures memory { IfErr result (λ r. r ≡ refusal.Memory) }
+        ensures takes_memory { OnErr result (states.TakesMemory self.old prepared.change) }
     {
         let (change, reply) = prepared.into_parts();
         self.commit(config, change)?;
@@ -186,6 +190,7 @@ fn change_one(
     requires lawful { (d : Named) → IsLawful (slice_index_or instances.old index d).instance change }
     ensures changed { OnOk result (states.OneCame (IsApplied change) index instances.old instances.new) }
     ensures refused { OnErr result (instances.new ≡ instances.old) }
+    ensures takes_memory { OnErr result ((d : Named) → TakesMemory (slice_index_or instances.old index d).instance change) }
 {
     instances[index].instance.apply(change)
 }

@@ -10,6 +10,7 @@ use Rattle.tracer_specification.specs.History.{answer_with_room, unless_full}
 use Rattle.tracer_specification.specs.LateMemory.{TakesMemoryLate}
 use Rattle.tracer_specification.specs.Pasts.{AreDone}
 use Rattle.trace_instance.specs.Deliveries.{most_requests}
+use Rattle.trace_instance.specs.MemoryTaken.{TakesNoMemory}
 use Rattle.tracer_state.specs.States.{IsPrepared, IsPreparedEmission, StandsFor}
 use Rattle.tracer_state.specs.declared.state.Prepared.{Prepared}
 use Rattle.tracer_state.specs.declared.state.State.{State}
@@ -68,11 +69,13 @@ pub record CanDeliver (live : LiveSeen) : Type 0 where
 -- ---- calls
 
 -- what a call with this request comes to where no more than so many commands are done, if these requests led to the tracer before it: the answer, or
--- Memory in place of one that is not found early. Where the command is done, the request is one more that led to the tracer; where it is refused, none is.
+-- Memory in place of one that is not found early, but just the answer to a request that takes no memory. Where the command is done, the request is
+-- one more that led to the tracer; where it is refused, none is.
 pub record IsCallWithin (limit : ℕ) (past : List Request) (new : LiveSeen) (request : Request) (result : Result Reply Refusal) : Type 0 where
   pub reply : OrMemory result (limited_answer limit new.config past request)
   pub early : IsFoundEarly (limited_answer limit new.config past request) → result ≡ limited_answer limit new.config past request
   pub late_memory : TakesMemoryLate request → IfErr (limited_answer limit new.config past request) (λ refusal. result ≡ Err refusal)
+  pub takes_none : TakesNoMemory past request → result ≡ limited_answer limit new.config past request
   pub done : OnOk result (IsLive new.config (request ∷ past) new)
   pub refused : OnErr result (IsLive new.config past new)
 

@@ -11,8 +11,8 @@
 //!             counts     the command is done            the command is done
 //! ```
 //!
-//! `carry_out` can be refused memory only for a spare side, a trigger and its table, an event or an instance, and it allocates all of that
-//! before it changes anything. Nothing is ever undone. The two phases pass on data (a `Change`; the `Delivery` that the tracer keeps), so the second
+//! `carry_out` can be refused memory only for a spare side, a trigger and its table, an event or an instance (`TakesMemory`), and it allocates all of
+//! that before it changes anything. Nothing is ever undone. The two phases pass on data (a `Change`; the `Delivery` that the tracer keeps), so the second
 //! never looks at the command again: it makes a step of the state, and the first has shown that this is the step that the definitions give the command.
 //!
 //! The phases are public (`phases.rt`), for a caller that has something of its own to do between them, as a book writes its entry ahead. `ask.rt` has

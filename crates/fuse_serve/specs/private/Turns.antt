@@ -1,45 +1,46 @@
 -- What a turn of a service comes to.
-use Rattle.std.specs.Prelude.{◌≡◌, ◌≢◌, ◌⊎◌, ℕ, List, [], Option, Some, None, Result, Ok, Err}
-use Rattle.std.specs.Io.KnownBytes.{Appends}
-use Rattle.fuse_serve.specs.CallLogs.{FailedFor}
-use Rattle.fuse_serve.specs.Counts.{one_more, raised}
-use Rattle.fuse_serve.specs.Endings.{HasEnded, IsCut, ReadsOn, StopsReading}
-use Rattle.fuse_serve.specs.Exchanges.{AreOffers, Exchange, HasOffered, IsWritten, is_dropped, is_sent}
-use Rattle.fuse_serve.specs.Outcomes.{last_is_no_entry}
-use Rattle.fuse_serve.specs.declared.call_log.CallLog.{CallLog}
+use Rattle.std.specs.Prelude.{◌≡◌, ◌≢◌, ℕ, ◌-◌, true, false, List, [], ◌∷◌, ◌++◌, length, Option, Some, None, Result, Ok, Err}
+use Rattle.std.specs.Io.KnownBytes.{Appends, Consumes}
+use Rattle.std.specs.declared.io.Error.{Error}
+use Rattle.fuse_serve.specs.Calls.{Call, FailedFor, ends_input, first_bytes, read_call, taken}
+use Rattle.fuse_serve.specs.Deliveries.{IsDelivered}
+use Rattle.fuse_serve.specs.Endings.{HasEnded}
 use Rattle.fuse_serve.specs.declared.cause.Cause.TheVariants.{Other}
 use Rattle.fuse_serve.specs.declared.fate.Fate.{Fate}
-use Rattle.fuse_serve.specs.declared.fate.Fate.TheVariants.{Cut}
 use Rattle.fuse_serve.specs.declared.fault.Ended.{Ended}
 use Rattle.fuse_serve.specs.declared.fault.Fault.{Fault}
 use Rattle.fuse_serve.specs.declared.fault.Fault.TheVariants.{Memory, Unframed, Read, Write}
+use Rattle.fuse_serve.specs.declared.framing.TheConstants.{MOST_BYTES}
+use Rattle.fuse_serve.specs.declared.outcome.Outcome.TheVariants as outcomes
 
--- what a read comes to, by the bytes that waited before and wait now
-abbrev pub Received : Result (Option Ended) Fault → List ℕ → List ℕ → CallLog → CallLog → Option (List ℕ) → Type 0
-Received (Ok None) old new before after remaining = ReadsOn before after
-Received (Ok (Some ended)) old new before after remaining = (new ≡ []) × StopsReading before after new × HasEnded ended after remaining
-Received (Err Memory) old new before after remaining = ⊥
-Received (Err Unframed) old new before after remaining =
-    (new ≡ old) × (new ≢ []) × StopsReading before after new × (ended : Ended) × HasEnded ended after remaining
-Received (Err Read) old new before after remaining = (new ≡ old) × StopsReading before after new × FailedFor Other after
-Received (Err Write) old new before after remaining = ⊥
+-- a read was offered all the room after the bytes that waited, and what it gave waits after them
+pub record HasRead (result : Result ℕ Error) (waited waits : List ℕ) (calls calls' : List Call) (remaining remaining' : Option (List ℕ)) : Type 0 where
+  pub buffer : List ℕ
+  pub room : length buffer ≡ MOST_BYTES - length waited
+  pub made : calls' ≡ calls ++ read_call buffer result ∷ []
+  pub came : waits ≡ waited ++ first_bytes buffer result
+  pub consumed : Consumes remaining remaining' (first_bytes buffer result)
 
--- how the counts of a writer rise with a reply of this fate
-pub record Tallies (fate : Fate) (reply : List ℕ) (before after : CallLog) : Type 0 where
-  pub stops : (after.stops ≡ before.stops) ⊎ ((fate ≡ Cut) × (after.stops ≡ one_more before.stops))
-  pub no_entries : fate ≢ Cut → after.no_entries ≡ raised before.no_entries (is_dropped fate reply)
-  pub last_entry : fate ≡ Cut → after.no_entries ≡ raised before.no_entries (last_is_no_entry after.last)
-  pub wholes : after.wholes ≡ raised before.wholes (is_sent fate reply)
+-- what a read comes to, by what the call returned and the bytes that wait
+abbrev pub Received : Result (Option Ended) Fault → Result ℕ Error → List ℕ → Option (List ℕ) → Type 0
+Received (Ok None) result waits remaining = ends_input (outcomes.Read result) ≡ false
+Received (Ok (Some ended)) result waits remaining =
+    (waits ≡ []) × (ends_input (outcomes.Read result) ≡ true) × HasEnded ended (outcomes.Read result) remaining
+Received (Err Memory) result waits remaining = ⊥
+Received (Err Unframed) result waits remaining =
+    (waits ≢ []) × (ends_input (outcomes.Read result) ≡ true) × (ended : Ended) × HasEnded ended (outcomes.Read result) remaining
+Received (Err Read) result waits remaining = (ends_input (outcomes.Read result) ≡ true) × FailedFor Other (outcomes.Read result)
+Received (Err Write) result waits remaining = ⊥
+
+-- a message was written, by these calls
+pub record HasDelivered (fate : Fate) (reply : List ℕ) (calls calls' : List Call) (contents contents' : Option (List ℕ)) : Type 0 where
+  pub writes : List Call
+  pub made : calls' ≡ calls ++ writes
+  pub delivered : IsDelivered fate reply writes
+  pub written : Appends contents contents' (taken writes)
 
 -- the server answered this request, or told what it owed if it is empty, and this became of the reply
-pub record Answered {S : Type 0} (answers : S → List ℕ → S → List ℕ → Type 0) (before after : S) (contents contents' : Option (List ℕ)) (offers offers' : Option (List (List ℕ))) (writes writes' : CallLog)
-    (request : List ℕ) (fate : Fate) (one : Exchange) : Type 0 where
-  pub asked : one.request ≡ request
-  pub became : one.fate ≡ fate
-  pub answered : answers before one.request after one.reply
-  pub kept : IsWritten one.fate one.reply one.written
-  pub written : Appends contents contents' one.written
-  pub offered : HasOffered offers offers' one.offers
-  pub first_whole : AreOffers one.reply one.offers
-  pub tallies : Tallies one.fate one.reply writes writes'
-  pub cut : fate ≡ Cut → IsCut writes' one.written
+pub record HasAnswered {S : Type 0} (answers : S → List ℕ → S → List ℕ → Type 0) (before after : S) (request : List ℕ) (fate : Fate) (calls calls' : List Call) (contents contents' : Option (List ℕ)) : Type 0 where
+  pub reply : List ℕ
+  pub answered : answers before request after reply
+  pub delivered : HasDelivered fate reply calls calls' contents contents'

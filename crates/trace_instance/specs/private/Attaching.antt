@@ -27,7 +27,7 @@ use Rattle.trace_instance.specs.KeptHists.{kept_hists, says_same}
 use Rattle.trace_trigger.specs.FittingSpecs.{is_fitting}
 use Rattle.trace_hist.specs.Hists.{StandsFor}
 use Rattle.tracer_specification.specs.HistTriggers.{is_pause}
-use Rattle.trace_instance.specs.private.EventLists.{all_hists}
+use Rattle.trace_instance.specs.EventLists.{all_hists}
 use Rattle.trace_instance.specs.declared.hists.AttachedHist.{AttachedHist}
 use Rattle.trace_instance.specs.declared.attach.EventTriggers.{EventTriggers}
 use Rattle.trace_instance.specs.declared.change.TriggerChange.{TriggerChange}

@@ -3,7 +3,7 @@ use Rattle.std.specs.Prelude.{Bool, if◌then◌else◌, List, [], slice_set, Op
 use Rattle.std.specs.List.{find, flat_map}
 use Rattle.trace_trigger.specs.HistSpecs.{SpecSeen}
 use Rattle.tracer_specification.specs.HistTriggers.{is_name_of}
-use Rattle.trace_instance.specs.private.EventLists.{all_hists}
+use Rattle.trace_instance.specs.EventLists.{all_hists}
 use Rattle.trace_instance.specs.declared.attach.EventTriggers.{EventTriggers}
 use Rattle.trace_instance.specs.declared.hists.AttachedHist.{AttachedHist}
 

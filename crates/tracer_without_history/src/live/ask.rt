@@ -18,7 +18,8 @@ impl Live {
     ///
     /// If an allocation is refused, `Memory` may replace the answer, but never `NoSuchFile`, `NotReadable`, `NotWritable`, `BadValue`, `NoSuchEvent`,
     /// `InstanceExists`, `NoSuchInstance` or `NoSuchCpu`, and never a refusal of a command that allocates late (`TakesMemoryLate`): `rmdir`, or a
-    /// write of anything but a declaration, a filter that doesn't clear, a trigger with a filter, or a hist trigger.
+    /// write of anything but a declaration, a filter that doesn't clear, a trigger with a filter, or a hist trigger. Of these a command that takes no
+    /// memory at all (`TakesNoMemory`) has just its answer: any but a trigger that is attached, and a snapshot that needs a spare side.
     pub fn ask(&mut self, command: Command) -> Result<Reply, Refusal>
         ensures call { (past : List Request) → IsLive self.old.config past self.old
             → IsCall past self.new (request_of command) result }

@@ -8,7 +8,8 @@ ghost use Rattle.trace_format.specs.declared.pair.Pair.{Pair as PairSeen};
 ghost use Rattle.tracer_specification.specs.History.{emission_answer};
 ghost use Rattle.tracer_specification.specs.LateMemory.{TakesMemoryLate};
 ghost use Rattle.tracer_specification.specs.Settings.{declared_events, ticks};
-ghost use Rattle.tracer_state.specs.States.{IsPrepared, IsPreparedEmission};
+ghost use Rattle.trace_instance.specs.MemoryTaken.{TakesNoMemory};
+ghost use Rattle.tracer_state.specs.States.{IsPrepared, IsPreparedEmission, TakesMemory};
 ghost use Rattle.tracer_state.specs.ValueEmissions.{values_emission};
 ghost use Rattle.tracer_without_history.specs.Lives.{IsLive, IsPreparedWithin, IsReadyFor, CanDeliver, limited_answer, most_done};
 
@@ -30,6 +31,8 @@ impl Live {
         ensures fits { OnOk result (FitsItsTypes (request_of command.now)) }
         ensures memory { (past : List Request) → IsLive self.now.config past self.now → TakesMemoryLate (request_of command.now)
             → IfErr result (λ r. r ≢ refusal.Memory) }
+        ensures takes_none { (past : List Request) → IsLive self.now.config past self.now → TakesNoMemory past (request_of command.now)
+            → IfOk result (λ prepared. TakesMemory self.now.state prepared.change → ⊥) }
     {
         let done = self.done;
         let prepared = self.state.prepare(self.alloc, &self.config, done, command)?;
@@ -63,7 +66,8 @@ impl Live {
         Ok(read)
     }
 
-    /// Makes the change that was prepared for a command, and returns its reply: the command is done. If memory is refused, nothing changes.
+    /// Makes the change that was prepared for a command, and returns its reply: the command is done. If memory is refused, of which only some changes
+    /// take any (`TakesMemory`), nothing changes.
     #[inline(always)]
     pub fn carry_out(&mut self, prepared: Prepared) -> Result<Reply, Refusal>
         requires ready { IsReadyFor self.old prepared }
@@ -75,6 +79,7 @@ impl Live {
         ensures refused { OnErr result ((past : List Request) → IsLive self.old.config past self.old
             → IsLive self.new.config past self.new) }
         ensures memory { IfErr result (λ r. r ≡ refusal.Memory) }
+        ensures takes_memory { OnErr result (TakesMemory self.old.state prepared.change) }
         ensures config { self.new.config ≡ self.old.config }
     {
         let reply = self.state.carry_out(&self.config, prepared)?;

@@ -1,22 +1,17 @@
-use Rattle.std.proofs.Common.{◌≡◌, ℕ, ◌+◌, ◌≤◌, ltb, List, ◌++◌, length, false, cond}
-use Rattle.std.specs.Io.KnownBytes.{Appends}
-use Rattle.fuse_serve.specs.Counts.{most_calls, raised}
-use Rattle.fuse_serve.specs.private.Offering.{IsOffering}
+use Rattle.std.proofs.Common.{◌≡◌, ◌+◌, ◌-◌, ◌^◌, ◌≤◌, List, length}
+use Rattle.fuse_serve.proofs.Delivering.{IsBegun}
+use Rattle.fuse_serve.specs.Calls.{Call}
 use Rattle.fuse_serve.proofs.deliver.deliver.Given as goal
 
 abbrev pub invariant-loop-rest : goal.invariant-loop-rest
 invariant-loop-rest g l =
-    let contents = g.W.Outgoing.contents in
-    let before = g.W.Outgoing.log l.fn.writer in
-    let now = g.W.Outgoing.log l.writer in
-    (front : List ℕ) × (l.reply ≡ front ++ l.rest) × Appends (contents l.fn.writer) (contents l.writer) front
+    let device = g.D.Device in
+    (writes : List Call)
     × record {
-      stops : now.stops ≡ before.stops;
-      no_entries : now.no_entries ≡ before.no_entries;
-      wholes : now.wholes ≡ raised before.wholes (cond (ltb 0 (length l.rest)) false (ltb 0 (length l.reply)));
-      tries : most_calls ≤ now.calls + l.tries;
+      begun : IsBegun l.reply l.rest writes (device.calls l.fn.device) (device.calls l.device) (device.contents l.fn.device) (device.contents l.device);
+      tries : 2 ^ 64 - 1 ≤ length writes + l.tries;
+      remaining : device.remaining l.device ≡ device.remaining l.fn.device;
     }
-    × IsOffering l.reply l.rest (g.W.Outgoing.offers l.fn.writer) (g.W.Outgoing.offers l.writer)
 
 abbrev pub decreases-loop-rest : goal.decreases-loop-rest
 decreases-loop-rest g l = length l.rest + l.tries

@@ -1,21 +1,12 @@
-use Rattle.std.proofs.Common.{ℕ, List, [], refl, subst}
-use Rattle.fuse_serve.specs.Exchanges.{AreOffers, IsWritten}
-use Rattle.fuse_serve.specs.private.Turns.{Tallies}
+use Rattle.std.proofs.Common.{ℕ, List, subst}
+use Rattle.fuse_serve.specs.private.Turns.{HasDelivered}
 use Rattle.fuse_serve.proofs.service.tell_next.Goals as goal
 
 pub returns-clause-answered : goal.returns-clause-answered
 returns-clause-answered g c =
-    let log = g.W.Outgoing.log in (
-      record { request = []; reply = c.tell_owed.new.reply.items; fate = c.deliver.result; written = c.deliver.ensures.written.0; offers = c.deliver.ensures.offered.0 },
-      record {
-        asked = refl;
-        became = refl;
-        answered = c.tell_owed.ensures.answers;
-        kept = subst (λ (xs : List ℕ). IsWritten c.deliver.result xs c.deliver.ensures.written.0) c.deref.ensures.value c.deliver.ensures.written.1;
-        written = c.deliver.ensures.written.2;
-        offered = c.deliver.ensures.offered.2;
-        first_whole = subst (λ (xs : List ℕ). AreOffers xs c.deliver.ensures.offered.0) c.deref.ensures.value c.deliver.ensures.offered.1;
-        tallies = subst (λ (xs : List ℕ). Tallies c.deliver.result xs (log c.args.writer.now) (log c.deliver.new.writer)) c.deref.ensures.value c.deliver.ensures.tallies;
-        cut = c.deliver.ensures.written.3;
-      },
-    )
+    let device = g.D.Device in record {
+      reply = c.tell_owed.new.reply.items;
+      answered = c.tell_owed.ensures.answers;
+      delivered = subst (λ (xs : List ℕ). HasDelivered c.deliver.result xs (device.calls c.args.device.now) (device.calls c.deliver.new.device) (device.contents c.args.device.now) (device.contents c.deliver.new.device))
+          c.deref.ensures.value c.deliver.ensures.delivered;
+    }

@@ -1,4 +1,5 @@
-use Rattle.history_laws.proofs.RingTotals.{rings_count_emissions, read_is_what_pipes_showed}
+use Rattle.history_laws.proofs.RingSteps.{AreConsumed}
+use Rattle.history_laws.proofs.RingTotals.{rings_count_emissions, read_is_what_pipes_showed, rings_are_accounted_for}
 use Rattle.history_laws.proofs.laws.rings_count_what_was_done.Goals as goal
 
 pub returns-clause-recorded : goal.returns-clause-recorded
@@ -16,3 +17,13 @@ returns-clause-read c =
       one = c.pipe_reads_consume_what_they_show.ensures.cpu;
       least = c.least_is_read.ensures.least;
     })
+
+pub returns-clause-all : goal.returns-clause-all
+returns-clause-all c =
+    let consumed : AreConsumed = record {
+      all = c.pipe_reads_consume_what_they_show.ensures.all;
+      one = c.pipe_reads_consume_what_they_show.ensures.cpu;
+      least = c.least_is_read.ensures.least;
+    } in
+    rings_are_accounted_for (rings_count_emissions consumed c.offered_is_puts.ensures c.counts_are_of_records.ensures.records)
+    (read_is_what_pipes_showed consumed)

@@ -1,4 +1,4 @@
-use Rattle.mount_replies.proofs.WaitLaws.{no_poll_waits_for_what_is_there, no_read_waits_for_what_is_there, nothing_is_owed_to_requests}
+use Rattle.mount_replies.proofs.WaitLaws.{no_poll_waits_for_what_is_there, no_read_waits_for_what_is_there}
 use Rattle.mount_replies.proofs.laws.no_read_waits_for_what_is_there.Goals as goal
 
 pub returns-clause-waits : goal.returns-clause-waits
@@ -6,6 +6,3 @@ returns-clause-waits c = no_read_waits_for_what_is_there
 
 pub returns-clause-polls : goal.returns-clause-polls
 returns-clause-polls c = no_poll_waits_for_what_is_there
-
-pub returns-clause-requests : goal.returns-clause-requests
-returns-clause-requests c = nothing_is_owed_to_requests

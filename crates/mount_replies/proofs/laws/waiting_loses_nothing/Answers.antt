@@ -1,15 +1,9 @@
 use Rattle.mount_replies.proofs.RecordsKept.{no_record_is_lost_or_told_twice}
-use Rattle.mount_replies.proofs.WaitLaws.{closed_reads_take_nothing, interrupted_reads_take_nothing, interrupting_asks_nothing, taken_text_is_given_or_kept, telling_does_one, waiting_asks_nothing}
+use Rattle.mount_replies.proofs.WaitLaws.{closed_reads_take_nothing, interrupted_reads_take_nothing, taken_text_is_given_or_kept, telling_does_one}
 use Rattle.mount_replies.proofs.laws.waiting_loses_nothing.Goals as goal
 
 pub returns-clause-records : goal.returns-clause-records
 returns-clause-records c = no_record_is_lost_or_told_twice
-
-pub returns-clause-waiting : goal.returns-clause-waiting
-returns-clause-waiting c = waiting_asks_nothing
-
-pub returns-clause-interrupting : goal.returns-clause-interrupting
-returns-clause-interrupting c = interrupting_asks_nothing
 
 pub returns-clause-interrupted : goal.returns-clause-interrupted
 returns-clause-interrupted c = interrupted_reads_take_nothing

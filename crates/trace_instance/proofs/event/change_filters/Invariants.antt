@@ -1,5 +1,5 @@
 use Rattle.std.proofs.Common.{◌≡◌, ◌+◌, ◌++◌, length, take, drop}
-use Rattle.trace_instance.specs.private.EventLists.{with_filters}
+use Rattle.trace_instance.specs.EventLists.{with_filters}
 use Rattle.trace_instance.proofs.event.change_filters.Given as goal
 
 abbrev pub invariant-loop-change : goal.invariant-loop-change

@@ -2,7 +2,7 @@ use Rattle.std.proofs.Common.{◌≡◌, ◌∙◌, sym, rules}
 use Rattle.std.specs.List.{list_any}
 use Rattle.std.proofs.lemmas.Fn.{filter_same}
 use Rattle.trace_instance.specs.KeptHists.{is_used, uses_table}
-use Rattle.trace_instance.specs.private.EventLists.{all_hists}
+use Rattle.trace_instance.specs.EventLists.{all_hists}
 use Rattle.trace_instance.specs.declared.event.InstanceEvent.{InstanceEvent}
 use Rattle.trace_instance.specs.declared.tables.Table.{Table}
 use Rattle.trace_instance.proofs.EachEvent.{any-map}

@@ -16,10 +16,10 @@ pub returns-clause-session : goal.returns-clause-session
 returns-clause-session g c =
     let root = c.in_ok-made.ensures.root in
     let v = view_of c.in_ok-made.made.1 in
-    let seen : v.seen ≡ [] = root.seen ∙ c.in-Ok.ensures.1 in
+    let seen : v.seen ≡ [] = root.seen ∙ c.in-Ok.ensures.made.1 in
     record {
       names = root.names;
-      base = sym (root.base ∙ g.met.B.SharedBook.bases c.in-Ok.book ∙ ap numbers_of c.in-Ok.ensures.0);
+      base = sym (root.base ∙ g.met.B.SharedBook.bases c.in-Ok.book ∙ ap numbers_of c.in-Ok.ensures.made.0);
       legal = subst (λ (es : List Entry). IsLegal c.args.config es) (sym seen) (none_legal c.args.config);
       below = subst (λ (es : List Entry). All (λ (e : Entry). e.ticket < v.front) es) (sym seen) (All-nil (λ (e : Entry). e.ticket < v.front));
     }

@@ -1,14 +1,13 @@
-use Rattle.std.proofs.Common.{◌≡◌, [], subst}
+use Rattle.std.proofs.Common.{ap}
 use Rattle.command_log.specs.ChunkSeen.{ChunkSeen}
-use Rattle.command_log.specs.ChunkBytes.{seen_chunk}
-use Rattle.command_log.proofs.ChunkFacts.{cut_chunk, cut_seen}
+use Rattle.command_log.proofs.ChunkFacts.{cut_ahead, cut_chunk}
 use Rattle.command_log.proofs.chunk.Chunk.discard.Goals as goal
 
 pub invariant_of-self : goal.invariant_of-self
 invariant_of-self c = cut_chunk c.self.inside c.self.invariant
 
-pub returns : goal.returns
-returns c =
-    let a = c.self.inside in
-    let Cut : ChunkSeen → Type 0 = λ b. seen_chunk (record a { end = a.filled }) ≡ record { entries = b.entries; ahead = [] } in
-    subst Cut c.self.view_is (cut_seen a c.self.invariant)
+pub returns-clause-entries : goal.returns-clause-entries
+returns-clause-entries c = ap (λ (seen : ChunkSeen). seen.entries) c.self.view_is
+
+pub returns-clause-ahead : goal.returns-clause-ahead
+returns-clause-ahead c = cut_ahead c.self.inside c.self.invariant

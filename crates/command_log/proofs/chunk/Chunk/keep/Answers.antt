@@ -22,5 +22,5 @@ pub returns : goal.returns
 returns c =
     let a = c.self.inside in
     let Kept : ChunkSeen → Type 0 = λ b. seen_chunk (record a { filled = a.end; count = a.count + c.args.count })
-    ≡ record { entries = b.entries ++ entries_in c.args.count b.ahead; ahead = [] } in
+    ≡ record b { entries = b.entries ++ entries_in c.args.count b.ahead; ahead = [] } in
     subst Kept c.self.view_is (kept_seen a c.args.count c.self.invariant)

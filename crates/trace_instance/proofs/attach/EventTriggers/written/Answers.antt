@@ -4,7 +4,7 @@ use Rattle.trace_trigger.specs.TriggerTexts.{HasFilter, is_hist_text, said_of}
 use Rattle.trace_trigger.specs.declared.fault.TriggerFault.TheVariants as fault
 use Rattle.trace_trigger.specs.declared.trigger.TriggerText.TheVariants as said
 use Rattle.trace_instance.proofs.Answering.{text-detaches, text-lacks, text-nothing, text-refused}
-use Rattle.trace_instance.proofs.LateTexts.{hist-begins, other-fault, removed-begins}
+use Rattle.trace_instance.proofs.LateTexts.{attaches-begins, hist-begins, other-fault, removed-begins}
 use Rattle.trace_instance.proofs.attach.EventTriggers.written.Goals as goal
 
 pub returns-in_err-parse-clause-change : goal.returns-in_err-parse-clause-change
@@ -68,4 +68,21 @@ pub returns-in-Hist-clause-memory : goal.returns-in-Hist-clause-memory
 returns-in-Hist-clause-memory c = λ unfiltered plain.
     let read : said_of c.args.event.now c.args.written.text.now ≡ Ok (said.Hist c.in-Hist.spec) = c.in_ok-parse.ensures.exact ∙ ap Ok c.in-Hist.is in
     let hist : is_hist_text c.args.written.text.now ≡ true = hist-begins c.args.event.now c.args.written.text.now c.in-Hist.spec read in
+    absurd (cc (hist, plain))
+
+pub returns-in-Attach-clause-takes_none : goal.returns-in-Attach-clause-takes_none
+returns-in-Attach-clause-takes_none c = λ plain none.
+    let read : said_of c.args.event.now c.args.written.text.now ≡ Ok (said.Attach c.in-Attach.trigger) = c.in_ok-parse.ensures.exact ∙ ap Ok c.in-Attach.is in
+    absurd (attaches-begins c.args.event.now c.args.written.text.now c.in-Attach.trigger read none)
+
+pub returns-in-Hist-clause-takes_none : goal.returns-in-Hist-clause-takes_none
+returns-in-Hist-clause-takes_none c = λ plain none.
+    let read : said_of c.args.event.now c.args.written.text.now ≡ Ok (said.Hist c.in-Hist.spec) = c.in_ok-parse.ensures.exact ∙ ap Ok c.in-Hist.is in
+    let hist : is_hist_text c.args.written.text.now ≡ true = hist-begins c.args.event.now c.args.written.text.now c.in-Hist.spec read in
+    absurd (cc (hist, plain))
+
+pub returns-in-RemoveHist-clause-takes_none : goal.returns-in-RemoveHist-clause-takes_none
+returns-in-RemoveHist-clause-takes_none c = λ plain none.
+    let read : said_of c.args.event.now c.args.written.text.now ≡ Ok (said.RemoveHist c.in-RemoveHist.spec) = c.in_ok-parse.ensures.exact ∙ ap Ok c.in-RemoveHist.is in
+    let hist : is_hist_text c.args.written.text.now ≡ true = removed-begins c.args.event.now c.args.written.text.now c.in-RemoveHist.spec read in
     absurd (cc (hist, plain))

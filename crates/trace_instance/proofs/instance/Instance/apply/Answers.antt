@@ -1,7 +1,7 @@
 use Rattle.std.proofs.Common.{◌≡◌, ◌∙◌, List, ap, filter, refl, rules, subst, sym}
 use Rattle.trace_instance.specs.Instances.{InstanceSeen}
 use Rattle.trace_instance.specs.KeptHists.{is_used}
-use Rattle.trace_instance.specs.private.EventLists.{all_hists, with_filters}
+use Rattle.trace_instance.specs.EventLists.{all_hists, with_filters}
 use Rattle.trace_instance.specs.private.Tables.{AreSet}
 use Rattle.trace_instance.specs.declared.event.InstanceEvent.{InstanceEvent}
 use Rattle.trace_instance.specs.declared.tables.Table.{Table}

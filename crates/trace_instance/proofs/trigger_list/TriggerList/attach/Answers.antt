@@ -1,5 +1,5 @@
 use Rattle.std.proofs.Common.{◌≡◌, ◌∙◌, ◌∷◌, ◌++◌, [], if◌then◌else◌, List, ap, arith, length}
-use Rattle.trace_instance.specs.private.TriggerLists.{TriggersSeen, hists_in, snapshot_in, with_snapshot}
+use Rattle.trace_instance.specs.TriggerLists.{TriggersSeen, hists_in, snapshot_in, with_snapshot}
 use Rattle.trace_instance.specs.declared.hists.AttachedHist.{AttachedHist}
 use Rattle.trace_instance.proofs.TriggerLists.{Holds, few-more, kept, one-more, snapshot-held}
 use Rattle.trace_instance.proofs.trigger_list.TriggerList.attach.Goals as goal

@@ -1,5 +1,5 @@
 use Rattle.std.proofs.Common.{◌∙◌, ◌+◌, if◌then◌else◌, is_some, length, ap, rules}
-use Rattle.trace_instance.specs.private.TriggerLists.{TriggersSeen}
+use Rattle.trace_instance.specs.TriggerLists.{TriggersSeen}
 use Rattle.trace_instance.proofs.TriggerLists.{many-there}
 use Rattle.trace_instance.proofs.trigger_list.TriggerList.count.Goals as goal
 

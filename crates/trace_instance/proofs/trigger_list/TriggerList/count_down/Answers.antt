@@ -2,7 +2,7 @@ use Rattle.std.proofs.Common.{◌≡◌, ◌≤◌, ◌∙◌, ap, append-nil, a
 use Rattle.std.proofs.lemmas.List.{drop_all, take_all}
 use Rattle.std.proofs.lemmas.List.Edits.{map_over_more}
 use Rattle.trace_instance.specs.Deliveries.{counted_down}
-use Rattle.trace_instance.specs.private.TriggerLists.{TriggersSeen, counted, hists_in, snapshot_in}
+use Rattle.trace_instance.specs.TriggerLists.{TriggersSeen, counted, hists_in, snapshot_in}
 use Rattle.trace_instance.proofs.TriggerLists.{Holds, counted-once, kept, snapshot-held}
 use Rattle.trace_instance.proofs.trigger_list.TriggerList.count_down.Goals as goal
 use Rattle.trace_instance.proofs.trigger_list.TriggerList.count_down.Goals.{After-loop-i}

@@ -1,6 +1,6 @@
 use Rattle.std.proofs.Common.{◌≡◌, ◌∙◌, None, ap, not, rules}
 use Rattle.std.proofs.lemmas.Fn.{filter_same}
-use Rattle.trace_instance.specs.private.TriggerLists.{TriggersSeen, hists_in, is_snapshot}
+use Rattle.trace_instance.specs.TriggerLists.{TriggersSeen, hists_in, is_snapshot}
 use Rattle.trace_instance.specs.declared.trigger.EventTrigger.{EventTrigger}
 use Rattle.trace_instance.proofs.TriggerLists.{Holds, hists-left, kept, snapshot-held, without_snapshot}
 use Rattle.trace_instance.proofs.trigger_list.TriggerList.detach.Goals as goal

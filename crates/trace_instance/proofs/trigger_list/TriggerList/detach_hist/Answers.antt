@@ -1,7 +1,7 @@
 use Rattle.std.proofs.Common.{◌≡◌, ◌∙◌, ap, not, rules}
 use Rattle.std.proofs.lemmas.Fn.{filter_same}
 use Rattle.trace_instance.specs.KeptHists.{says_same}
-use Rattle.trace_instance.specs.private.TriggerLists.{TriggersSeen, hists_in, is_hist, snapshot_in}
+use Rattle.trace_instance.specs.TriggerLists.{TriggersSeen, hists_in, is_hist, snapshot_in}
 use Rattle.trace_instance.specs.declared.trigger.EventTrigger.{EventTrigger}
 use Rattle.trace_instance.proofs.TriggerLists.{Holds, fewer-left, kept, others, others-left, snapshot-held, without}
 use Rattle.trace_instance.proofs.trigger_list.TriggerList.detach_hist.Goals as goal

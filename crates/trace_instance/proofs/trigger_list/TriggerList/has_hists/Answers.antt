@@ -3,7 +3,7 @@ use Rattle.std.specs.List.{list_any}
 use Rattle.std.proofs.lemmas.Bool.{ne_eqb}
 use Rattle.std.proofs.lemmas.Iterator.{YieldsList-from_slice}
 use Rattle.std.proofs.lemmas.Iterator.Search.{any_from_yields_List}
-use Rattle.trace_instance.specs.private.TriggerLists.{TriggersSeen, hists_in, is_hist}
+use Rattle.trace_instance.specs.TriggerLists.{TriggersSeen, hists_in, is_hist}
 use Rattle.trace_instance.specs.declared.hists.AttachedHist.{AttachedHist}
 use Rattle.trace_instance.proofs.TriggerLists.{any-hist, hist-only}
 use Rattle.trace_instance.proofs.trigger_list.TriggerList.has_hists.Goals as goal

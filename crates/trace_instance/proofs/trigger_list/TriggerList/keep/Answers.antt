@@ -1,6 +1,6 @@
 use Rattle.std.proofs.Common.{◌≡◌, ◌∙◌, [], ap, arith, rules, subst, true, not}
 use Rattle.std.proofs.lemmas.Fn.{filter_same}
-use Rattle.trace_instance.specs.private.TriggerLists.{TriggersSeen, hists_in, is_hist, snapshot_in}
+use Rattle.trace_instance.specs.TriggerLists.{TriggersSeen, hists_in, is_hist, snapshot_in}
 use Rattle.trace_instance.specs.declared.trigger.EventTrigger.{EventTrigger}
 use Rattle.trace_instance.proofs.TriggerLists.{Holds, kept, none-left, others-left, snapshot-held, snapshot-only, without}
 use Rattle.trace_instance.proofs.trigger_list.TriggerList.keep.Goals as goal

@@ -4,7 +4,7 @@ use Rattle.std.specs.Option.{option_and_then}
 use Rattle.std.proofs.lemmas.Iterator.{YieldsList-from_slice}
 use Rattle.std.proofs.lemmas.Iterator.Search.{find_from_yields_List}
 use Rattle.trace_instance.specs.KeptHists.{says_same}
-use Rattle.trace_instance.specs.private.TriggerLists.{TriggersSeen, hist_of, is_hist}
+use Rattle.trace_instance.specs.TriggerLists.{TriggersSeen, hist_of, is_hist}
 use Rattle.trace_instance.proofs.TriggerLists.{hist-found}
 use Rattle.trace_instance.proofs.trigger_list.TriggerList.matching.Goals as goal
 

@@ -3,7 +3,7 @@ use Rattle.std.proofs.lemmas.List.{take_all}
 use Rattle.trace_text.specs.HistText.{hist_text}
 use Rattle.trace_text.specs.ShownTriggers.{shown_trigger}
 use Rattle.trace_instance.specs.private.Commands.{shown_attached, shown_of}
-use Rattle.trace_instance.specs.private.TriggerLists.{TriggersSeen}
+use Rattle.trace_instance.specs.TriggerLists.{TriggersSeen}
 use Rattle.trace_instance.proofs.TriggerLists.{has-table, hists-shown}
 use Rattle.trace_instance.proofs.trigger_list.TriggerList.shown.Goals as goal
 

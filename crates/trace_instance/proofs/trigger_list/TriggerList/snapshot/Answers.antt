@@ -2,7 +2,7 @@ use Rattle.std.proofs.Common.{◌∙◌, ap, rules, tests}
 use Rattle.std.specs.Option.{option_and_then}
 use Rattle.std.proofs.lemmas.Iterator.{YieldsList-from_slice}
 use Rattle.std.proofs.lemmas.Iterator.Search.{find_from_yields_List}
-use Rattle.trace_instance.specs.private.TriggerLists.{TriggersSeen, is_snapshot, snapshot_of}
+use Rattle.trace_instance.specs.TriggerLists.{TriggersSeen, is_snapshot, snapshot_of}
 use Rattle.trace_instance.proofs.TriggerLists.{snapshot-found}
 use Rattle.trace_instance.proofs.trigger_list.TriggerList.snapshot.Goals as goal
 

@@ -2,7 +2,7 @@ use Rattle.std.proofs.Common.{◌==◌, ◌∙◌, Bool, ap, rules, tests}
 use Rattle.std.proofs.lemmas.Iterator.{YieldsList-from_slice}
 use Rattle.std.proofs.lemmas.Iterator.Search.{any_from_yields_List}
 use Rattle.trace_instance.specs.KeptHists.{uses_table}
-use Rattle.trace_instance.specs.private.TriggerLists.{TriggersSeen, is_hist}
+use Rattle.trace_instance.specs.TriggerLists.{TriggersSeen, is_hist}
 use Rattle.trace_instance.specs.declared.hists.AttachedHist.{AttachedHist}
 use Rattle.trace_instance.proofs.TriggerLists.{any-hist}
 use Rattle.trace_instance.proofs.trigger_list.TriggerList.uses.Goals as goal

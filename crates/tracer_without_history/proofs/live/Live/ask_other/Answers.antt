@@ -13,4 +13,4 @@ pub returns-clause-call : goal.returns-clause-call
 returns-clause-call c = λ past lives.
     call-carried c.args.limit past c.args.self.now c.carry_out.new.self (request_of c.args.command.now) c.in_ok-prepared.prepared c.carry_out.result c.carry_out.ensures.config
     lives (c.in_ok-prepared.ensures.prepared past lives) c.in_ok-prepared.ensures.room c.carry_out.ensures.done c.carry_out.ensures.reply c.carry_out.ensures.refused
-    c.carry_out.ensures.memory
+    c.carry_out.ensures.memory (c.in_ok-prepared.ensures.takes_none past lives) c.carry_out.ensures.takes_memory

@@ -36,3 +36,8 @@ pub returns-in_err-reply-clause-refused : goal.returns-in_err-reply-clause-refus
 returns-in_err-reply-clause-refused c =
     let out : c.from_residual.result ≡ Err c.in_err-reply.field-0.0 = search rules in
     rw (out, ← c.self.view_is) (λ past lives. live-unchanged _ past (seen c.self.inside) _ lives refl c.in_err-reply.ensures.refused)
+
+pub returns-in_err-reply-clause-takes_memory : goal.returns-in_err-reply-clause-takes_memory
+returns-in_err-reply-clause-takes_memory c =
+    let out : c.from_residual.result ≡ Err c.in_err-reply.field-0.0 = search rules in
+    rw (out, ← c.self.view_is) c.in_err-reply.ensures.takes_memory

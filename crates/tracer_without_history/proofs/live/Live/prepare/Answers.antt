@@ -36,3 +36,6 @@ returns-clause-ready c =
       lives = lives;
       is = c.in_ok-prepared.ensures.prepared c.self.invariant.past (sym lives.count) lives.stands;
     })
+
+pub returns-clause-takes_none : goal.returns-clause-takes_none
+returns-clause-takes_none c = rw (← c.self.view_is) (λ past lives none. c.in_ok-prepared.ensures.takes_none past lives.stands none)

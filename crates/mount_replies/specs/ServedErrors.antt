@@ -1,0 +1,160 @@
+-- What is kept of refused writes, whatever was served: of each instance the last eight since they were forgotten, each with its caret where its refusal
+-- says. Theorems that speak of no program.
+use Rattle.std.specs.Prelude.{◌≡◌, ℕ, true, false, List, [], ◌∷◌, ◌++◌, Option, Some, None}
+use Rattle.std.specs.List.{flat_map}
+use Rattle.std.proofs.Common.{inl, inr}
+use Rattle.fuse_wire.specs.Replies.{reply_bytes}
+use Rattle.fuse_wire.specs.Requests.{IsRequest}
+use Rattle.fuse_wire.specs.declared.errno.Errno.{Errno}
+use Rattle.fuse_wire.specs.declared.errno.Errno.TheVariants.{EINVAL}
+use Rattle.fuse_wire.specs.declared.reply.Reply.{Reply}
+use Rattle.fuse_wire.specs.declared.reply.Reply.TheVariants as replies
+use Rattle.fuse_wire.specs.declared.request.Operation.{Operation}
+use Rattle.fuse_wire.specs.declared.request.Operation.TheVariants as operations
+use Rattle.fuse_wire.specs.declared.request.Request.{Request as Asked}
+use Rattle.trace_command.specs.Requests.{Request}
+use Rattle.trace_command.specs.declared.refusal.Refusal.{Refusal}
+use Rattle.trace_format.specs.Definitions.{Definition}
+use Rattle.refusal_explanations.specs.InjectionWords.{injection_offset}
+use Rattle.refusal_explanations.specs.Writes.{write_offset}
+use Rattle.error_log.specs.Errors.{ErrorSeen, error_text, refused}
+use Rattle.error_log.specs.LogLaws.{Change, Cleared, Noted, StandsUnder, last_eight, noted_since}
+use Rattle.error_log.specs.Logs.{errors_of}
+use Rattle.mount_tree.specs.Children.{is_there}
+use Rattle.mount_tree.specs.FileKinds.{kind_of_file}
+use Rattle.mount_tree.specs.NodePaths.{path_of}
+use Rattle.mount_tree.specs.declared.file.FileKind.TheVariants as kinds
+use Rattle.mount_tree.specs.declared.node.Node.{Node}
+use Rattle.mount_tree.specs.declared.node.Owner.{Owner}
+use Rattle.mount_stub_files.specs.WrongWords.{wrong_offset}
+use Rattle.mount_replies.specs.Errnos.{errno_of}
+use Rattle.mount_replies.specs.FileWrites.{begun_now}
+use Rattle.mount_replies.specs.Lines.{command_text, errno_of_fault, most_kept, refusal_in}
+use Rattle.mount_replies.specs.Mounted.{AreServed, Does, IsExchanged, IsNamed, IsServed, Right, Serves, TellsOwed, Unframed, Wrong}
+use Rattle.mount_replies.specs.Owed.{Owed, ReplyAt, WakeupAt, owed, step_of_parked}
+use Rattle.mount_replies.specs.PastLaws.{ShowsNow, just_mounted}
+use Rattle.mount_replies.specs.Served.{is_cached, step_of}
+use Rattle.mount_replies.specs.Services.{OpenSeen, Service, Terms, file_at, node_of, scene_of, without_read}
+use Rattle.mount_replies.specs.Steps.{Asks, AsksLines, AsksNoting, Counts, Forgets, Interrupts, Keeps, Notes, Noting, Parks, Plain, Step, Takes, Tells}
+use Rattle.mount_replies.specs.Told.{known}
+use Rattle.mount_replies.specs.declared.fault.LineFault.{LineFault}
+
+-- ---- what was noted and forgotten
+
+-- by a step
+abbrev pub noting_by : (g : Terms) (before : Service) (step : Step) (reply : Option Reply) (after : Service) → Does g before step reply after → Noting
+noting_by g before (Plain outcome) reply after does = Keeps
+noting_by g before (Takes outcome) reply after does = Keeps
+noting_by g before (Asks request outcome) reply after does = Keeps
+noting_by g before (Parks read) reply after does = Keeps
+noting_by g before (Interrupts unique) reply after does = Keeps
+noting_by g before (AsksNoting request outcome noting) reply after (answer, answered, told, same) = noting answer
+noting_by g before (Tells noting takes outcome) reply after (inl does) = noting
+noting_by g before (Tells noting takes outcome) reply after (inr refused) = Keeps
+noting_by g before (AsksLines lines outcome noting) reply after (ran, runs, told, same) = noting ran
+noting_by g before (Counts count outcome) reply after does = Keeps
+
+-- by a request
+abbrev pub noting_asked : (g : Terms) (before : Service) (asked bytes : List ℕ) (after : Service) → AreServed g before asked bytes after → Noting
+noting_asked g before asked bytes after (Right request is served) =
+    noting_by g before (step_of g before request.unique request.pid served.node request.operation) served.reply after served.does
+noting_asked g before asked bytes after (Wrong opcode unique framed none told same) = Keeps
+noting_asked g before asked bytes after (Unframed none told same) = Keeps
+
+-- by the reply of a parked read
+abbrev pub noting_told : (g : Terms) (before : Service) (what : Option Owed) (bytes : List ℕ) (after : Service) → TellsOwed g before what bytes after → Noting
+noting_told g before None bytes after told = Keeps
+noting_told g before (Some (ReplyAt index)) bytes after told =
+    noting_by g (without_read index before) (step_of_parked g before told.read) (Some told.reply) after told.does
+noting_told g before (Some (WakeupAt handle)) bytes after told = Keeps
+
+-- by an exchange, which notes one write at most
+abbrev pub noting_of : (g : Terms) (before : Service) (asked bytes : List ℕ) (after : Service) → IsExchanged g before asked bytes after → Noting
+noting_of g before [] bytes after told = noting_told g before (owed g before) bytes after told
+noting_of g before (byte ∷ asked) bytes after (quiet, served) = noting_asked g before (byte ∷ asked) bytes after served
+
+-- as a change of the logs
+abbrev pub change_of : Noting → List Change
+change_of Keeps = []
+change_of (Notes error) = Noted error ∷ []
+change_of (Forgets owner) = Cleared owner ∷ []
+
+-- all that was served, the latest change first
+abbrev pub changes_in : (g : Terms) (before : Service) (requests messages : List (List ℕ)) (after : Service) → Serves g before requests messages after → List Change
+changes_in g before [] [] after same = []
+changes_in g before (asked ∷ requests) (bytes ∷ messages) after (next, one, more) =
+    changes_in g next requests messages after more ++ change_of (noting_of g before asked bytes next one)
+changes_in g before [] (bytes ∷ messages) after none = []
+changes_in g before (asked ∷ requests) [] after none = []
+
+-- the writes of an instance that were refused since its errors were forgotten, oldest first
+abbrev pub refused_in : (g : Terms) (requests messages : List (List ℕ)) (after : Service) → Serves g just_mounted requests messages after → Owner → List ErrorSeen
+refused_in g requests messages after served owner = noted_since owner (changes_in g just_mounted requests messages after served)
+
+-- ---- the last eight are kept
+
+abbrev pub LastEightAreKept : Type 0
+LastEightAreKept =
+    (g : Terms) (requests messages : List (List ℕ)) (after : Service) (served : Serves g just_mounted requests messages after) (owner : Owner)
+    → errors_of owner after.errors ≡ last_eight (refused_in g requests messages after served owner)
+
+-- ---- what is noted
+
+-- the file that a request writes, opens or closes: no other request notes anything
+abbrev pub IsFileOf : Terms → Service → Option Node → Operation → OpenSeen → Type 0
+IsFileOf g s target (operations.Open flags) file = known (scene_of g s) target ≡ Some (node_of file)
+IsFileOf g s target (operations.Write handle offset lock_owner bytes) file = file_at handle s.files ≡ Some file
+IsFileOf g s target (operations.Flush handle lock_owner) file = file_at handle s.files ≡ Some file
+IsFileOf g s target (operations.Release handle) file = file_at handle s.files ≡ Some file
+IsFileOf g s target _ file = ⊥
+
+-- which byte of a text is to blame that was to be written to a file, where this error was told
+pub data IsBlamed (g : Terms) (s : Service) (file : OpenSeen) (text : List ℕ) (offset : ℕ) (errno : Errno) : Type 0 where
+  -- of a command, the one that its refusal says
+  OfCommand : (refusal : Refusal) → errno ≡ errno_of refusal → offset ≡ write_offset (path_of (scene_of g s) (node_of file)) (command_text file.file text) refusal
+      → IsBlamed g s file text offset errno
+  -- of a line of `inject`, the one that its fault says
+  OfEvent : (event : Definition) (fault : LineFault) → errno ≡ errno_of_fault fault → offset ≡ injection_offset event text (refusal_in fault)
+      → IsBlamed g s file text offset errno
+  -- of one that is too long, the first that has no room
+  OfLongLine : errno ≡ EINVAL → offset ≡ most_kept → IsBlamed g s file text offset errno
+  -- of a file that tools ask for, where its first word begins
+  OfWord : offset ≡ wrong_offset text → IsBlamed g s file text offset errno
+  -- where nothing was written, there is none
+  OfNothing : text ≡ [] → offset ≡ 0 → IsBlamed g s file text offset errno
+
+-- A write to this file that was refused, after these requests, by this error: what is kept is the line of the byte to blame, with the caret under it.
+pub record IsRefusedWrite (g : Terms) (s : Service) (file : OpenSeen) (errno : Errno) (error : ErrorSeen) : Type 0 where
+  pub past : List Request
+  pub text : List ℕ
+  pub sentence : List ℕ
+  pub offset : ℕ
+  pub is : error ≡ refused (begun_now g (record s { past = past }) file) text sentence offset
+  pub blamed : IsBlamed g s file text offset errno
+  pub stands : StandsUnder text offset error
+
+-- What is noted is a write to the file that was written, opened or closed, and its refusal was told.
+pub record IsNoted (g : Terms) (before : Service) (request : Asked) (bytes : List ℕ) (error : ErrorSeen) : Type 0 where
+  pub node : Option Node
+  pub named : IsNamed request.node node
+  pub file : OpenSeen
+  pub by : IsFileOf g before node request.operation file
+  pub errno : Errno
+  pub write : IsRefusedWrite g before file errno error
+  pub told : bytes ≡ reply_bytes request.unique (replies.Error errno)
+
+abbrev pub NotedWritesWereRefused : Type 0
+NotedWritesWereRefused =
+    (g : Terms) (before : Service) (asked bytes : List ℕ) (after : Service) (exchanged : IsExchanged g before asked bytes after) (error : ErrorSeen)
+    → noting_of g before asked bytes after exchanged ≡ Notes error → (request : Asked) × IsRequest asked request × IsNoted g before request bytes error
+
+-- ---- what is shown
+
+-- A READ of an `error_log` at offset 0, whatever was served before it: it shows the last eight, one after another.
+abbrev pub LogReadsShowTheLastEight : Type 0
+LogReadsShowTheLastEight =
+    (g : Terms) (requests messages : List (List ℕ)) (before after : Service) (request : Asked) (bytes : List ℕ) (handle size read_flags flags : ℕ) (file : OpenSeen)
+    → (served : Serves g just_mounted requests messages before) → IsServed g before request bytes after
+    → request.operation ≡ operations.Read handle 0 size read_flags flags → is_cached read_flags ≡ false → file_at handle before.files ≡ Some file
+    → kind_of_file file.file ≡ kinds.ErrorLog → is_there (scene_of g before) (node_of file) ≡ true
+    → ShowsNow before request.unique handle size (flat_map error_text (last_eight (refused_in g requests messages before served file.owner))) bytes after
