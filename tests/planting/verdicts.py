@@ -47,6 +47,12 @@ def is_part_of(name, function):
     return name == function or name.startswith("::".join([modules, "fn", own, ""] if modules else ["fn", own, ""]))
 
 
+def folders_of(functions):
+    """Where the proofs of functions lie: that of one which calls itself begins with a `+`."""
+    paths = [it.replace("::", "/").rpartition("/") for it in functions]
+    return tuple("proofs/%s%s%s%s/" % (modules, slash, mark, own) for modules, slash, own in paths for mark in ("", "+"))
+
+
 def verdict_of(edit, said, function_at):
     """What a check says of an edit; `function_at` tells which function a line is in."""
     own = {name: state for name, state in STATE.findall(said) if not edit.functions or any(is_part_of(name, it) for it in edit.functions)}
@@ -54,12 +60,12 @@ def verdict_of(edit, said, function_at):
     errors = lines_found(ERROR, said)
     unread = [it for it in errors if is_unread(it)]
     if edit.is_of_bodies:
-        folders = tuple("proofs/%s/" % it.replace("::", "/") for it in edit.functions)
+        folders = folders_of(edit.functions)
         errors = [it for it in errors if it[0].startswith(folders) or function_at(it[0], it[1] - 1) in edit.functions]
     meant = [it for it in goals if not edit.lacks_answers or FALSE in it[2]] + [it for it in errors if not is_of_names(it)]
     if unread:
         return Verdict(NOT_TOLD, "%s:%d: %s" % unread[0])
-    if set(own.values()) == {"proved"} and edit.functions <= set(own) and (edit.is_of_bodies or "\nlogic=proved " in said):
+    if own and all(state.startswith("proved") for state in own.values()) and edit.functions <= set(own) and (edit.is_of_bodies or "\nlogic=proved " in said):
         return Verdict(PROVED, "")
     if meant:
         return Verdict(REFUSED, "%s:%d: %s" % meant[0])
@@ -67,12 +73,12 @@ def verdict_of(edit, said, function_at):
         return Verdict(NOT_TOLD, "%s:%d: %s" % errors[0])
     if goals:
         return Verdict(NOT_TOLD, "without the answers that name what it takes away: %s:%d: %s" % goals[0])
-    return Verdict(NOT_TOLD, next((state for state in own.values() if state != "proved"), "the check says nothing of it"))
+    return Verdict(NOT_TOLD, next((state for state in own.values() if not state.startswith("proved")), "the check says nothing of it"))
 
 
 def without_answers(edit, said, read):
     """The texts of the answers of the functions that an edit changes, without those that name what these functions no longer have, by their paths."""
-    folders = tuple("proofs/%s/" % it.replace("::", "/") for it in edit.functions)
+    folders = folders_of(edit.functions)
     faults = {}
     for path, line, text in lines_found(ERROR, said):
         if path.startswith(folders) and path.endswith("/Answers.antt"):
