@@ -14,8 +14,8 @@ fit-legal g (entry ∷ entries) legal =
     All-cons FitsItsTypes (request_of entry.command) (requests_of entries) legal.0.2 (fit-legal g entries legal.3)
 
 pub legal_pasts_were_done : LegalPastsWereDone
-legal_pasts_were_done g entries in_range legal = record {
+legal_pasts_were_done g entries legal = record {
   done = done-legal g entries legal;
   fit = fit-legal g entries legal;
-  few = omega (arith, legal-short g entries legal, in_range.few_entries);
+  few = λ in_range. omega (arith, legal-short g entries legal, in_range.few_entries);
 }

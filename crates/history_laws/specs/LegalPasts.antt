@@ -8,11 +8,11 @@ use Rattle.trace_command.specs.declared.command.Entry.{Entry}
 use Rattle.tracer_specification.specs.History.{requests_of, IsLegalNewestFirst}
 use Rattle.tracer_specification.specs.Pasts.{AreDone}
 
--- the requests of a legal history: they were done, their numbers fit their types, and there are fewer than 2^64
+-- the requests of a legal history: they were done, their numbers fit their types, and with a configuration in range there are fewer than 2^64
 pub record WereDone (g : Config) (entries : List Entry) : Type 0 where
   pub done : AreDone g (requests_of entries)
   pub fit : All FitsItsTypes (requests_of entries)
-  pub few : length (requests_of entries) < 2 ^ 64
+  pub few : IsInRange g → length (requests_of entries) < 2 ^ 64
 
 abbrev pub LegalPastsWereDone : Type 0
-LegalPastsWereDone = (g : Config) (entries : List Entry) → IsInRange g → IsLegalNewestFirst g entries → WereDone g entries
+LegalPastsWereDone = (g : Config) (entries : List Entry) → IsLegalNewestFirst g entries → WereDone g entries

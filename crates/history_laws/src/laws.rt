@@ -43,8 +43,8 @@ pub fn nothing_is_read_twice()
 }
 
 /// Reads of a pipe add up: a read of so many records, and then one of so many others or of all the rest, show in turn what one read of all of them
-/// shows, and leave the same rings, those of every instance. Every later answer is the same after the two as after the one, whatever is done then, and
-/// looks at pipes tell the same.
+/// shows, and leave the same rings, those of every instance. Every later answer is the same after the two as after the one, whatever is done then, as
+/// long as the history has room, and looks at pipes tell the same.
 pub fn reads_add_up()
     ensures shown { ReadsShowInTurn }
     ensures left { ReadsLeaveTheSame }
@@ -65,8 +65,8 @@ pub fn losses_add_up()
     tracer_specification::laws::pipe_reads_consume_what_they_show();
 }
 
-/// A legal history with a configuration in range is one of requests that were done, with numbers that fit their types, and fewer than 2^64 of them.
-/// So what is proved of such requests, which a mounted tracer and the library have too, holds of it.
+/// A legal history is one of requests that were done, with numbers that fit their types; with a configuration in range they are fewer than 2^64. So
+/// what is proved of such requests, which a mounted tracer and the library have too, holds of it.
 pub fn legal_histories_were_done()
     ensures { LegalPastsWereDone }
 {}
