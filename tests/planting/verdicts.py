@@ -17,7 +17,7 @@ FRONT = re.compile(r"^(?:\./)?(src/\S+?):(\d+):\d+: (error\[.*)$", re.M)
 ERROR = re.compile(r"^(?:\./)?((?:src|specs|proofs)/\S+?):(\d+):\d+: error: (.*(?:\n  .*)?)$", re.M)  # which may go on in a second line
 QUOTED = re.compile(r"`[^`]*`")
 # a proof that names what the function no longer has, or that rests on a declaration that was refused
-OF_NAMES = re.compile(r"has no|in scope|is no name|not admitted|rejected|not checked")
+OF_NAMES = re.compile(r"has no (?!atom)|in scope|is no name|not admitted|rejected|not checked")
 WORD = re.compile(r"[^\s(){}\[\],;.:`]+")
 UNREAD = re.compile(r"is not in scope|has no field|is no name|operand is missing|expected the end|cannot continue")
 
