@@ -51,7 +51,7 @@ delivered = record {
 }
 
 waits : (earlier : List Call) (call : Call) (later : List Call) → read ∷ reply ∷ end ∷ [] ≡ earlier ++ call ∷ later → is_read call.outcome ≡ true
-    → IsReadNext Echoes never owes_at_one 0 earlier (one ∷ [])
+    → IsReadNext Echoes never owes_at_one 0 0 earlier (one ∷ [])
 waits [] call later e is = record {
   done = [];
   later = one ∷ [];
@@ -62,11 +62,12 @@ waits [] call later e is = record {
   took = refl;
   now = 0;
   answered = refl;
+  more = (refl, is_request, 0, (refl, refl), refl);
   waiting = (refl, refl);
 }
 waits (x ∷ []) call later e is = absurd (false≢true (subst (λ (c : Call). is_read c.outcome ≡ true) (same_second read reply end x call later e) is))
 waits (x ∷ y ∷ []) call later e is =
-    subst (λ (calls : List Call). IsReadNext Echoes never owes_at_one 0 calls (one ∷ []))
+    subst (λ (calls : List Call). IsReadNext Echoes never owes_at_one 0 0 calls (one ∷ []))
     (let first = same_first read reply end x (y ∷ call ∷ later) e in let second = same_second read reply end x y (call ∷ later) e in
     sym (ap (λ (c : Call). c ∷ y ∷ []) first ∙ ap (λ (c : Call). read ∷ c ∷ []) second))
     (record {
@@ -79,6 +80,7 @@ waits (x ∷ y ∷ []) call later e is =
       took = refl;
       now = 0;
       answered = (refl, is_request, 0, (refl, refl), refl);
+      more = refl;
       waiting = (refl, refl);
     })
 waits (x ∷ y ∷ z ∷ more) call later e is = absurd (no_call more call later (rest_of read reply end x y z (more ++ call ∷ later) e))

@@ -70,9 +70,10 @@ module _ {S : Type 0} (answers : S → List ℕ → S → List ℕ → Type 0) (
   }
 
   -- a read came next still, of more exchanges
-  next_still : (before : S) (calls : List Call) (exchanges : List Exchange) (one : Exchange) → IsReadNext answers ends owes before calls exchanges
-      → IsReadNext answers ends owes before calls (exchanges ++ one ∷ [])
-  next_still before calls exchanges one h = record {
+  next_still : (before now after : S) (calls : List Call) (exchanges : List Exchange) (one : Exchange) → IsReadNext answers ends owes before now calls exchanges
+      → ends now ≡ false → IsNext (owes now) one.request → answers now one.request after one.reply
+      → IsReadNext answers ends owes before after calls (exchanges ++ one ∷ [])
+  next_still before now after calls exchanges one h going whole answered = record {
     done = h.done;
     later = h.later ++ one ∷ [];
     are = ap (λ (xs : List Exchange). xs ++ one ∷ []) h.are ∙ append_assoc h.done h.later (one ∷ []);
@@ -82,6 +83,7 @@ module _ {S : Type 0} (answers : S → List ℕ → S → List ℕ → Type 0) (
     took = h.took;
     now = h.now;
     answered = h.answered;
+    more = answers_more h.now h.later now after one h.more going whole answered;
     waiting = h.waiting;
   }
 
@@ -99,7 +101,7 @@ module _ {S : Type 0} (answers : S → List ℕ → S → List ℕ → Type 0) (
           answered = h.answered;
           took = writes_in-append made (one ∷ []) ∙ (append-nil (writes_in made) ∙ h.took);
           delivered = h.delivered;
-          in_order = λ earlier call later e is. elim (split_push made one earlier call later e) as (λ s. IsReadNext answers ends owes before earlier exchanges) [
+          in_order = λ earlier call later e is. elim (split_push made one earlier call later e) as (λ s. IsReadNext answers ends owes before now earlier exchanges) [
             | inl old ↦ h.in_order earlier call old.0 old.1 is
             | inr new ↦ record {
               done = exchanges;
@@ -111,6 +113,7 @@ module _ {S : Type 0} (answers : S → List ℕ → S → List ℕ → Type 0) (
               took = subst (λ (xs : List Call). writes_in xs ≡ writes_of exchanges) (sym new.0) h.took;
               now = now;
               answered = h.answered;
+              more = refl;
               waiting = waiting;
             }
           ];
@@ -132,8 +135,8 @@ module _ {S : Type 0} (answers : S → List ℕ → S → List ℕ → Type 0) (
           answered = answers_more before exchanges now after one h.answered going whole a.answered;
           took = writes_in-append made writes ∙ (ap (λ (xs : List Call). xs ++ writes_in writes) h.took ∙ (ap (λ (xs : List Call). writes_of exchanges ++ xs) (all_writes writes only) ∙ sym (writes_more exchanges one)));
           delivered = all_push (λ (x : Exchange). IsDelivered x.fate x.reply x.writes) exchanges one h.delivered a.delivered.delivered;
-          in_order = λ earlier call later e is. elim (split_append made writes earlier call later e) as (λ s. IsReadNext answers ends owes before earlier (exchanges ++ one ∷ [])) [
-            | inl old ↦ next_still before earlier exchanges one (h.in_order earlier call old.0 old.1 is)
+          in_order = λ earlier call later e is. elim (split_append made writes earlier call later e) as (λ s. IsReadNext answers ends owes before after earlier (exchanges ++ one ∷ [])) [
+            | inl old ↦ next_still before now after earlier exchanges one (h.in_order earlier call old.0 old.1 is) going whole a.answered
             | inr new ↦ absurd (false≢true (sym (all_at (λ (x : Call). is_read x.outcome ≡ false) writes new.0 call later new.2 only) ∙ is))
           ];
           read = subst (λ (rest : Option (List ℕ)). Consumes r₀ rest (given (made ++ writes))) (sym kept) (subst (Consumes r₀ r) (sym came) h.read);

@@ -43,8 +43,8 @@ abbrev pub IsWaiting : Bool → Bool → Type 0
 IsWaiting ends owes = (ends ≡ false) × (owes ≡ false)
 
 -- After these calls a read comes: all that was read before was answered, but for bytes that begin no whole request, and all that was answered was
--- written; the server owes nothing then, and does not want to end.
-pub record IsReadNext {S : Type 0} (answers : S → List ℕ → S → List ℕ → Type 0) (ends owes : S → Bool) (before : S) (calls : List Call) (exchanges : List Exchange) : Type 0 where
+-- written; the server owes nothing then, and does not want to end. From this very state it answered what came later.
+pub record IsReadNext {S : Type 0} (answers : S → List ℕ → S → List ℕ → Type 0) (ends owes : S → Bool) (before after : S) (calls : List Call) (exchanges : List Exchange) : Type 0 where
   pub done : List Exchange
   pub later : List Exchange
   pub are : exchanges ≡ done ++ later
@@ -54,6 +54,7 @@ pub record IsReadNext {S : Type 0} (answers : S → List ℕ → S → List ℕ 
   pub took : writes_in calls ≡ writes_of done
   pub now : S
   pub answered : AnswersAll answers ends owes before done now
+  pub more : AnswersAll answers ends owes now later after
   pub waiting : IsWaiting (ends now) (owes now)
 
 -- these bytes, but for none, and more
@@ -94,6 +95,6 @@ pub record HasServed {S : Type 0} (answers : S → List ℕ → S → List ℕ �
   pub took : writes_in calls ≡ writes_of exchanges
   pub delivered : AreDelivered exchanges
   pub in_order : (earlier : List Call) (one : Call) (later : List Call) → calls ≡ earlier ++ one ∷ later → is_read one.outcome ≡ true
-      → IsReadNext answers ends owes before earlier exchanges
+      → IsReadNext answers ends owes before after earlier exchanges
   pub read : Consumes old.remaining new.remaining (given calls)
   pub written : Appends old.contents new.contents (taken calls)

@@ -94,7 +94,7 @@ fn answer_first<S: Server, D: Device>(
 /// for bytes that begin no whole request, was answered and written, and nothing is owed.
 ///
 /// Memory is taken only for the two buffers, before the first read; what the server takes is its own. A fault `Read` is also what 2^64 - 1 turns
-/// end with, and `Write` what as many signals during one reply do.
+/// end with, and `Write` what 2^64 signals during one reply do.
 pub fn serve<S: Server, D: Device>(
     alloc: Global,
     server: &mut S,

@@ -37,6 +37,10 @@ pub record IsAnswered (g : Terms) (past : List Request) (before : MountServer) (
   pub stops : StopsAtDestroy exchanges
   pub ends : before.is_destroyed ≡ false → after.is_destroyed ≡ has_destroy exchanges
   pub owes : after.mount.owes ≡ owes_after g last
+  past_after : List Request
+  mounted : IsMounted past_after after.mount
+  terms : terms_of after.mount ≡ g
+  is_last : service_of past_after after.mount ≡ last
 
 -- after a DESTROY nothing is answered
 none_after : (before : MountServer) (exchanges : List Exchange) (after : MountServer) → AnswersAll Answers ends owes before exchanges after
@@ -78,6 +82,10 @@ answered g past before [] after mounted terms h = record {
   stops = tt;
   ends = λ begun. ap (λ (s : MountServer). s.is_destroyed) h ∙ begun;
   owes = ap (λ (s : MountServer). s.mount.owes) h ∙ (mounted.owes ∙ ap (λ (t : Terms). owes_after t (service_of past before.mount)) terms);
+  past_after = past;
+  mounted = subst (λ (s : MountServer). IsMounted past s.mount) (sym h) mounted;
+  terms = ap (λ (s : MountServer). terms_of s.mount) h ∙ terms;
+  is_last = ap (λ (s : MountServer). service_of past s.mount) h;
 }
 answered g past before (one ∷ more) after mounted terms h =
     let next : MountServer = h.2 in
@@ -91,6 +99,10 @@ answered g past before (one ∷ more) after mounted terms h =
       stops = (λ destroyed. none_after next more after h.4 (destroys h.0 ∙ destroyed), rest.stops);
       ends = λ begun. destroyed_by (is_destroy one.request) next more after h.4 (destroys begun) rest.ends;
       owes = rest.owes;
+      past_after = rest.past_after;
+      mounted = rest.mounted;
+      terms = rest.terms;
+      is_last = rest.is_last;
     }
 
 module _ (g : Terms) (before : MountServer) (mounted : IsMounted [] before.mount) (terms : terms_of before.mount ≡ g) (closed : before.mount.files ≡ []) (unparked : before.mount.parked ≡ [])
@@ -102,9 +114,11 @@ module _ (g : Terms) (before : MountServer) (mounted : IsMounted [] before.mount
       subst (λ (s : Service). Serves g s (map (λ (one : Exchange). one.request) exchanges) (map (λ (one : Exchange). one.reply) exchanges) all.last) first all.served
 
   -- where a read comes next
-  read_next : (calls : List Call) (exchanges : List Exchange) → service.IsReadNext Answers ends owes before calls exchanges → IsReadNext g calls exchanges
-  read_next calls exchanges h =
-      let all = answered g [] before h.done h.now mounted terms h.answered in record {
+  read_next : (after : MountServer) (calls : List Call) (exchanges : List Exchange) (whole : IsAnswered g [] before exchanges after)
+      → service.IsReadNext Answers ends owes before after calls exchanges → IsReadNext g whole.last calls exchanges
+  read_next after calls exchanges whole h =
+      let all = answered g [] before h.done h.now mounted terms h.answered in
+      let rest = answered g all.past_after h.now h.later after all.mounted all.terms h.more in record {
         done = h.done;
         later = h.later;
         are = h.are;
@@ -114,6 +128,9 @@ module _ (g : Terms) (before : MountServer) (mounted : IsMounted [] before.mount
         took = h.took;
         now = all.last;
         served = all_served h.done h.now h.answered;
+        last = rest.last;
+        more = subst (λ (s : Service). Serves g s (map (λ (one : Exchange). one.request) h.later) (map (λ (one : Exchange). one.reply) h.later) rest.last) all.is_last rest.served;
+        last_owes = sym rest.owes ∙ whole.owes;
         nothing_owed = sym all.owes ∙ h.waiting.1;
         mounted = sym (all.ends begun) ∙ h.waiting.0;
       }
@@ -136,7 +153,7 @@ module _ (g : Terms) (before : MountServer) (mounted : IsMounted [] before.mount
           stops = all.stops;
           took = h.took;
           delivered = h.delivered;
-          in_order = λ earlier one later e is. read_next earlier exchanges (h.in_order earlier one later e is);
+          in_order = λ earlier one later e is. read_next after earlier exchanges all (h.in_order earlier one later e is);
           read = h.read;
           written = h.written;
         },

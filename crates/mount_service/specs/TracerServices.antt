@@ -50,8 +50,9 @@ abbrev pub AreServed : Terms → List Exchange → Service → Type 0
 AreServed g exchanges after = Serves g just_mounted (map (λ (one : Exchange). one.request) exchanges) (map (λ (one : Exchange). one.reply) exchanges) after
 
 -- After these calls a read comes: all that was read before was served, but for bytes that begin no whole request, and all replies and all that was
--- owed were written; nothing is owed then, and no DESTROY came.
-pub record IsReadNext (g : Terms) (calls : List Call) (exchanges : List Exchange) : Type 0 where
+-- owed were written; nothing is owed then, and no DESTROY came. From this very state what came later was served; what this led to owes something
+-- exactly if the service at its end does.
+pub record IsReadNext (g : Terms) (after : Service) (calls : List Call) (exchanges : List Exchange) : Type 0 where
   pub done : List Exchange
   pub later : List Exchange
   pub are : exchanges ≡ done ++ later
@@ -61,6 +62,9 @@ pub record IsReadNext (g : Terms) (calls : List Call) (exchanges : List Exchange
   pub took : writes_in calls ≡ writes_of done
   pub now : Service
   pub served : AreServed g done now
+  pub last : Service
+  pub more : Serves g now (map (λ (one : Exchange). one.request) later) (map (λ (one : Exchange). one.reply) later) last
+  pub last_owes : owes_after g last ≡ owes_after g after
   pub nothing_owed : owes_after g now ≡ false
   pub mounted : has_destroy done ≡ false
 
@@ -76,7 +80,7 @@ pub record IsServing (g : Terms) (old new : DeviceSeen) (exchanges : List Exchan
   pub stops : StopsAtDestroy exchanges
   pub took : writes_in calls ≡ writes_of exchanges
   pub delivered : AreDelivered exchanges
-  pub in_order : (earlier : List Call) (one : Call) (later : List Call) → calls ≡ earlier ++ one ∷ later → is_read one.outcome ≡ true → IsReadNext g earlier exchanges
+  pub in_order : (earlier : List Call) (one : Call) (later : List Call) → calls ≡ earlier ++ one ∷ later → is_read one.outcome ≡ true → IsReadNext g after earlier exchanges
   pub read : Consumes old.remaining new.remaining (given calls)
   pub written : Appends old.contents new.contents (taken calls)
 
