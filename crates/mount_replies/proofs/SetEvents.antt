@@ -25,11 +25,12 @@ use Rattle.mount_stub_files.specs.ToolTexts.{enabled_line, event_line, tool_text
 use Rattle.mount_stub_files.specs.ToolWrites.{tool_write}
 use Rattle.mount_stub_files.specs.declared.write.ToolWrite.{ToolWrite}
 use Rattle.mount_stub_files.specs.declared.write.ToolWrite.TheVariants.{Switch}
+use Rattle.mount_replies.proofs.ShownLemmas.{reason}
 use Rattle.mount_replies.proofs.ToolReads.{served_scenes_are_sound}
 use Rattle.mount_replies.specs.Errnos.{errno_of}
 use Rattle.mount_replies.specs.FileWrites.{switch_text, write_file, write_kind, write_other, write_switch, write_there, write_tool}
 use Rattle.mount_replies.specs.Mounted.{Does, bytes_of_reply}
-use Rattle.mount_replies.specs.PastLaws.{instance_of, write_once}
+use Rattle.mount_replies.specs.PastLaws.{IsReason, instance_of, write_once}
 use Rattle.mount_replies.specs.Services.{OpenSeen, Service, Terms, file_at, node_of, scene_of}
 use Rattle.mount_replies.specs.SetEvents.{LeavesEvents, SetEventsAreShown, SetsEvent}
 use Rattle.mount_replies.specs.Steps.{Step, write_of}
@@ -104,9 +105,16 @@ set_events_are_shown g requests messages before after request bytes handle offse
     own-there = (and_parts (owner_is_there (scene_of g before) file.owner) (file_is_there (scene_of g before) file.owner file.file) there).0
 
     by : Does g before (write_switch g before handle file own (OfEvent event.index per_event.Enable) on size) is.reply after
-        → SetsEvent g before file event on request.unique size bytes after ⊎ LeavesEvents before request.unique bytes after
+        → SetsEvent g before file event on request.unique size bytes after ⊎ LeavesEvents g before file event on request.unique bytes after
     by (Err refusal, answered, replied, now) =
-        inr (record { errno = errno_of refusal; told = is.told ∙ ap (bytes_of_reply request.unique) replied; past = ap (λ (s : Service). s.past) now })
+        let asked = command-is g before file.owner event on sound own-there found in
+        inr (record {
+          errno = errno_of refusal;
+          why = subst (λ (r : Request). IsReason g before.past r (errno_of refusal)) asked
+              (reason g before.past (write_of (scene_of g before) (nodes.File file.owner (OfEvent event.index per_event.Enable)) false (switch_text on)) refusal answered);
+          told = is.told ∙ ap (bytes_of_reply request.unique) replied;
+          past = ap (λ (s : Service). s.past) now;
+        })
     by (Ok answer, answered, replied, now) =
         let asked = command-is g before file.owner event on sound own-there found in
         let past : after.past ≡ command g before file.owner event on sound own-there found ∷ before.past =

@@ -112,7 +112,7 @@ done-shows g instance past meant answer whole is =
     read-shows g instance past meant answer whole (unrefused (missing g past meant) (read_answer g instance past None meant) answer found)
 
 -- an answer that is a refusal is the defined one, or memory was refused
-reason : (g : Terms) (past : List Request) (command : Request) (refused : Refusal) → IsAnswered g past command (Err refused)
+pub reason : (g : Terms) (past : List Request) (command : Request) (refused : Refusal) → IsAnswered g past command (Err refused)
     → IsReason g past command (errno_of refused)
 reason g past command refusal.Memory answered = inl refl
 reason g past command refused answered = inr (refused, answered (λ same. absurd (cc)), refl)

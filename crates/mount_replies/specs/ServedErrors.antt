@@ -1,7 +1,7 @@
 -- What is kept of refused writes, whatever was served: of each instance the last eight since they were forgotten, each with its caret where its refusal
 -- says. Theorems that speak of no program.
-use Rattle.std.specs.Prelude.{◌≡◌, ℕ, true, false, List, [], ◌∷◌, ◌++◌, Option, Some, None}
-use Rattle.std.specs.List.{flat_map}
+use Rattle.std.specs.Prelude.{◌≡◌, ℕ, ⊤, Bool, true, false, not, List, [], ◌∷◌, ◌++◌, Option, Some, None, Err}
+use Rattle.std.specs.List.{flat_map, slice_get}
 use Rattle.std.proofs.Common.{inl, inr}
 use Rattle.fuse_wire.specs.Replies.{reply_bytes}
 use Rattle.fuse_wire.specs.Requests.{IsRequest}
@@ -15,6 +15,8 @@ use Rattle.fuse_wire.specs.declared.request.Request.{Request as Asked}
 use Rattle.trace_command.specs.Requests.{Request}
 use Rattle.trace_command.specs.declared.refusal.Refusal.{Refusal}
 use Rattle.trace_format.specs.Definitions.{Definition}
+use Rattle.tracer_specification.specs.Settings.{declared_events}
+use Rattle.tracer_without_history.specs.Lives.{live_answer}
 use Rattle.refusal_explanations.specs.InjectionWords.{injection_offset}
 use Rattle.refusal_explanations.specs.Writes.{write_offset}
 use Rattle.error_log.specs.Errors.{ErrorSeen, error_text, refused}
@@ -23,20 +25,25 @@ use Rattle.error_log.specs.Logs.{errors_of}
 use Rattle.mount_tree.specs.Children.{is_there}
 use Rattle.mount_tree.specs.FileKinds.{kind_of_file}
 use Rattle.mount_tree.specs.NodePaths.{path_of}
+use Rattle.mount_tree.specs.declared.file.File.{File}
+use Rattle.mount_tree.specs.declared.file.File.TheVariants as files
 use Rattle.mount_tree.specs.declared.file.FileKind.TheVariants as kinds
 use Rattle.mount_tree.specs.declared.node.Node.{Node}
+use Rattle.mount_tree.specs.declared.node.Node.TheVariants as nodes
 use Rattle.mount_tree.specs.declared.node.Owner.{Owner}
+use Rattle.mount_stub_files.specs.ToolWrites.{tool_write}
 use Rattle.mount_stub_files.specs.WrongWords.{wrong_offset}
+use Rattle.mount_stub_files.specs.declared.write.ToolWrite.TheVariants as writes
 use Rattle.mount_replies.specs.Errnos.{errno_of}
-use Rattle.mount_replies.specs.FileWrites.{begun_now}
-use Rattle.mount_replies.specs.Lines.{command_text, errno_of_fault, most_kept, refusal_in}
+use Rattle.mount_replies.specs.FileWrites.{begun_now, switch_text}
+use Rattle.mount_replies.specs.Lines.{command_text, errno_of_fault, most_kept, refusal_in, written_lines}
 use Rattle.mount_replies.specs.Mounted.{AreServed, Does, IsExchanged, IsNamed, IsServed, Right, Serves, TellsOwed, Unframed, Wrong}
 use Rattle.mount_replies.specs.Owed.{Owed, ReplyAt, WakeupAt, owed, step_of_parked}
 use Rattle.mount_replies.specs.PastLaws.{ShowsNow, just_mounted}
-use Rattle.mount_replies.specs.Served.{is_cached, step_of}
+use Rattle.mount_replies.specs.Served.{AsksToWrite, emptying_of, is_cached, step_of}
 use Rattle.mount_replies.specs.Services.{OpenSeen, Service, Terms, file_at, node_of, scene_of, without_read}
-use Rattle.mount_replies.specs.Steps.{Asks, AsksLines, AsksNoting, Counts, Forgets, Interrupts, Keeps, Notes, Noting, Parks, Plain, Step, Takes, Tells}
-use Rattle.mount_replies.specs.Told.{known}
+use Rattle.mount_replies.specs.Steps.{Asks, AsksFor, AsksLines, AsksNoting, Counts, Forgets, Interrupts, Keeps, LineAsked, Notes, Noting, Parks, Plain, Step, Takes, Tells, write_of}
+use Rattle.mount_replies.specs.Told.{empties, known}
 use Rattle.mount_replies.specs.declared.fault.LineFault.{LineFault}
 
 -- ---- what was noted and forgotten
@@ -108,45 +115,90 @@ IsFileOf g s target (operations.Flush handle lock_owner) file = file_at handle s
 IsFileOf g s target (operations.Release handle) file = file_at handle s.files ≡ Some file
 IsFileOf g s target _ file = ⊥
 
--- which byte of a text is to blame that was to be written to a file, where this error was told
-pub data IsBlamed (g : Terms) (s : Service) (file : OpenSeen) (text : List ℕ) (offset : ℕ) (errno : Errno) : Type 0 where
-  -- of a command, the one that its refusal says
-  OfCommand : (refusal : Refusal) → errno ≡ errno_of refusal → offset ≡ write_offset (path_of (scene_of g s) (node_of file)) (command_text file.file text) refusal
-      → IsBlamed g s file text offset errno
-  -- of a line of `inject`, the one that its fault says
-  OfEvent : (event : Definition) (fault : LineFault) → errno ≡ errno_of_fault fault → offset ≡ injection_offset event text (refusal_in fault)
-      → IsBlamed g s file text offset errno
-  -- of one that is too long, the first that has no room
-  OfLongLine : errno ≡ EINVAL → offset ≡ most_kept → IsBlamed g s file text offset errno
-  -- of a file that tools ask for, where its first word begins
-  OfWord : offset ≡ wrong_offset text → IsBlamed g s file text offset errno
-  -- where nothing was written, there is none
-  OfNothing : text ≡ [] → offset ≡ 0 → IsBlamed g s file text offset errno
+-- a request writes this text
+abbrev pub Writes : Operation → List ℕ → Type 0
+Writes (operations.Write handle offset lock_owner bytes) text = bytes ≡ text
+Writes _ text = ⊥
 
--- A write to this file that was refused, after these requests, by this error: what is kept is the line of the byte to blame, with the caret under it.
-pub record IsRefusedWrite (g : Terms) (s : Service) (file : OpenSeen) (errno : Errno) (error : ErrorSeen) : Type 0 where
-  pub past : List Request
+-- or opens a file with these flags
+abbrev pub Opens : Operation → ℕ → Type 0
+Opens (operations.Open flags) asked = flags ≡ asked
+Opens _ asked = ⊥
+
+-- `echo TEXT > FILE` in the instance of an open file is refused
+abbrev pub IsNotWritten : Terms → Service → OpenSeen → File → List ℕ → Refusal → Type 0
+IsNotWritten g s file asked text refusal = live_answer g.config s.past (write_of (scene_of g s) (nodes.File file.owner asked) false text) ≡ Err refusal
+
+-- or may end lines of a stream: it writes to a file, flushes or closes it
+abbrev pub EndsLines : Operation → Type 0
+EndsLines (operations.Write handle offset lock_owner bytes) = ⊤
+EndsLines (operations.Flush handle lock_owner) = ⊤
+EndsLines (operations.Release handle) = ⊤
+EndsLines _ = ⊥
+
+-- the event of an `inject`
+abbrev pub event_injected : Service → File → Option Definition
+event_injected s (files.Inject event) = slice_get (declared_events s.past) event
+event_injected s _ = None
+
+-- the first of these lines, which has this text, is a command that is refused so after these requests
+pub record IsFirstRefused (g : Terms) (past : List Request) (lines : List LineAsked) (text : List ℕ) (refusal : Refusal) : Type 0 where
+  pub first : LineAsked
+  pub more : List LineAsked
+  pub lines_are : lines ≡ first ∷ more
+  pub text_is : text ≡ first.text
+  pub command : Request
+  pub asks : first.asking ≡ AsksFor command
+  pub refused : live_answer g.config past command ≡ Err refusal
+
+-- which byte of a text is to blame that a request was to write to a file, where this error was told
+pub data IsBlamed (g : Terms) (s : Service) (operation : Operation) (file : OpenSeen) (text : List ℕ) (offset : ℕ) (errno : Errno) : Type 0 where
+  -- of a command, which is the first line that was written and is not blank, the one that its refusal says
+  OfCommand : (own : List ℕ) (refusal : Refusal) → Writes operation own
+      → IsFirstRefused g s.past (written_lines (scene_of g s) file.owner file.file (not file.starts_over) own) text refusal → errno ≡ errno_of refusal
+      → offset ≡ write_offset (path_of (scene_of g s) (node_of file)) (command_text file.file text) refusal → IsBlamed g s operation file text offset errno
+  -- of a line of `inject`, the one that its fault says
+  OfEvent : (event : Definition) (fault : LineFault) → EndsLines operation → event_injected s file.file ≡ Some event → errno ≡ errno_of_fault fault
+      → offset ≡ injection_offset event text (refusal_in fault) → IsBlamed g s operation file text offset errno
+  -- of one that is too long, the first that has no room
+  OfLongLine : EndsLines operation → errno ≡ EINVAL → offset ≡ most_kept → IsBlamed g s operation file text offset errno
+  -- of what was written to a file that tools ask for, where its first word begins, if no byte of it can be taken
+  OfWord : Writes operation text → tool_write g.config (scene_of g s) file.owner file.file text ≡ writes.Wrong → errno ≡ EINVAL → offset ≡ wrong_offset text
+      → IsBlamed g s operation file text offset errno
+  -- or if the switch that it names refuses it
+  OfSwitch : (switch : File) (on : Bool) (size : ℕ) (refusal : Refusal) → Writes operation text
+      → tool_write g.config (scene_of g s) file.owner file.file text ≡ writes.Switch switch on size → IsNotWritten g s file switch (switch_text on) refusal
+      → errno ≡ errno_of refusal → offset ≡ wrong_offset text → IsBlamed g s operation file text offset errno
+  -- where a file could not be emptied that was opened for that, nothing was written, and there is none
+  OfNothing : (flags : ℕ) (asked : File) (emptying : List ℕ) (refusal : Refusal) → Opens operation flags
+      → emptying_of file.file (empties flags) ≡ AsksToWrite asked emptying → IsNotWritten g s file asked emptying refusal
+      → errno ≡ errno_of refusal → text ≡ [] → offset ≡ 0 → IsBlamed g s operation file text offset errno
+
+-- A write to this file that this request was to do and that was refused by this error, when these requests were done: what is kept is the line of the byte
+-- to blame, with the caret under it.
+pub record IsRefusedWrite (g : Terms) (s : Service) (operation : Operation) (past : List Request) (file : OpenSeen) (errno : Errno) (error : ErrorSeen) : Type 0 where
   pub text : List ℕ
   pub sentence : List ℕ
   pub offset : ℕ
   pub is : error ≡ refused (begun_now g (record s { past = past }) file) text sentence offset
-  pub blamed : IsBlamed g s file text offset errno
+  pub blamed : IsBlamed g s operation file text offset errno
   pub stands : StandsUnder text offset error
 
--- What is noted is a write to the file that was written, opened or closed, and its refusal was told.
-pub record IsNoted (g : Terms) (before : Service) (request : Asked) (bytes : List ℕ) (error : ErrorSeen) : Type 0 where
+-- What is noted is a write to the file that was written, opened or closed, and its refusal was told. When it is
+-- noted, all that the request does is done.
+pub record IsNoted (g : Terms) (before : Service) (request : Asked) (bytes : List ℕ) (after : Service) (error : ErrorSeen) : Type 0 where
   pub node : Option Node
   pub named : IsNamed request.node node
   pub file : OpenSeen
   pub by : IsFileOf g before node request.operation file
   pub errno : Errno
-  pub write : IsRefusedWrite g before file errno error
+  pub write : IsRefusedWrite g before request.operation after.past file errno error
   pub told : bytes ≡ reply_bytes request.unique (replies.Error errno)
 
 abbrev pub NotedWritesWereRefused : Type 0
 NotedWritesWereRefused =
     (g : Terms) (before : Service) (asked bytes : List ℕ) (after : Service) (exchanged : IsExchanged g before asked bytes after) (error : ErrorSeen)
-    → noting_of g before asked bytes after exchanged ≡ Notes error → (request : Asked) × IsRequest asked request × IsNoted g before request bytes error
+    → noting_of g before asked bytes after exchanged ≡ Notes error → (request : Asked) × IsRequest asked request × IsNoted g before request bytes after error
 
 -- ---- what is shown
 

@@ -70,9 +70,10 @@ pub fn pasts_are_done()
     ensures { PastsAreDone }
 {}
 
-/// A read of a file from its beginning, whatever was served before it, shows what the file shows after the commands that were done by then, unless it is
-/// the page cache's; of `stats` these are the counts that are defined over them. So it is of files that tools ask for, as `set_event`, and `error_log`
-/// shows the last eight writes that were refused since it was cleared. Later reads go on in that text.
+/// A read of a file that is there, is no pipe and is not `inject`, from its beginning, whatever was served before it, is refused, or shows what the file
+/// shows after the commands that were done by then, unless it is the page cache's; of `stats` these are the counts that are defined over them. So it is of
+/// files that tools ask for, as `set_event`, and `error_log` shows the last eight refused writes that were noted since it was cleared. Later reads go on in
+/// that text.
 pub fn reads_show_the_past()
     ensures files { ReadsShowThePast }
     ensures stats { StatsShowThePast }
@@ -88,8 +89,9 @@ pub fn writes_are_commands()
     ensures { WritesAreCommands }
 {}
 
-/// A write to `set_event` whose first word is to switch an event that is there, whatever was served before it, is refused, or switches it: from then on
-/// the file shows a line of each event that is enabled, and of this one just if it was switched on.
+/// A write to `set_event` whose first word is to switch an event that is there, whatever was served before it, switches it: from then on the file shows a
+/// line of each event that is enabled, and of this one just if it was switched on. Or it is refused as the command that switches the event is, or for want
+/// of memory.
 pub fn set_events_are_shown()
     ensures { SetEventsAreShown }
 {}
@@ -100,8 +102,8 @@ pub fn removed_instances_are_gone()
     ensures errors { ErrorsAreOfInstances }
 {}
 
-/// Whatever was served, the log of an instance has its last eight writes that were refused since it was cleared. What is noted is a write to a file that
-/// was written, opened or closed, and its refusal was told; the caret stands under the byte that is to blame by the refusal.
+/// Whatever was served, the log of an instance has its last eight refused writes that were noted since it was cleared. What is noted is a write to a file
+/// that was written, opened or closed, and its refusal was told; the caret stands under the byte that is to blame by the refusal.
 pub fn logs_have_the_last_eight()
     ensures kept { LastEightAreKept }
     ensures noted { NotedWritesWereRefused }
@@ -117,8 +119,8 @@ pub fn sizes_are_lengths()
     ensures { SizesAreLengths }
 {}
 
-/// What is computed of a step where no memory is refused is what it does, and so a shell's session is served: a write that is refused and one that isn't,
-/// what they leave in the files, and a reader that waits.
+/// What is computed of a step where no memory is refused is what it does. By that a shell's session gets these messages: a write that is refused and one
+/// that isn't, what they leave in the files, and a reader that waits.
 pub fn examples_are_computed()
     ensures steps { StepsAreComputed }
     ensures sessions { SessionsAreServed }
