@@ -73,7 +73,11 @@ def installs(_):
 
 
 def check_cases():
-    counts = {"tests/program": 20, "tests/threads": 3, "tests/allocations": 10, "tests/tried": 29, "tests/planted": 5, "tests/archive": 1, "tests/unproved": 7, "tests/library": 4, "tests/mount": 2, "tests/walk": 4, "tests/mounted": 6, "tests/streams": 5, "tests/clients": 8, "tests/watch": 9}
+    counts = {
+        **{"tests/program": 20, "tests/threads": 3, "tests/program_without_memory": 10, "tests/rattle_tests": 29, "tests/planted": 5, "tests/archive": 1},
+        **{"tests/unproved_program": 7, "tests/library": 4, "tests/kernel_requests": 2, "tests/walk": 4, "tests/real_mount": 6, "tests/streams": 5},
+        **{"tests/tracefs_clients": 8, "tests/watch": 9},
+    }
     tests = {name: CHECKED % (name, count, 0, 0) for name, count in counts.items()}
     whole = dict(tests, rt=CHECKED % ("rt", 100, 0, 0))
 
@@ -88,8 +92,11 @@ def check_cases():
 
         return Case("./check: " + name, right)
 
+    skipped = {"tests/tracefs_clients": "a, as b", "tests/real_mount": "all"}
+    skipping = dict(whole, **{name: "echo 'skipped: %s'\n%s" % (why, tests[name]) for name, why in skipped.items()})
     jobs = ["RT_JOBS=3"]
-    each = ["rt ci RT_JOBS=3", "tests/archive  RT_JOBS=3", "tests/program  RT_JOBS=3", "tests/threads ", "tests/allocations ", "tests/tried ", "tests/unproved ", "tests/library "]
+    each = ["rt ci RT_JOBS=3", "tests/archive  RT_JOBS=3", "tests/program  RT_JOBS=3", "tests/threads ", "tests/program_without_memory "]
+    each += ["tests/rattle_tests ", "tests/unproved_program ", "tests/library "]
     no_rt = b"check: rt, the command of the Rattle kit, is needed and was not found\n"
     little = b"check: 1953 MiB of memory are free, which may be too little: up to 4096 are needed\n"
     elsewhere = ["CDPATH=.:/", "TMPDIR=/no/such/folder"] + jobs
@@ -111,7 +118,7 @@ def check_cases():
         case("by a relative path, likewise", [], whole, each, 0, elsewhere, "relative", last=b"\n208 passed, 0 failed\n"),
         case("a test that fails", [], dict(whole, **{"tests/threads": CHECKED % ("", 2, 1, 1)}), [], 1, jobs, last=b"\n207 passed, 1 failed\n"),
         case("a gate that fails by its status alone", [], dict(whole, rt=CHECKED % ("rt", 100, 0, 1)), [], 1, jobs, last=b"\n208 passed, 1 failed\n"),
-        case("what is skipped is told at the end", [], dict(whole, **{"tests/clients": "echo 'skipped: a, as b'\n" + tests["tests/clients"], "tests/mounted": "echo 'skipped: all'\n" + tests["tests/mounted"]}), [], 0, jobs, last=b" ended\ntests/mounted skipped all\ntests/clients skipped a, as b\n208 passed, 0 failed\n"),
+        case("what is skipped is told at the end", [], skipping, [], 0, jobs, last=b" ended\ntests/real_mount skipped all\ntests/tracefs_clients skipped a, as b\n208 passed, 0 failed\n"),
         case("a test that prints no counts", [], dict(whole, **{"tests/program": "echo nothing"}), [], 1, jobs, last=b"\n188 passed, 1 failed\n"),
         case("quickly, with a proved program", ["--quick"], proved, ["/crates/tracectl/out/tracectl\n"], 0, last=b"\n71 passed, 0 failed (the programs are proved)\n"),
         case("quickly, with an unproved program", ["--quick"], compiled, ["/tracectl-unproved\n"], 0, stderr=None, last=b"\n71 passed, 0 failed " + unproved.encode()),

@@ -8,18 +8,18 @@ import sys
 from cases.running import TOP, Case, Outcome, differences, run
 from walking.walks import seed_of
 
-CALLING = TOP / "tests" / "calling"
+CASES = TOP / "tests" / "library_cases"
 COUNT = 100_000
 SECONDS = 10  # of walks
 
 
 def run_script(library, name, *words):
     settings = ["env", "PYTHONDONTWRITEBYTECODE=1", "TRACECTL_LIBRARY=%s" % library]
-    return run(settings + [sys.executable, CALLING / name, *words])
+    return run(settings + [sys.executable, CASES / name, *words])
 
 
 def arguments(library):
-    return differences(run_script(library, "arguments.py"), Outcome(0, (CALLING / "arguments.stdout").read_bytes(), b""))
+    return differences(run_script(library, "arguments.py"), Outcome(0, (CASES / "arguments.stdout").read_bytes(), b""))
 
 
 def random_calls(library):
@@ -68,8 +68,8 @@ def names(_):
 
 def python_cases(library):
     return [
-        Case("tests/calling/arguments.py", lambda _: arguments(library)),
-        Case("tests/calling/random_calls.py", lambda _: random_calls(library)),
-        Case("tests/calling/walks.py", lambda program: walks(library, program)),
+        Case("tests/library_cases/arguments.py", lambda _: arguments(library)),
+        Case("tests/library_cases/random_calls.py", lambda _: random_calls(library)),
+        Case("tests/library_cases/walks.py", lambda program: walks(library, program)),
         Case("the names of statuses in examples/python/tracectl.py", names),
     ]

@@ -7,7 +7,7 @@ import signal
 import subprocess
 import time
 
-from mount_cases.sizes import PIPE_SIZE
+from kernel_request_cases.sizes import PIPE_SIZE
 from stream_cases.place import PLACE, ROOM, SECONDS, Skipped, compiled, declare, emit, instance, need, numbers, put, wait_until
 
 BURST = 50

@@ -5,7 +5,7 @@ import subprocess
 import tempfile
 
 import fuse
-from mount_cases.sizes import every_node
+from kernel_request_cases.sizes import every_node
 
 MODE, UID, GID = 9, 11, 12  # in a fuse_attr
 SECONDS = 20

@@ -2,8 +2,8 @@
 import os
 
 import fuse
-from mount_cases.sizes import FOLDER, MODE, every_node
-from mount_cases.tracer import TICK, Tracer, numbers
+from kernel_request_cases.sizes import FOLDER, MODE, every_node
+from kernel_request_cases.tracer import TICK, Tracer, numbers
 
 
 def emptied_at_the_open(command):

@@ -3,7 +3,7 @@ import errno
 import os
 
 import fuse
-from mount_cases.tracer import TICK, Tracer
+from kernel_request_cases.tracer import TICK, Tracer
 
 PIPE_SIZE = 1  # what is told of a pipe, with EINVAL to a read of a page, so that who began with `sendfile` goes on with `read`; 0 without that
 KEPT = 8  # texts

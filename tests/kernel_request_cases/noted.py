@@ -1,8 +1,8 @@
 """`error_log`: each write that is refused is noted, with the file, what is wrong, the line to blame, and a caret under the word to blame."""
 import os
 
-from mount_cases.lines import OpenFile
-from mount_cases.tracer import Tracer
+from kernel_request_cases.lines import OpenFile
+from kernel_request_cases.tracer import Tracer
 
 WHO = "events/synthetic/who/"
 INJECT = WHO + "inject"

@@ -2,8 +2,8 @@
 import errno
 import os
 
-from mount_cases.sizes import FOLDER, MODE, every_node
-from mount_cases.tracer import Tracer, numbers
+from kernel_request_cases.sizes import FOLDER, MODE, every_node
+from kernel_request_cases.tracer import Tracer, numbers
 
 TURNS, MOST_GROWN = 1_000, 64 * 1024
 FILES = 20

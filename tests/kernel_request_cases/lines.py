@@ -3,7 +3,7 @@ import errno
 import os
 
 import fuse
-from mount_cases.tracer import TICK, Tracer
+from kernel_request_cases.tracer import TICK, Tracer
 
 TRIGGER = TICK + "trigger"
 

@@ -4,7 +4,7 @@ import os
 import struct
 
 import fuse
-from mount_cases.tracer import RECORD, TICK, Tracer
+from kernel_request_cases.tracer import RECORD, TICK, Tracer
 
 INJECT = TICK + "inject"
 MOST_KEPT = 4_096

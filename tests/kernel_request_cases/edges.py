@@ -3,8 +3,8 @@ import errno
 import os
 
 import fuse
-from mount_cases.lines import OpenFile
-from mount_cases.tracer import Tracer, numbers
+from kernel_request_cases.lines import OpenFile
+from kernel_request_cases.tracer import Tracer, numbers
 
 READABLE = 0x41
 ONE = 2_048  # bytes, for which one record is taken

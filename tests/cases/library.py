@@ -14,7 +14,7 @@ from cases.running import TOP, Case, Outcome, differences, run, text_differences
 from cases.scripts import scripts_of, wanted, words_of
 
 LIBRARY = TOP / "crates" / "tracectl_c" / "out" / "libtracectl_c.a"
-CALLING = TOP / "tests" / "calling"
+CASES = TOP / "tests" / "library_cases"
 PYTHON = TOP / "examples" / "python"
 OPTIONS = {"--cpus": "cpus", "--pages": "pages", "--page-bytes": "page_bytes"}
 
@@ -34,7 +34,7 @@ def built():
     subprocess.run([str(TOP / "examples" / "c" / "build"), str(folder)], check=True)
     heap = Path(subprocess.run(["rt", "doc"], stdout=subprocess.PIPE, check=True).stdout.decode().strip()).parent / "c" / "liblibc_c.a"
     for name, words in (("memory", ["-Wl,--wrap=malloc,--wrap=realloc,--wrap=free"]), ("limits", []), ("values", [])):
-        words += ["-I", LIBRARY.parent.parent, "-o", folder / name, CALLING / (name + ".c"), folder / "libtracectl_c.a", heap]
+        words += ["-I", LIBRARY.parent.parent, "-o", folder / name, CASES / (name + ".c"), folder / "libtracectl_c.a", heap]
         subprocess.run([os.environ.get("CC", "cc")] + [str(word) for word in words], check=True)
     return folder
 
@@ -95,7 +95,7 @@ def example_case(name, command, folder, stdout):
     return Case(name, lambda _: differences(run(settings + command), Outcome(0, stdout.read_bytes(), b"")))
 
 
-def calling_cases():
+def library_cases():
     reason = unusable()
     if reason:
         print("skipped: the library for C and Python, as %s" % reason, flush=True)
@@ -116,8 +116,8 @@ def calling_cases():
     scripts = [script for script in scripts_of(TOP / "tests" / "rows") if is_plain(script)]
     return [
         example_case("examples/c/million.c", [folder / "million"], folder, TOP / "examples" / "c" / "million.stdout"),
-        example_case("tests/calling/memory.c", [folder / "memory"], folder, CALLING / "memory.stdout"),
-        example_case("tests/calling/limits.c", [folder / "limits"], folder, CALLING / "limits.stdout"),
-        example_case("tests/calling/values.c", [folder / "values"], folder, CALLING / "values.stdout"),
+        example_case("tests/library_cases/memory.c", [folder / "memory"], folder, CASES / "memory.stdout"),
+        example_case("tests/library_cases/limits.c", [folder / "limits"], folder, CASES / "limits.stdout"),
+        example_case("tests/library_cases/values.c", [folder / "values"], folder, CASES / "values.stdout"),
         example_case("examples/python/ticks.py", [sys.executable, PYTHON / "ticks.py"], folder, PYTHON / "ticks.stdout"),
     ] + python_cases(folder / "libtracectl.so") + list(map(script_case, scripts)) + [values_case(script) for script in scripts if b"\nemit " in script.read_bytes()]
