@@ -5,7 +5,7 @@ import re
 import subprocess
 
 from cases.running import SECONDS, TOP, Case, Outcome, case_of, differences, failed_on, quoted, run
-from cases.scripts import scripts_of, wanted, words_of
+from cases.scripts import beside, scripts_of, wanted, words_of
 
 TRIGGER = "events/synthetic/tick/trigger"
 SETUP = ["echo 'tick u64 n' > synthetic_events", "echo 'hist:keys=n:sort=n' > %s" % TRIGGER]
@@ -83,13 +83,13 @@ def mingled_cases():
 
 def drawn_script(script):
     """That a script has the output and the status that lie beside it, and the bars that do; where none do, a line for each entry that is read."""
-    beside = script.with_name(script.name + ".bars")
+    drawn_beside = beside(script, ".bars")
 
     def drawn(program):
         want = wanted(script)
         got = run([program, "--bars"] + words_of(script), script=script.read_bytes())
-        if beside.exists():
-            return differences(got, want._replace(stderr=beside.read_bytes()))
+        if drawn_beside.exists():
+            return differences(got, want._replace(stderr=drawn_beside.read_bytes()))
         entries = re.findall(rb"^\{ (.*) \} hitcount: +(\d+)", want.stdout, re.MULTILINE)
         lines = [line for line in got.stderr.splitlines() if line]
         right = [re.fullmatch(rb"  " + re.escape(keys) + rb" +" + count + rb"  #{1,60}", line) for (keys, count), line in zip(entries, lines)]

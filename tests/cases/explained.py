@@ -6,7 +6,7 @@ import subprocess
 
 from cases.emitting import REFUSED
 from cases.running import SECONDS, TOP, Case, Outcome, case_of, differences, failed_on, quoted, run
-from cases.scripts import scripts_of, wanted, words_of
+from cases.scripts import beside, scripts_of, wanted, words_of
 
 WRITTEN = "echo 'n == 1 || z == 2' > events/synthetic/tick/filter"
 
@@ -142,13 +142,13 @@ def both_in_one(name, script, want):
 def explained_script(script):
     """That a script has the output and the status that lie beside it, and the explanations that do; where none do, one that begins with its number
     for each line that was refused or has a fault."""
-    beside = script.with_name(script.name + ".explained")
+    told_beside = beside(script, ".explained")
 
     def explained(program):
         want = wanted(script)
         got = run([program, "--explain"] + words_of(script), script=script.read_bytes())
-        if beside.exists():
-            return differences(got, want._replace(stderr=beside.read_bytes()))
+        if told_beside.exists():
+            return differences(got, want._replace(stderr=told_beside.read_bytes()))
         numbers = re.findall(rb"^! (\d+): (?:N\d+|script) (\w+)", want.stdout, re.MULTILINE)
         lines = got.stderr.splitlines()
         headings = [line for line in lines if not line.startswith(b"  ")]

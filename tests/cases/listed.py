@@ -6,7 +6,7 @@ import re
 from cases.drawn import DRAWN, LINES
 from cases.emitting import REFUSED
 from cases.running import TOP, Case, Outcome, case_of, differences, failed_on, quoted, run, text_differences
-from cases.scripts import scripts_of, wanted, words_of
+from cases.scripts import beside, scripts_of, wanted, words_of
 
 OWN = ["rw snapshot", "rw tracing_on", "rw trace", "r trace_pipe", "rw options/overwrite", "rw trace_options"]
 OF_ALL_EVENTS = ["rw events/enable", "rw events/synthetic/enable", "w events/synthetic/filter"]
@@ -93,7 +93,8 @@ def used(program):
 
 
 def listed_script(script):
-    """That a script has the output and the status that lie beside it, and a list after that."""
+    """That a script has the output and the status that lie beside it, and after that the list that does; where none does, any list."""
+    listed_beside = beside(script, ".listed")
 
     def right(program):
         want = wanted(script)
@@ -101,6 +102,8 @@ def listed_script(script):
         count = len(want.stdout)
         files = got.stdout[count:].decode()
         found = differences(got._replace(stdout=got.stdout[:count]), want)
+        if listed_beside.exists():
+            return found + text_differences("the list", got.stdout[count:], listed_beside.read_bytes())
         return found + ([] if re.fullmatch(r"rw synthetic_events\n((r|w|rw) \S+\n)+", files) else ["no list but %s" % quoted(files)])
 
     return Case("--list %s" % script.relative_to(TOP), right)

@@ -2,7 +2,12 @@
 
 from cases.running import TOP, Outcome, case_of
 
-BESIDE = (".args", ".stdout", ".status", ".explained", ".bars")
+BESIDE = (".args", ".stdout", ".status", ".explained", ".bars", ".listed")
+
+
+def beside(script, suffix):
+    """The file that lies beside a script, by its suffix."""
+    return script.with_name(script.name + suffix)
 
 
 def scripts_of(folder):
@@ -12,19 +17,23 @@ def scripts_of(folder):
     return scripts
 
 
+def name_of(path):
+    return str(path.relative_to(TOP) if TOP in path.parents else path)
+
+
 def wanted(script):
-    status = script.with_name(script.name + ".status")
+    status = beside(script, ".status")
     return Outcome(
         int(status.read_text()) if status.exists() else 0,
-        script.with_name(script.name + ".stdout").read_bytes(),
+        beside(script, ".stdout").read_bytes(),
         b"",
     )
 
 
 def script_cases(folder):
-    return [case_of(str(path.relative_to(TOP)), wanted(path), words_of(path), script=path.read_bytes()) for path in scripts_of(folder)]
+    return [case_of(name_of(path), wanted(path), words_of(path), script=path.read_bytes()) for path in scripts_of(folder)]
 
 
 def words_of(script):
-    words = script.with_name(script.name + ".args")
+    words = beside(script, ".args")
     return words.read_text().splitlines() if words.exists() else ["-"]
