@@ -2,7 +2,7 @@
 
 from cases.running import TOP, Outcome, case_of
 
-BESIDE = (".args", ".stdout", ".status", ".explained", ".bars", ".listed")
+BESIDE = (".args", ".stdout", ".status", ".explained", ".bars", ".listed", ".tree")
 
 
 def beside(script, suffix):
