@@ -66,7 +66,8 @@ EDITS = {  # what is wrong beside copies of these scripts; None where a file is 
     "fault_in_a_part.status": None,
     "five_emissions.status": b"1\n",
 }
-SHOWN = ("-nothing is explained\n", "-rw nothing\n", "+rw trace_options\n", "--- /dev/null\n", "+2\n", "-1\n", "+++ /dev/null\n", "%d files changed\n" % (len(EDITS) + 1))
+SHOWN = ("-nothing is explained\n", "-rw nothing\n", "+rw trace_options\n", "--- /dev/null\n", "+2\n", "-1\n", "+++ /dev/null\n")
+TOLD = "%d files changed\n" % (len(EDITS) + 1)  # and an output that is missing
 
 
 def files_in(folder):
@@ -101,12 +102,13 @@ def writes_what_changed(program):
         right = copies_of(CHOSEN, folder)
         edited = files_in(folder)
         results, _ = said_by(lambda: [passes(case, program) for case in script_cases(folder)])
-        found = [] if results.count(False) == 2 and files_in(folder) == edited else ["%d scripts are wrong, or files changed unasked" % results.count(False)]
+        wrong = results.count(False)
+        found = [] if wrong == 2 and files_in(folder) == edited else ["%d scripts are wrong, or files changed unasked" % wrong]
         (folder / "instances.stdout").unlink()
         status, said = said_by(write_outputs, scripts_of(folder), program)
         found += ["%s is not as it was" % name for name, data in files_in(folder).items() if right.get(name) != data]
         found += ["%s is missing" % name for name in right.keys() - files_in(folder).keys()]
-        found += ["%r is not shown in %s" % (line, said) for line in SHOWN if line not in said]
+        found += ["%r is not shown in %s" % (line, said) for line in (*SHOWN, TOLD) if line not in said]
         again = said_by(write_outputs, scripts_of(folder), program)
         return found + ([] if (status, again) == (0, (0, "0 files changed\n")) else ["again: %d, %s" % (status, again)])
 

@@ -59,6 +59,6 @@ def lines_of_folder(server, path, told, parent):
 
 
 def tree_of(server):
-    """A line for each folder and file, in the order of the lists: its number, how it may be used, its links, its size and its path; of a file also what
-    an open for reading and one for appending get, and, if it can be read and isn't a pipe, what it shows."""
+    """A line for each folder and file, in the order of the lists: its number, how it may be used, its links, its size and its path; of a file also
+    what an open for reading and one for appending get, and, if it can be read and isn't a pipe, what it shows."""
     return b"".join(line + b"\n" for line in lines_of_folder(server, "", server.attributes(fuse.ROOT), fuse.ROOT))
