@@ -14,7 +14,7 @@ use Rattle.fuse_wire.proofs.PartLemmas.{alone, size_of}
 
 -- ---- whether bytes are parts, as a computation
 
-abbrev is_part : Part → List ℕ → Bool
+abbrev pub is_part : Part → List ℕ → Bool
 is_part (U16 number) bytes = nat_lt number (2 ^ 16) && bytes_eq bytes (number_bytes w16 number)
 is_part (U32 number) bytes = nat_lt number (2 ^ 32) && bytes_eq bytes (number_bytes w32 number)
 is_part (U64 number) bytes = nat_lt number (2 ^ 64) && bytes_eq bytes (number_bytes w64 number)
@@ -24,7 +24,7 @@ is_part (Bytes own) bytes = bytes_eq bytes own
 is_part Anything bytes = true
 
 -- the last part has what is left
-abbrev are : List Part → List ℕ → Bool
+abbrev pub are : List Part → List ℕ → Bool
 are [] [] = true
 are [] (byte ∷ bytes) = false
 are (part ∷ []) bytes = is_part part bytes
@@ -51,7 +51,7 @@ part (Name name) bytes is =
 part (Bytes own) bytes is = (bytes_eq-Decides bytes own).0 is
 part Anything bytes is = tt
 
-parts : (all : List Part) (bytes : List ℕ) → are all bytes ≡ true → Are all bytes
+pub parts : (all : List Part) (bytes : List ℕ) → are all bytes ≡ true → Are all bytes
 parts [] [] is = nothing
 parts [] (byte ∷ bytes) is = absurd cc
 parts (p ∷ []) bytes is = alone p bytes (part p bytes is)

@@ -36,4 +36,6 @@ pub mod ToolReads
 pub mod ServedErrors
 pub mod NotedWrites
 pub mod ComputedSteps
+pub mod ServedTurns
+pub mod WorkedSession
 pub mod SetEvents

@@ -17,4 +17,5 @@ pub mod ServedErrors
 pub mod SetEvents
 pub mod ComputedSteps
 pub mod MountExamples
+pub mod SessionBytes
 pub mod private

@@ -1,4 +1,4 @@
--- What is written to `set_event` is what reads of it show from then on. A theorem that speaks of no program.
+-- What is written to `set_event` is what reads of it show then. A theorem that speaks of no program.
 use Rattle.std.specs.Prelude.{◌≡◌, ◌⊎◌, ℕ, Bool, true, false, if◌then◌else◌, List, [], ◌∷◌, Some}
 use Rattle.std.specs.List.{flat_map}
 use Rattle.fuse_wire.specs.Replies.{reply_bytes}
@@ -27,8 +27,8 @@ use Rattle.mount_replies.specs.Services.{OpenSeen, Service, Terms, file_at, node
 abbrev pub switch_command : Terms → Service → OpenSeen → Event → Bool → Request
 switch_command g s file event on = write_once (instance_of g s file) (paths.OfEvent event.name per_event.Enable) false (switch_text on)
 
--- An event was switched in the instance of an open `set_event`, and so many bytes are done. That file has from then on a line of each event that is
--- enabled, and of this one just if it was switched on.
+-- An event was switched in the instance of an open `set_event`, and so many bytes are done. That file has then a line of each event that is enabled, and
+-- of this one just if it was switched on.
 pub record SetsEvent (g : Terms) (before : Service) (file : OpenSeen) (event : Event) (on : Bool) (unique size : ℕ) (bytes : List ℕ) (after : Service) : Type 0 where
   pub told : bytes ≡ reply_bytes unique (replies.Written size)
   pub asked : after.past ≡ switch_command g before file event on ∷ before.past

@@ -6,6 +6,7 @@ ghost use Rattle.mount_replies.specs.MountLaws.{CutsDontMatter, LinesEndAtNewlin
 ghost use Rattle.mount_replies.specs.ParkedLaws.{ClosedReadsTakeNothing, InterruptedReadsTakeNothing, NoPollWaitsForWhatIsThere, NoReadWaitsForWhatIsThere, NoRecordIsLostOrToldTwice, OldestIsAnsweredFirst, ParkedReadsArmPolls, ReadsAreAnsweredOnce, ReadsArmPolls, TakenTextIsGivenOrKept, TellingDoesOneCommandAtMost};
 ghost use Rattle.mount_replies.specs.PastLaws.{ErrorsAreOfInstances, LaterReadsGoOn, PastsAreDone, ReadsEndWithTheText, ReadsShowThePast, RemovedFilesAreMissing, ServedScenesAreSound, SizesAreLengths, StatsShowThePast, ToolReadsShowThePast, WritesAreCommands};
 ghost use Rattle.mount_replies.specs.ServedErrors.{LastEightAreKept, LogReadsShowTheLastEight, NotedWritesWereRefused};
+ghost use Rattle.mount_replies.specs.SessionBytes.{SessionIsServed};
 ghost use Rattle.mount_replies.specs.SetEvents.{SetEventsAreShown};
 
 /// Reads of a text that go on one after another give together one part of it, and so from the beginning on what one read gives.
@@ -89,9 +90,9 @@ pub fn writes_are_commands()
     ensures { WritesAreCommands }
 {}
 
-/// A write to `set_event` whose first word is to switch an event that is there, whatever was served before it, switches it: from then on the file shows a
-/// line of each event that is enabled, and of this one just if it was switched on. Or it is refused as the command that switches the event is, or for want
-/// of memory.
+/// A write to `set_event` whose first word is to switch an event that is there, whatever was served before it, switches it: the file shows then a line of
+/// each event that is enabled, and of this one just if it was switched on. Or it is refused as the command that switches the event is, or for want of
+/// memory.
 pub fn set_events_are_shown()
     ensures { SetEventsAreShown }
 {}
@@ -120,8 +121,9 @@ pub fn sizes_are_lengths()
 {}
 
 /// What is computed of a step where no memory is refused is what it does. By that a shell's session gets these messages: a write that is refused and one
-/// that isn't, what they leave in the files, and a reader that waits.
+/// that isn't, what they leave in the files, and a reader that waits. Such a session is served by these bytes (`bytes`).
 pub fn examples_are_computed()
     ensures steps { StepsAreComputed }
     ensures sessions { SessionsAreServed }
+    ensures bytes { SessionIsServed }
 {}
