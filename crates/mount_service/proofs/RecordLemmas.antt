@@ -18,8 +18,8 @@ use Rattle.mount_replies.specs.PastLaws.{PastsAreDone, ReadsAnew, StatsShowThePa
 use Rattle.mount_replies.specs.Services.{OpenSeen, Service, Terms, node_of, scene_of}
 
 pub accounted_for : RingsCountEmissions → RingsAreAccountedFor → EmissionsAreAccountedFor → EmissionsAreShownOrCounted → PastsAreDone → ServicesAreAccountedFor
-accounted_for counts accounts all shown pasts g old new exchanges left after serving = record {
-  done = (pasts g _ _ after serving.served).done;
+accounted_for counts accounts all shown pasts g requests messages after served = record {
+  done = (pasts g requests messages after served).done;
   rings = λ instance side cpu within. record {
     records = counts g.config after.past instance side cpu within;
     handed_out = accounts g.config after.past instance side cpu within;

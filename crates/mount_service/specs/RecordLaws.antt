@@ -2,7 +2,6 @@
 use Rattle.std.specs.Prelude.{◌≡◌, ℕ, ◌+◌, ◌<◌, true, false, List, Option, Some}
 use Rattle.fuse_wire.specs.declared.request.Operation.TheVariants as operations
 use Rattle.fuse_wire.specs.declared.request.Request.{Request as Asked}
-use Rattle.fuse_serve.specs.Exchanges.{DeviceSeen, Exchange}
 use Rattle.history_laws.specs.AccountedFor.{counted, emissions_of, not_read, recorded_count, shown_count, shown_of, was_emptied}
 use Rattle.history_laws.specs.RingTotals.{since_new}
 use Rattle.page_ring.specs.declared.rings.RingStats.{RingStats}
@@ -18,7 +17,6 @@ use Rattle.tracer_specification.specs.Snapshots.{exchange_count, live_side}
 use Rattle.record_text.specs.StatsText.{stats_text}
 use Rattle.mount_tree.specs.Children.{is_there}
 use Rattle.mount_tree.specs.declared.file.File.TheVariants as files
-use Rattle.mount_service.specs.TracerServices.{IsServing}
 use Rattle.mount_replies.specs.Mounted.{IsServed, Serves}
 use Rattle.mount_replies.specs.PastLaws.{ReadsAnew, instance_of, just_mounted, read_whole}
 use Rattle.mount_replies.specs.Served.{is_cached}
@@ -42,8 +40,8 @@ pub record IsRingAccountedFor (g : Terms) (instance : Option (List ℕ)) (side c
   pub handed_out : since_new (shown_of g.config instance cpu) instance side cpu past + not_read (side_stats g instance side cpu past)
       ≡ since_new (emissions_of instance cpu) instance side cpu past
 
--- What a service came to: its commands were done, one after another. Each ring is accounted for, whatever emptied it; and if no ring of a CPU was
--- emptied, both sides are together, from the making of the instance on.
+-- What was served by any moment: these commands were done, one after another. Each ring is accounted for, whatever emptied it; and if no ring of a CPU
+-- was emptied, both sides are together, from the making of the instance on.
 pub record IsAccountedFor (g : Terms) (past : List Request) : Type 0 where
   pub done : AreDone g.config past
   pub rings : (instance : Option (List ℕ)) (side cpu : ℕ) → cpu < g.config.cpus → IsRingAccountedFor g instance side cpu past
@@ -55,8 +53,7 @@ pub record IsAccountedFor (g : Terms) (past : List Request) : Type 0 where
 
 abbrev pub ServicesAreAccountedFor : Type 0
 ServicesAreAccountedFor =
-    (g : Terms) (old new : DeviceSeen) (exchanges : List Exchange) (left : List ℕ) (after : Service) → IsServing g old new exchanges left after
-    → IsAccountedFor g after.past
+    (g : Terms) (requests messages : List (List ℕ)) (after : Service) → Serves g just_mounted requests messages after → IsAccountedFor g after.past
 
 -- A READ of `stats` from its beginning, other than the page cache's, whatever was served before it: the counts that it shows are together the records
 -- that were recorded by then in the CPU's ring that is live, since it was new or emptied. If it was not emptied and no snapshot taken, these are all

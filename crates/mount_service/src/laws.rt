@@ -4,8 +4,8 @@ ghost use Rattle.mount_service.specs.ReaderLaws.{ExchangesTakeForOne, NoRecordIs
 ghost use Rattle.mount_service.specs.RecordLaws.{ServicesAreAccountedFor, StatsTellAllRecords};
 ghost use Rattle.mount_service.specs.TracerLaws.{CallsAreServed, KnownBytesAreServed};
 
-/// If what the reads of a device gave are whole requests, a service that found the end served exactly these, and its writes took exactly the replies and
-/// what was owed unless one failed by ENOENT. So it is of a device whose bytes are known.
+/// If what the reads of a device gave are whole requests, a service that found the end, or that the device is gone, served exactly these, and its writes
+/// took exactly the replies and what was owed unless one failed by ENOENT. So it is of a device whose bytes are known, at its end.
 pub fn known_bytes_are_served()
     ensures calls { CallsAreServed }
     ensures bytes { KnownBytesAreServed }
