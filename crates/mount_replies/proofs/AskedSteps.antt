@@ -1,6 +1,6 @@
--- What steps ask and note: none but the removal of an instance takes one away, what is noted is of an instance that is there, and what is counted is the
--- text of a file that is there.
-use Rattle.std.proofs.Common.{◌≡◌, ◌⊎◌, inl, inr, ℕ, ◌+◌, ◌==◌, nat_lt, Bool, true, false, not, ◌&&◌, if◌then◌else◌, List, [], ◌∷◌, ◌++◌, length, Option, Some, None, Result, Ok, Err, refl, sym, slice_get, unwrap_or}
+-- What steps ask and note: but for the removal of an instance such requests as reads, writes and emissions are, what is noted is of an instance that is
+-- there, and what is counted is the text of a file that is there.
+use Rattle.std.proofs.Common.{◌≡◌, ◌⊎◌, inl, inr, ℕ, ◌+◌, ◌%◌, ◌^◌, ◌==◌, nat_lt, Bool, true, false, not, ◌&&◌, if◌then◌else◌, List, [], ◌∷◌, ◌++◌, length, Option, Some, None, Result, Ok, Err, refl, sym, slice_get, unwrap_or}
 use Rattle.std.proofs.lemmas.Bool.{and_parts}
 use Rattle.fuse_wire.specs.declared.errno.Errno.TheVariants.{EACCES, EAGAIN, EINVAL, EINTR, ENOENT, ENOSPC}
 use Rattle.fuse_wire.specs.declared.reply.Reply.TheVariants as replies
@@ -13,7 +13,7 @@ use Rattle.trace_command.specs.declared.refusal.Refusal.{Refusal}
 use Rattle.trace_command.specs.declared.refusal.Refusal.TheVariants.{Memory}
 use Rattle.trace_format.specs.Definitions.{Definition}
 use Rattle.trace_format.specs.declared.pair.Pair.{Pair}
-use Rattle.tracer_specification.specs.Settings.{declared_events, now_of, removed}
+use Rattle.tracer_specification.specs.Settings.{declared_events, now_of}
 use Rattle.error_log.specs.Errors.{ErrorSeen, begun}
 use Rattle.error_log.specs.Logs.{log_text}
 use Rattle.mount_tree.proofs.ThereLemmas.{found_there}
@@ -37,14 +37,14 @@ use Rattle.mount_stub_files.specs.WrongWords.{wrong_offset}
 use Rattle.mount_stub_files.specs.declared.write.ToolWrite.{ToolWrite}
 use Rattle.mount_stub_files.specs.declared.write.ToolWrite.TheVariants as writes
 use Rattle.mount_replies.specs.FileWrites.{begun_now, end_line, event_of_file, flush_file, flush_line, has_rest, inject, inject_at_once, inject_stream, noted_first_injection, release, release_line, switch_text, write_file, write_kind, write_other, write_text, write_tool}
-use Rattle.mount_replies.specs.Injections.{pairs_of_line}
+use Rattle.mount_replies.specs.Injections.{injection, pairs_of_line}
 use Rattle.mount_replies.specs.Lines.{asked_by_line, asked_by_pairs, command_lines, command_text, flushed, goes_on, has_newline, is_blank_line, line_command, lines_of, most_kept, noted_answer, noted_command, noted_if_first, noted_line, noted_refusal, one_command, pieces_of, released, stream_lines, too_long, without_newline}
 use Rattle.mount_replies.specs.Owed.{step_of_parked}
 use Rattle.mount_replies.specs.Pipes.{ends, is_dry, is_used_up}
-use Rattle.mount_replies.specs.Served.{AsksNone, AsksToWrite, Emptying, clears, emptying_of, forgotten_if_done, given_counted, given_records, given_tool, goes_on_in, handed_out, instance_path, is_cached, is_nonblocking, made_folder, make_folder, makes_text, opened, opened_file, opened_unless_emptied, poll_file, poll_kind, read_anew, read_dry, read_file, read_kind, read_log, read_new, read_pipe, read_pipe_directly, read_records, read_shown, read_text, read_tool, remove_folder, step_of, text_counted, unless_counted}
+use Rattle.mount_replies.specs.Served.{AsksNone, AsksToWrite, Emptying, clears, emptying_of, forgotten_if_done, given_counted, given_records, given_tool, goes_on_in, handed_out, instance_path, is_cached, is_nonblocking, made_folder, make_folder, makes_text, opened, opened_file, opened_unless_emptied, poll_file, poll_kind, read_anew, read_dry, read_file, read_kind, read_log, read_new, read_pipe, read_pipe_directly, read_records, read_shown, read_text, read_tool, records_for, remove_folder, step_of, text_counted, unless_counted}
 use Rattle.mount_replies.specs.Services.{OpenSeen, Service, Terms, count_of, file_at, just_opened, node_of, read_of_pipe, scene_of, with_dry_read, without_file}
 use Rattle.mount_replies.specs.Sizes.{Telling, count_text, counted_now, get_attributes, is_recent, set_attributes, size_by_kind, size_counted, size_of_text, tell_attributes, tell_entry, tell_size}
-use Rattle.mount_replies.specs.Steps.{Asking, AsksNothing, Asks, AsksLines, AsksNoting, Counts, Forgets, IsTooLong, Keeps, LineRefused, Notes, Noting, Outcome, Parks, Plain, Ran, Step, Takes, Tells, failed, plain}
+use Rattle.mount_replies.specs.Steps.{Asking, AsksNothing, Asks, AsksLines, AsksNoting, Counts, Forgets, IsTooLong, Keeps, LineRefused, Notes, Noting, Outcome, Parks, Plain, Ran, Step, Takes, Tells, failed, plain, read_of, write_of}
 use Rattle.mount_replies.specs.Told.{attributes_of, empties, found_in, known, may, sets_size, wants_read, wants_write}
 use Rattle.mount_replies.specs.declared.counted.Counted.{Counted}
 use Rattle.mount_replies.specs.declared.fault.LineFault.{LineFault}
@@ -54,9 +54,13 @@ use Rattle.mount_replies.proofs.RunLemmas.{AllAsk, OnlyAsks}
 
 -- ---- what a step asks, notes and counts
 
--- a request that takes no instance away
-abbrev pub LeavesAll : Request → Type 0
-LeavesAll request = removed request ≡ None
+-- what holds of each request that steps ask, but for the removal of an instance
+pub record IsOfEach (g : Terms) (P : Request → Type 0) : Type 0 where
+  pub whole : (scene : SceneSeen) (node : Node) → P (read_of scene node None)
+  pub some : (scene : SceneSeen) (node : Node) (size : ℕ) → P (read_of scene node (Some (records_for size)))
+  pub wrote : (scene : SceneSeen) (node : Node) (append : Bool) (text : List ℕ) → P (write_of scene node append text)
+  pub made : (path : List ℕ) → P (request_of (commands.Mkdir path))
+  pub injected : (pid : ℕ) (event : Definition) (pairs : List Pair) → P (injection (pid % g.config.cpus) event (pid % 2 ^ 31) pairs)
 
 abbrev pub NotesThere : SceneSeen → Noting → Type 0
 NotesThere scene Keeps = Unit {0}
@@ -69,14 +73,14 @@ pub record IsRemoval (scene : SceneSeen) (request : Request) (noting : Result An
   pub is : request ≡ request_of (commands.Rmdir (instance_path name))
   pub notes : noting ≡ forgotten_if_done (found_in scene name (Some (nodes.Folder Top folders.Instances)))
 
-abbrev pub IsOfThere : (Counted → Type 0) → SceneSeen → Step → Type 0
-IsOfThere C scene (Asks request outcome) = LeavesAll request
-IsOfThere C scene (AsksNoting request outcome noting) =
-    (LeavesAll request × ((answer : Result Answer Refusal) → NotesThere scene (noting answer))) ⊎ IsRemoval scene request noting
-IsOfThere C scene (Tells noting takes outcome) = NotesThere scene noting
-IsOfThere C scene (AsksLines lines outcome noting) = AllAsk LeavesAll lines × ((ran : Ran) → NotesThere scene (noting ran))
-IsOfThere C scene (Counts count outcome) = C count
-IsOfThere C scene _ = Unit {0}
+abbrev pub IsOfThere : (Request → Type 0) → (Counted → Type 0) → SceneSeen → Step → Type 0
+IsOfThere P C scene (Asks request outcome) = P request
+IsOfThere P C scene (AsksNoting request outcome noting) =
+    (P request × ((answer : Result Answer Refusal) → NotesThere scene (noting answer))) ⊎ IsRemoval scene request noting
+IsOfThere P C scene (Tells noting takes outcome) = NotesThere scene noting
+IsOfThere P C scene (AsksLines lines outcome noting) = AllAsk P lines × ((ran : Ran) → NotesThere scene (noting ran))
+IsOfThere P C scene (Counts count outcome) = C count
+IsOfThere P C scene _ = Unit {0}
 
 if-either : (P : Step → Type 0) (b : Bool) (one other : Step) → (b ≡ true → P one) → (b ≡ false → P other) → P (if b then one else other)
 if-either P true one other first second = first refl
@@ -122,69 +126,70 @@ first-notes scene noting notes done (Some line) = by (done == 0)
 
 -- ---- what is asked for lines
 
-injected-leaves : (cpus pid : ℕ) (event : Definition) (line : List ℕ) → OnlyAsks LeavesAll (asked_by_line cpus pid event line)
-injected-leaves cpus pid event line = by (is_blank_line line) (pairs_of_line line)
+injected-asks : (g : Terms) (P : Request → Type 0) → IsOfEach g P → (pid : ℕ) (event : Definition) (line : List ℕ)
+    → OnlyAsks P (asked_by_line g.config.cpus pid event line)
+injected-asks g P each pid event line = by (is_blank_line line) (pairs_of_line line)
   where
-    by : (blank : Bool) (pairs : Option (List Pair)) → OnlyAsks LeavesAll (if blank then AsksNothing else asked_by_pairs cpus pid event pairs)
+    by : (blank : Bool) (pairs : Option (List Pair)) → OnlyAsks P (if blank then AsksNothing else asked_by_pairs g.config.cpus pid event pairs)
     by true pairs = tt
     by false None = tt
-    by false (Some pairs) = refl
+    by false (Some pairs) = each.injected pid event pairs
 
-too-long-leaves : (size : ℕ) (rest : List ℕ) → AllAsk LeavesAll (too_long size rest)
-too-long-leaves size rest = by (nat_lt most_kept (length rest))
+too-long-asks : (P : Request → Type 0) (size : ℕ) (rest : List ℕ) → AllAsk P (too_long size rest)
+too-long-asks P size rest = by (nat_lt most_kept (length rest))
   where
-    by : (long : Bool) → AllAsk LeavesAll (if long then record { text = rest; asking = IsTooLong; end = size } ∷ [] else [])
+    by : (long : Bool) → AllAsk P (if long then record { text = rest; asking = IsTooLong; end = size } ∷ [] else [])
     by true = (tt, tt)
     by false = tt
 
-stream-leaves : (asking : List ℕ → Asking) → ((line : List ℕ) → OnlyAsks LeavesAll (asking line)) → (kept size start : ℕ) (pieces : List (List ℕ))
-    → AllAsk LeavesAll (stream_lines asking kept size start pieces)
+stream-asks : (P : Request → Type 0) (asking : List ℕ → Asking) → ((line : List ℕ) → OnlyAsks P (asking line)) → (kept size start : ℕ) (pieces : List (List ℕ))
+    → AllAsk P (stream_lines asking kept size start pieces)
 unfolding stream_lines
-stream-leaves asking leaves kept size start [] = tt
-stream-leaves asking leaves kept size start (rest ∷ []) = too-long-leaves size rest
-stream-leaves asking leaves kept size start (line ∷ next ∷ more) =
-    (leaves line, stream-leaves asking leaves kept size (start + length line + 1) (next ∷ more))
+stream-asks P asking asks kept size start [] = tt
+stream-asks P asking asks kept size start (rest ∷ []) = too-long-asks P size rest
+stream-asks P asking asks kept size start (line ∷ next ∷ more) =
+    (asks line, stream-asks P asking asks kept size (start + length line + 1) (next ∷ more))
 
-commands-leave : (asking : Bool → List ℕ → Asking) → ((append : Bool) (line : List ℕ) → OnlyAsks LeavesAll (asking append line))
-    → (append : Bool) (size start : ℕ) (pieces : List (List ℕ)) → AllAsk LeavesAll (command_lines asking append size start pieces)
+commands-ask : (P : Request → Type 0) (asking : Bool → List ℕ → Asking) → ((append : Bool) (line : List ℕ) → OnlyAsks P (asking append line))
+    → (append : Bool) (size start : ℕ) (pieces : List (List ℕ)) → AllAsk P (command_lines asking append size start pieces)
 unfolding command_lines
-commands-leave asking leaves append size start [] = tt
-commands-leave asking leaves append size start (line ∷ []) = by (is_blank_line line)
+commands-ask P asking asks append size start [] = tt
+commands-ask P asking asks append size start (line ∷ []) = by (is_blank_line line)
   where
-    by : (blank : Bool) → AllAsk LeavesAll (if blank then [] else one_command asking append size line)
+    by : (blank : Bool) → AllAsk P (if blank then [] else one_command asking append size line)
     by true = tt
-    by false = (leaves append line, tt)
-commands-leave asking leaves append size start (line ∷ next ∷ more) =
-    by (is_blank_line line) (commands-leave asking leaves append size (start + length line + 1) (next ∷ more))
-    (commands-leave asking leaves true size (start + length line + 1) (next ∷ more))
+    by false = (asks append line, tt)
+commands-ask P asking asks append size start (line ∷ next ∷ more) =
+    by (is_blank_line line) (commands-ask P asking asks append size (start + length line + 1) (next ∷ more))
+    (commands-ask P asking asks true size (start + length line + 1) (next ∷ more))
   where
-    by : (blank : Bool) → AllAsk LeavesAll (command_lines asking append size (start + length line + 1) (next ∷ more))
-        → AllAsk LeavesAll (command_lines asking true size (start + length line + 1) (next ∷ more))
-        → AllAsk LeavesAll (if blank then command_lines asking append size (start + length line + 1) (next ∷ more)
+    by : (blank : Bool) → AllAsk P (command_lines asking append size (start + length line + 1) (next ∷ more))
+        → AllAsk P (command_lines asking true size (start + length line + 1) (next ∷ more))
+        → AllAsk P (if blank then command_lines asking append size (start + length line + 1) (next ∷ more)
         else record { text = line; asking = asking append line; end = start + length line + 1 }
         ∷ command_lines asking true size (start + length line + 1) (next ∷ more))
     by true skipped done = skipped
-    by false skipped done = (leaves append line, done)
+    by false skipped done = (asks append line, done)
 
-lines-leave : (asking : Bool → List ℕ → Asking) → ((append : Bool) (line : List ℕ) → OnlyAsks LeavesAll (asking append line))
-    → (file : File) (append : Bool) (bytes : List ℕ) → AllAsk LeavesAll (lines_of asking file append bytes)
-lines-leave asking leaves file append bytes = by (takes_lines file && has_newline (without_newline bytes))
+lines-ask : (P : Request → Type 0) (asking : Bool → List ℕ → Asking) → ((append : Bool) (line : List ℕ) → OnlyAsks P (asking append line))
+    → (file : File) (append : Bool) (bytes : List ℕ) → AllAsk P (lines_of asking file append bytes)
+lines-ask P asking asks file append bytes = by (takes_lines file && has_newline (without_newline bytes))
   where
-    by : (several : Bool) → AllAsk LeavesAll (if several then command_lines asking append (length bytes) 0 (pieces_of bytes)
+    by : (several : Bool) → AllAsk P (if several then command_lines asking append (length bytes) 0 (pieces_of bytes)
         else one_command asking append (length bytes) (without_newline bytes))
-    by true = commands-leave asking leaves append (length bytes) 0 (pieces_of bytes)
-    by false = (leaves append (without_newline bytes), tt)
+    by true = commands-ask P asking asks append (length bytes) 0 (pieces_of bytes)
+    by false = (asks append (without_newline bytes), tt)
 
 -- ---- reads
 
-module _ (C : Counted → Type 0) (g : Terms) (s : Service) where
+module _ (P : Request → Type 0) (C : Counted → Type 0) (g : Terms) (s : Service) (each : IsOfEach g P) where
   abbrev Is : Step → Type 0
-  Is step = IsOfThere C (scene_of g s) step
+  Is step = IsOfThere P C (scene_of g s) step
 
   text-is : (read : Parked) (offset : ℕ) (file : OpenSeen) → Is (read_text (scene_of g s) read.handle offset read.size file s.files)
   text-is read offset file =
       if-either Is (makes_text offset file) (read_anew (scene_of g s) read.handle offset read.size (node_of file) s.files)
-      (goes_on_in read.handle offset read.size file s.files) (λ is. refl) (λ is. tt)
+      (goes_on_in read.handle offset read.size file s.files) (λ is. each.whole (scene_of g s) (node_of file)) (λ is. tt)
 
   given-is : (handle offset size : ℕ) (shown : Option (List ℕ)) → Is (given_tool handle offset size s.files shown)
   given-is handle offset size None = tt
@@ -213,7 +218,7 @@ module _ (C : Counted → Type 0) (g : Terms) (s : Service) where
   new-is : (read : Parked) (flags : ℕ) (file : OpenSeen) → Is (read_new g s read flags file)
   new-is read flags file =
       if-either Is (is_dry g s file.owner file.file) (read_dry read flags (ends g s file) s.files)
-      (read_records (scene_of g s) read.handle read.size (node_of file) s.files) (λ is. dry-is read flags (ends g s file)) (λ is. refl)
+      (read_records (scene_of g s) read.handle read.size (node_of file) s.files) (λ is. dry-is read flags (ends g s file)) (λ is. each.some (scene_of g s) (node_of file) read.size)
 
   pipe-is : (read : Parked) (flags : ℕ) (file : OpenSeen) → Is (read_pipe g s read flags file)
   pipe-is read flags file =
@@ -251,7 +256,7 @@ module _ (C : Counted → Type 0) (g : Terms) (s : Service) where
 
   write-text-is : (handle : ℕ) (file : OpenSeen) (bytes : List ℕ) → owner_is_there (scene_of g s) file.owner ≡ true → Is (write_text g s handle file bytes)
   write-text-is handle file bytes there = (
-    lines-leave (line_command (scene_of g s) (node_of file) file.file) (λ append line. refl) file.file (not file.starts_over) bytes,
+    lines-ask P (line_command (scene_of g s) (node_of file) file.file) (λ append line. each.wrote (scene_of g s) (node_of file) append (command_text file.file line)) file.file (not file.starts_over) bytes,
     λ ran. first-notes (scene_of g s) (noted_command (begun_now g s file) (path_of (scene_of g s) (node_of file)) file.file)
         (λ text fault. command-notes (scene_of g s) (begun_now g s file) (path_of (scene_of g s) (node_of file)) file.file text fault there) ran.done ran.refused,
   )
@@ -262,7 +267,7 @@ module _ (C : Counted → Type 0) (g : Terms) (s : Service) where
   tool-is handle file bytes writes.Wrong there = there
   tool-is handle file bytes writes.Same there = tt
   tool-is handle file bytes (writes.Switch switch on size) there =
-      inl (refl, answer-notes (scene_of g s) (begun_now g s file) (path_of (scene_of g s) (nodes.File file.owner switch)) (switch_text on) bytes (wrong_offset bytes) there)
+      inl (each.wrote (scene_of g s) (nodes.File file.owner switch) false (switch_text on), answer-notes (scene_of g s) (begun_now g s file) (path_of (scene_of g s) (nodes.File file.owner switch)) (switch_text on) bytes (wrong_offset bytes) there)
 
   other-is : (handle : ℕ) (file : OpenSeen) (bytes : List ℕ) (kind : FileKind) → owner_is_there (scene_of g s) file.owner ≡ true
       → Is (write_other g s handle file bytes kind)
@@ -286,10 +291,10 @@ module _ (C : Counted → Type 0) (g : Terms) (s : Service) where
   inject-is handle lock_owner pid bytes file (Some event) there =
       if-either Is (goes_on file.stream bytes) (inject_stream g s handle lock_owner pid bytes file event) (inject_at_once g s pid bytes file event)
       (λ is. (
-        stream-leaves (asked_by_line g.config.cpus pid event) (injected-leaves g.config.cpus pid event) (length file.stream.rest) (length bytes) 0
+        stream-asks P (asked_by_line g.config.cpus pid event) (injected-asks g P each pid event) (length file.stream.rest) (length bytes) 0
             (pieces_of (file.stream.rest ++ bytes)),
         λ ran. injection-notes file event there ran,
-      )) (λ is. ((injected-leaves g.config.cpus pid event bytes, tt), λ ran. injection-notes file event there ran))
+      )) (λ is. ((injected-asks g P each pid event bytes, tt), λ ran. injection-notes file event there ran))
 
   write-kind-is : (handle lock_owner pid : ℕ) (bytes : List ℕ) (own : OpenSeen) (file : File) → owner_is_there (scene_of g s) own.owner ≡ true
       → Is (write_kind g s handle lock_owner pid bytes own file)
@@ -317,7 +322,7 @@ module _ (C : Counted → Type 0) (g : Terms) (s : Service) where
   end-is : (file : OpenSeen) (outcome : Option LineRefused → Outcome) (event : Definition) → owner_is_there (scene_of g s) file.owner ≡ true
       → Is (end_line g s file outcome event)
   end-is file outcome event there =
-      ((injected-leaves g.config.cpus file.stream.pid event file.stream.rest, tt), λ ran. injection-notes file event there ran)
+      ((injected-asks g P each file.stream.pid event file.stream.rest, tt), λ ran. injection-notes file event there ran)
 
   flush-line-is : (handle : ℕ) (file : OpenSeen) (event : Option Definition)
       → ((is : Definition) → event ≡ Some is → owner_is_there (scene_of g s) file.owner ≡ true) → Is (flush_line g s handle file event)
@@ -356,7 +361,7 @@ module _ (C : Counted → Type 0) (g : Terms) (s : Service) where
   emptied-is now flags file AsksNone there =
       if-either Is (clears file.file flags) (Tells (Forgets file.owner) true (handed_out file s.files)) (Takes (handed_out file s.files)) (λ is. tt) (λ is. tt)
   emptied-is now flags file (AsksToWrite asked text) there =
-      inl (refl, answer-notes (scene_of g s) (begun file.owner now (path_of (scene_of g s) (node_of file))) (path_of (scene_of g s) (nodes.File file.owner asked)) text [] 0 there)
+      inl (each.wrote (scene_of g s) (nodes.File file.owner asked) false text, answer-notes (scene_of g s) (begun file.owner now (path_of (scene_of g s) (node_of file))) (path_of (scene_of g s) (nodes.File file.owner asked)) text [] 0 there)
 
   open-is : (now flags : ℕ) (target : Option Node) → ((node : Node) → target ≡ Some node → is_there (scene_of g s) node ≡ true)
       → Is (opened (scene_of g s) now flags target s.files)
@@ -427,10 +432,7 @@ module _ (C : Counted → Type 0) (g : Terms) (s : Service) where
   made-is name (Some (nodes.Folder Top folders.Instances)) =
       if-either Is (nat_lt (scene_of g s).made most_made)
       (Asks (request_of (commands.Mkdir (instance_path name))) (made_folder g (scene_of g s).made s.files)) (failed ENOSPC s.files)
-      (λ is. made-none (instance_path name)) (λ is. tt)
-    where
-      made-none : (path : List ℕ) → removed (request_of (commands.Mkdir path)) ≡ None
-      made-none path = refl
+      (λ is. each.made (instance_path name)) (λ is. tt)
 
   removed-is : (name : List ℕ) (folder : Option Node) → Is (remove_folder (scene_of g s) name s.files folder)
   removed-is name None = tt

@@ -38,7 +38,7 @@ use Rattle.mount_tree.specs.declared.node.Node.TheVariants as nodes
 use Rattle.mount_tree.specs.declared.node.Owner.{Owner}
 use Rattle.mount_tree.specs.declared.node.Owner.TheVariants.{Top}
 use Rattle.mount_tree.specs.declared.scene.Event.{Event}
-use Rattle.mount_replies.proofs.AskedSteps.{IsOfThere, parked-is, step-is}
+use Rattle.mount_replies.proofs.AskedSteps.{IsOfEach, IsOfThere, parked-is, step-is}
 use Rattle.mount_replies.proofs.DoneLemmas.{exchange-done}
 use Rattle.mount_replies.proofs.PartLaws.{does-adds}
 use Rattle.mount_replies.proofs.RunLemmas.{Adds}
@@ -245,8 +245,21 @@ same-counted g before step reply after all does same =
 abbrev counted_of : Service → List Counted
 counted_of s = s.counted
 
+-- nothing is said of what is asked
+abbrev any_request : Request → Type 0
+any_request request = Unit {0}
+
+any-requests : (g : Terms) → IsOfEach g any_request
+any-requests g = record {
+  whole = λ scene node. tt;
+  some = λ scene node size. tt;
+  wrote = λ scene node append text. tt;
+  made = λ path. tt;
+  injected = λ pid event pairs. tt;
+}
+
 does-counted : (g : Terms) (before : Service) (step : Step) (reply : Option Reply) (after : Service)
-    → IsOfThere (IsCounted g before.past) (scene_after g.config.cpus before.past) step → HasCounted g before → Does g before step reply after → HasCounted g after
+    → IsOfThere any_request (IsCounted g before.past) (scene_after g.config.cpus before.past) step → HasCounted g before → Does g before step reply after → HasCounted g after
 does-counted g before (Plain outcome) reply after of all does =
     same-counted g before (Plain outcome) reply after all does (ap counted_of does.1)
 does-counted g before (Takes outcome) reply after of all (inl does) = subst (HasCounted g) (sym does.1) all
@@ -271,14 +284,14 @@ owed-counted : (g : Terms) (before : Service) (what : Option Owed) (bytes : List
 owed-counted g before None bytes after all told = absurd told
 owed-counted g before (Some (ReplyAt index)) bytes after all told =
     does-counted g (without_read index before) (step_of_parked g before told.read) (Some told.reply) after
-    (parked-is (IsCounted g before.past) g before told.read) all told.does
+    (parked-is any_request (IsCounted g before.past) g before (any-requests g) told.read) all told.does
 owed-counted g before (Some (WakeupAt handle)) bytes after all told = subst (HasCounted g) (sym told.now) all
 
 served-counted : (g : Terms) (before : Service) (asked bytes : List ℕ) (after : Service) → IsInRange g.config → WasDone g before.past → HasCounted g before
     → AreServed g before asked bytes after → HasCounted g after
 served-counted g before asked bytes after ranges was all (Right request is served) =
     does-counted g before (step_of g before request.unique request.pid served.node request.operation) served.reply after
-    (step-is (IsCounted g before.past) g before (now-counted g before ranges was) request.unique request.pid served.node request.operation) all served.does
+    (step-is any_request (IsCounted g before.past) g before (any-requests g) (now-counted g before ranges was) request.unique request.pid served.node request.operation) all served.does
 served-counted g before asked bytes after ranges was all (Wrong opcode unique framed none told same) = subst (HasCounted g) (sym same) all
 served-counted g before asked bytes after ranges was all (Unframed none told same) = subst (HasCounted g) (sym same) all
 
@@ -345,7 +358,7 @@ module _ (g : Terms) (before after : Service) (unique : ℕ) (bytes : List ℕ) 
       counted-told all there (ap is_log at) (count_of (number_of (nodes.File owner file)) before.counted) refl does
 
 -- a number names one node
-named-same : (number : ℕ) (found : Option Node) (node : Node) → IsNamed number found → IsNamed number (Some node) → found ≡ Some node
+pub named-same : (number : ℕ) (found : Option Node) (node : Node) → IsNamed number found → IsNamed number (Some node) → found ≡ Some node
 named-same number None node none named = absurd (none node named.0 named.1)
 named-same number (Some other) node one named = ap Some (same_number other node one.0 named.0 (one.1 ∙ sym named.1))
 

@@ -29,7 +29,7 @@ use Rattle.mount_tree.specs.declared.node.Node.TheVariants as nodes
 use Rattle.mount_tree.specs.declared.node.Owner.{Owner}
 use Rattle.mount_tree.specs.declared.node.Owner.TheVariants.{Top, Made}
 use Rattle.mount_tree.specs.declared.scene.Instance.{Instance}
-use Rattle.mount_replies.proofs.AskedSteps.{IsOfThere, LeavesAll, NotesThere, parked-is, step-is}
+use Rattle.mount_replies.proofs.AskedSteps.{IsOfEach, IsOfThere, NotesThere, parked-is, step-is}
 use Rattle.mount_replies.proofs.DoneLemmas.{exchange-done}
 use Rattle.mount_replies.proofs.RunLemmas.{lines-keep}
 use Rattle.mount_replies.specs.Mounted.{AreServed, Does, IsExchanged, Right, Serves, TellsOwed, Unframed, Wrong, past_after}
@@ -93,6 +93,10 @@ AreOwned g past errors = All (λ (e : ErrorSeen). IsOwned g past e.owner) errors
 first-some : (one other : Option Instance) → is_some one ≡ true → is_some (option_or one other) ≡ true
 first-some None other some = absurd (false≢true some)
 first-some (Some i) other some = refl
+
+-- a request that takes no instance away
+abbrev LeavesAll : Request → Type 0
+LeavesAll request = removed request ≡ None
 
 one-stays : (g : Terms) (past : List Request) (request : Request) (owner : Owner) → LeavesAll request → IsOwned g past owner → IsOwned g (request ∷ past) owner
 one-stays g past request Top leaves there = refl
@@ -238,11 +242,20 @@ removal-owned g past name errors was all = by (instance_of (instance_path name))
 abbrev Owned : Terms → Service → Type 0
 Owned g s = AreOwned g s.past s.errors
 
+all-leave : (g : Terms) → IsOfEach g LeavesAll
+all-leave g = record {
+  whole = λ scene node. refl;
+  some = λ scene node size. refl;
+  wrote = λ scene node append text. refl;
+  made = λ path. refl;
+  injected = λ pid event pairs. refl;
+}
+
 abbrev any_count : Counted → Type 0
 any_count count = Unit {0}
 
 does-owned : (g : Terms) (before : Service) (step : Step) (reply : Option Reply) (after : Service) → WasDone g before.past
-    → IsOfThere any_count (scene_after g.config.cpus before.past) step → Owned g before → Does g before step reply after → Owned g after
+    → IsOfThere LeavesAll any_count (scene_after g.config.cpus before.past) step → Owned g before → Does g before step reply after → Owned g after
 does-owned g before (Plain outcome) reply after was of all does = subst (Owned g) (sym does.1) all
 does-owned g before (Takes outcome) reply after was of all (inl does) = subst (Owned g) (sym does.1) all
 does-owned g before (Takes outcome) reply after was of all (inr does) = subst (Owned g) (sym does.1) all
@@ -281,14 +294,14 @@ owed-owned : (g : Terms) (before : Service) (what : Option Owed) (bytes : List �
     → TellsOwed g before what bytes after → Owned g after
 owed-owned g before None bytes after was all told = absurd told
 owed-owned g before (Some (ReplyAt index)) bytes after was all told =
-    does-owned g (without_read index before) (step_of_parked g before told.read) (Some told.reply) after was (parked-is any_count g before told.read) all told.does
+    does-owned g (without_read index before) (step_of_parked g before told.read) (Some told.reply) after was (parked-is LeavesAll any_count g before (all-leave g) told.read) all told.does
 owed-owned g before (Some (WakeupAt handle)) bytes after was all told = subst (Owned g) (sym told.now) all
 
 served-owned : (g : Terms) (before : Service) (asked bytes : List ℕ) (after : Service) → WasDone g before.past → Owned g before
     → AreServed g before asked bytes after → Owned g after
 served-owned g before asked bytes after was all (Right request is served) =
     does-owned g before (step_of g before request.unique request.pid served.node request.operation) served.reply after was
-    (step-is any_count g before (λ owner file there. tt) request.unique request.pid served.node request.operation) all served.does
+    (step-is LeavesAll any_count g before (all-leave g) (λ owner file there. tt) request.unique request.pid served.node request.operation) all served.does
 served-owned g before asked bytes after was all (Wrong opcode unique framed none told same) = subst (Owned g) (sym same) all
 served-owned g before asked bytes after was all (Unframed none told same) = subst (Owned g) (sym same) all
 

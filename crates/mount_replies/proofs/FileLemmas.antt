@@ -47,7 +47,7 @@ none-set p (first ∷ files) (suc handle) slot none is =
     let more : list_any p (set files handle slot) ≡ false = none-set p files handle slot rest is in
     grind (arith, none, more)
 
-none-more : (p : Option OpenSeen → Bool) (files : List (Option OpenSeen)) (slot : Option OpenSeen) → list_any p files ≡ false → p slot ≡ false
+pub none-more : (p : Option OpenSeen → Bool) (files : List (Option OpenSeen)) (slot : Option OpenSeen) → list_any p files ≡ false → p slot ≡ false
     → list_any p (files ++ slot ∷ []) ≡ false
 none-more p [] slot none is = rw is refl
 none-more p (first ∷ files) slot none is =

@@ -28,13 +28,17 @@ pub mod SizeLemmas
 pub mod RunLemmas
 pub mod AskedSteps
 pub mod ErrorOwners
+pub mod FittingPasts
 pub mod CountedLemmas
 pub mod KeptTexts
 pub mod OtherSteps
 pub mod ArmedLemmas
 pub mod ToolReads
 pub mod ServedErrors
+pub mod KeptLines
+pub mod FirstLines
 pub mod NotedWrites
+pub mod RefusedNoted
 pub mod ComputedSteps
 pub mod ServedTurns
 pub mod WorkedSession

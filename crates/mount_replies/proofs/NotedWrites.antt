@@ -1,6 +1,6 @@
 -- What is noted is a write that was refused, and whose refusal was told.
-use Rattle.std.proofs.Common.{◌≡◌, inl, inr, ℕ, ◌==◌, nat_lt, Bool, true, false, not, ◌&&◌, if◌then◌else◌, List, [], ◌∷◌, length, Option, Some, None, unwrap_or, Result, Ok, Err, refl, sym, ap, subst, ◌∙◌, slice_get, add-one, ◌⊎◌, ◌+◌}
-use Rattle.std.proofs.Math.Dec.{eqb-suc-zero}
+use Rattle.std.proofs.Common.{◌≡◌, inl, inr, ℕ, ◌==◌, nat_lt, Bool, true, false, not, ◌&&◌, if◌then◌else◌, List, [], ◌∷◌, length, Option, Some, None, unwrap_or, Result, Ok, Err, refl, sym, ap, subst, ◌∙◌, slice_get, ◌⊎◌, ◌++◌, ◌%◌, ◌^◌, append-nil}
+use Rattle.std.specs.List.{before_first}
 use Rattle.fuse_wire.specs.declared.errno.Errno.{Errno}
 use Rattle.fuse_wire.specs.declared.errno.Errno.TheVariants.{EACCES, EINVAL, ENOENT, ENOSPC}
 use Rattle.fuse_wire.specs.declared.reply.Reply.{Reply}
@@ -15,10 +15,11 @@ use Rattle.trace_command.specs.declared.command.Reply.{Reply as Answer}
 use Rattle.trace_command.specs.declared.refusal.Refusal.{Refusal}
 use Rattle.trace_command.specs.declared.refusal.Refusal.TheVariants.{Memory}
 use Rattle.trace_format.specs.Definitions.{Definition}
+use Rattle.trace_format.specs.declared.pair.Pair.{Pair}
 use Rattle.tracer_specification.specs.Settings.{declared_events, now_of}
 use Rattle.error_log.proofs.LineLemmas.{caret_stands_under}
 use Rattle.error_log.specs.Errors.{ErrorSeen, refused}
-use Rattle.mount_tree.specs.FileKinds.{access_of_file, kind_of_file, takes_lines}
+use Rattle.mount_tree.specs.FileKinds.{access_of_file, kind_of_file}
 use Rattle.mount_tree.specs.Children.{is_there}
 use Rattle.mount_tree.specs.NodePaths.{path_of}
 use Rattle.mount_tree.specs.Nodes.{number_of}
@@ -36,14 +37,17 @@ use Rattle.mount_stub_files.specs.ToolWrites.{tool_write}
 use Rattle.mount_stub_files.specs.declared.write.ToolWrite.{ToolWrite}
 use Rattle.mount_stub_files.specs.declared.write.ToolWrite.TheVariants as writes
 use Rattle.mount_replies.proofs.AnsweredOnce.{IsReadStep, parked-step, read-step}
+use Rattle.mount_replies.proofs.FirstLines.{EndLater, FirstStops, IsStreamRefused, NoneIsTooLong, all-first, first-refused, lines-end, once-refused, stream-ends, stream-refused}
+use Rattle.mount_replies.proofs.KeptLines.{KeepsLine, NoneKeepsMore, kept-line, neither, none-keeps-more}
 use Rattle.mount_replies.proofs.KeptTexts.{either}
 use Rattle.mount_replies.specs.Errnos.{errno_of}
-use Rattle.mount_replies.specs.FileWrites.{begun_now, end_line, event_of_file, flush_file, flush_line, has_rest, inject, inject_at_once, inject_stream, release, release_line, write_file, write_kind, write_other, write_switch, write_text, write_tool}
-use Rattle.mount_replies.specs.Lines.{errno_of_fault, flushed, command_lines, goes_on, has_newline, injected, injected_at_once, is_blank_line, is_memory, line_command, lines_of, noted_command, noted_if_first, noted_line, one_command, pieces_of, released, stream_after, without_newline, written, written_lines}
-use Rattle.mount_replies.specs.Mounted.{AreServed, Does, IsAnswered, IsLineRun, IsRun, MayRun, Right, TellsOwed, Unframed, Wrong, bytes_of_reply, past_after}
+use Rattle.mount_replies.specs.FileWrites.{begun_now, end_line, event_of_file, flush_file, flush_line, has_rest, inject, inject_at_once, inject_stream, noted_first_injection, release, release_line, write_file, write_kind, write_other, write_switch, write_text, write_tool}
+use Rattle.mount_replies.specs.Injections.{injection, pairs_of_line}
+use Rattle.mount_replies.specs.Lines.{asked_by_line, asked_by_pairs, errno_of_fault, flushed, goes_on, has_newline, injected, injected_at_once, is_blank_line, is_memory, is_newline, line_at_once, line_command, noted_command, noted_if_first, noted_line, pieces_of, released, stream_after, stream_lines, written, written_lines}
+use Rattle.mount_replies.specs.Mounted.{AreServed, Does, IsAnswered, MayRun, Right, TellsOwed, Unframed, Wrong, bytes_of_reply, past_after}
 use Rattle.mount_replies.specs.Owed.{Owed, ReplyAt, WakeupAt, owed, step_of_parked}
 use Rattle.mount_replies.specs.Served.{AsksNone, AsksToWrite, Emptying, clears, emptied, emptying_of, forgotten, forgotten_if_done, handed_out, instance_path, is_cached, make_folder, made_folder, opened, opened_file, opened_unless_emptied, poll_file, poll_kind, remove_folder, removed_folder, step_of}
-use Rattle.mount_replies.specs.ServedErrors.{EndsLines, IsBlamed, IsFileOf, IsFirstRefused, IsNoted, IsRefusedWrite, NotedWritesWereRefused, OfCommand, OfEvent, OfLongLine, OfNothing, OfSwitch, OfWord, Opens, Writes, event_injected, noting_asked, noting_by, noting_told}
+use Rattle.mount_replies.specs.ServedErrors.{EndsLines, IsBlamed, IsFileOf, IsFirstRefused, IsNoted, IsRefusedWrite, NotedWritesWereRefused, OfCommand, OfEvent, OfLongLine, OfNothing, OfSwitch, OfWord, Opens, Writes, bytes_written, event_injected, first_not_done, not_done, noting_asked, noting_by, noting_told, writer_of}
 use Rattle.mount_replies.specs.Services.{OpenSeen, Service, Terms, count_of, drop_rest, file_at, just_opened, node_of, read_of_pipe, scene_of, with_stream, with_write, without_file, without_read, without_rest}
 use Rattle.mount_replies.specs.Sizes.{Telling, count_text, is_recent, set_attributes, get_attributes, size_by_kind, size_counted, size_of_text, tell_attributes, tell_entry, tell_size}
 use Rattle.mount_replies.specs.Steps.{Asking, Asks, AsksFor, AsksLines, AsksNothing, AsksNoting, Counts, Forgets, Interrupts, IsTooLong, IsWrongLine, Keeps, LineAsked, LineRefused, Notes, Noting, Outcome, Parks, Plain, Ran, Step, Takes, Tells, failed, plain, told}
@@ -53,116 +57,41 @@ use Rattle.mount_replies.specs.declared.fault.LineFault.{LineFault}
 use Rattle.mount_replies.specs.declared.fault.LineFault.TheVariants.{NoCommand, Refused, TooLong}
 use Rattle.mount_replies.specs.declared.stream.Stream.{Stream}
 
--- ---- where the first line is refused
-
--- each line but the last ends after a byte
-abbrev EndLater : List LineAsked → Type 0
-EndLater [] = Unit
-EndLater (line ∷ lines) = (((line.end == 0) ≡ false) ⊎ (lines ≡ [])) × EndLater lines
-
-none-after : {A : Type 0} (past : List Request) (done : ℕ) (ran : Ran) (line : LineRefused) → ran ≡ record { past = past; done = done; refused = None }
-    → ran.refused ≡ Some line → A
-none-after past done ran line is refused = absurd (let no : None ≡ Some line = sym (ap (λ (r : Ran). r.refused) is) ∙ refused in cc)
-
--- lines that follow others are not the first
-some-were-done : (g : Terms) (past : List Request) (done : ℕ) (lines : List LineAsked) (ran : Ran) (line : LineRefused) → EndLater lines → IsRun g past done lines ran
-    → ran.refused ≡ Some line → ((done == 0) ≡ false) ⊎ (lines ≡ []) → (ran.done == 0) ≡ false
-some-were-done g past done [] ran line ends runs refused later = none-after past done ran line runs refused
-some-were-done g past done (first ∷ lines) ran line ends runs refused (inr none) = absurd (let no : first ∷ lines ≡ [] = none in cc)
-some-were-done g past done (first ∷ lines) ran line ends runs refused (inl some) =
-    by first.asking (λ now run. some-were-done g now first.end lines ran line ends.1 run refused ends.0) runs
-  where
-    stops : (now : List Request) (text : List ℕ) (fault : LineFault) → ran ≡ record { past = now; done = done; refused = Some (record { text = text; fault = fault }) }
-        → (ran.done == 0) ≡ false
-    stops now text fault is = ap (λ (r : Ran). r.done == 0) is ∙ some
-
-    by : (asking : Asking) → ((now : List Request) → IsRun g now first.end lines ran → (ran.done == 0) ≡ false)
-        → IsLineRun g past done first.text (λ (now : List Request). IsRun g now first.end lines ran) ran asking → (ran.done == 0) ≡ false
-    by AsksNothing more run = more past run
-    by IsWrongLine more (inl is) = stops past first.text NoCommand is
-    by IsWrongLine more (inr is) = stops past first.text (Refused Memory) is
-    by IsTooLong more (inl is) = stops past first.text TooLong is
-    by IsTooLong more (inr is) = stops past first.text (Refused Memory) is
-    by (AsksFor request) more (Ok answer, answered, run) = more (request ∷ past) run
-    by (AsksFor request) more (Err refusal, answered, is) = stops past first.text (Refused refusal) is
-
--- where no byte is done, no command is, and the first line is refused
-abbrev FirstStops : Terms → List Request → List LineAsked → List ℕ → LineFault → Type 0
-FirstStops g past lines text (Refused refusal) = (refusal ≡ Memory) ⊎ IsFirstRefused g past lines text refusal
-FirstStops g past lines text fault = Unit
-
-refused-first : (g : Terms) (past : List Request) (first : LineAsked) (lines : List LineAsked) (command : Request) (refusal : Refusal) → first.asking ≡ AsksFor command
-    → IsAnswered g past command (Err refusal) → (refusal ≡ Memory) ⊎ IsFirstRefused g past (first ∷ lines) first.text refusal
-refused-first g past first lines command Memory asks answered = inl refl
-refused-first g past first lines command refusal asks answered = inr (record {
-  first = first;
-  more = lines;
-  lines_are = refl;
-  text_is = refl;
-  command = command;
-  asks = asks;
-  refused = answered (λ same. absurd (cc));
-})
-
-stops-so : (g : Terms) (past : List Request) (lines : List LineAsked) (ran : Ran) (line : LineRefused) (text : List ℕ) (fault : LineFault)
-    → ran ≡ record { past = past; done = 0; refused = Some (record { text = text; fault = fault }) } → ran.refused ≡ Some line → FirstStops g past lines text fault
-    → (ran.past ≡ past) × FirstStops g past lines line.text line.fault
-stops-so g past lines ran line text fault is refused stops =
-    let same : record { text = text; fault = fault } ≡ line =
-    ap (λ (o : Option LineRefused). unwrap_or o line) (sym (ap (λ (r : Ran). r.refused) is) ∙ refused) in
-    (ap (λ (r : Ran). r.past) is, subst (λ (l : LineRefused). FirstStops g past lines l.text l.fault) same stops)
-
-first-refused : (g : Terms) (past : List Request) (lines : List LineAsked) (ran : Ran) (line : LineRefused) → EndLater lines → MayRun g past lines ran
-    → ran.refused ≡ Some line → (ran.done == 0) ≡ true → (ran.past ≡ past) × FirstStops g past lines line.text line.fault
-first-refused g past lines ran line ends (inr is) refused none = stops-so g past lines ran line [] (Refused Memory) is refused (inl refl)
-first-refused g past [] ran line ends (inl runs) refused none = none-after past 0 ran line runs refused
-first-refused g past (first ∷ lines) ran line ends (inl runs) refused none = by first.asking refl runs
-  where
-    more : (now : List Request) → IsRun g now first.end lines ran → (ran.past ≡ past) × FirstStops g past (first ∷ lines) line.text line.fault
-    more now run = absurd (let no : true ≡ false = sym none ∙ some-were-done g now first.end lines ran line ends.1 run refused ends.0 in cc)
-
-    by : (asking : Asking) → first.asking ≡ asking → IsLineRun g past 0 first.text (λ (now : List Request). IsRun g now first.end lines ran) ran asking
-        → (ran.past ≡ past) × FirstStops g past (first ∷ lines) line.text line.fault
-    by AsksNothing is run = more past run
-    by IsWrongLine is (inl stopped) = stops-so g past (first ∷ lines) ran line first.text NoCommand stopped refused tt
-    by IsWrongLine is (inr stopped) = stops-so g past (first ∷ lines) ran line first.text (Refused Memory) stopped refused (inl refl)
-    by IsTooLong is (inl stopped) = stops-so g past (first ∷ lines) ran line first.text TooLong stopped refused tt
-    by IsTooLong is (inr stopped) = stops-so g past (first ∷ lines) ran line first.text (Refused Memory) stopped refused (inl refl)
-    by (AsksFor request) is (Ok answer, answered, run) = more (request ∷ past) run
-    by (AsksFor request) is (Err refusal, answered, stopped) =
-        stops-so g past (first ∷ lines) ran line first.text (Refused refusal) stopped refused (refused-first g past first lines request refusal is answered)
-
-commands-end : (asking : Bool → List ℕ → Asking) (append : Bool) (size start : ℕ) (pieces : List (List ℕ)) → EndLater (command_lines asking append size start pieces)
-unfolding command_lines
-commands-end asking append size start [] = tt
-commands-end asking append size start (line ∷ []) =
-    either EndLater (is_blank_line line) [] (one_command asking append size line) tt (inr refl, tt)
-commands-end asking append size start (line ∷ next ∷ more) =
-    either EndLater (is_blank_line line) (command_lines asking append size (start + length line + 1) (next ∷ more))
-    (record { text = line; asking = asking append line; end = start + length line + 1 } ∷ command_lines asking true size (start + length line + 1) (next ∷ more))
-    (commands-end asking append size (start + length line + 1) (next ∷ more))
-    (inl (rw add-one (eqb-suc-zero (start + length line))), commands-end asking true size (start + length line + 1) (next ∷ more))
-
-lines-end : (asking : Bool → List ℕ → Asking) (file : File) (append : Bool) (bytes : List ℕ) → EndLater (lines_of asking file append bytes)
-lines-end asking file append bytes =
-    either EndLater (takes_lines file && has_newline (without_newline bytes)) (command_lines asking append (length bytes) 0 (pieces_of bytes))
-    (one_command asking append (length bytes) (without_newline bytes)) (commands-end asking append (length bytes) 0 (pieces_of bytes)) (inr refl, tt)
+-- ---- what a request writes
 
 writes-end : (operation : Operation) (text : List ℕ) → Writes operation text → EndsLines operation
 writes-end (operations.Write handle offset lock_owner bytes) text written = tt
 writes-end _ text written = absurd written
 
+writes-are : (operation : Operation) (text : List ℕ) → Writes operation text → bytes_written operation ≡ text
+writes-are (operations.Write handle offset lock_owner bytes) text written = written
+writes-are _ text written = absurd written
+
+writes-whose : (operation : Operation) (text : List ℕ) (file : OpenSeen) (pid : ℕ) → Writes operation text → writer_of file operation pid ≡ pid
+writes-whose (operations.Write handle offset lock_owner bytes) text file pid written = refl
+writes-whose _ text file pid written = absurd written
+
+-- a line that has ended is not too long
+none-too-long : (cpus pid : ℕ) (event : Definition) → NoneIsTooLong (asked_by_line cpus pid event)
+none-too-long cpus pid event line is = by (is_blank_line line) (pairs_of_line line) is
+  where
+    by : (blank : Bool) (pairs : Option (List Pair)) → (if blank then AsksNothing else asked_by_pairs cpus pid event pairs) ≡ IsTooLong → ⊥
+    by true pairs h = absurd (let no : AsksNothing ≡ IsTooLong = h in cc)
+    by false None h = absurd (let no : IsWrongLine ≡ IsTooLong = h in cc)
+    by false (Some pairs) h = absurd (let no : AsksFor (injection (pid % cpus) event (pid % 2 ^ 31) pairs) ≡ IsTooLong = h in cc)
+
 -- ---- what is noted with a reply
 
 -- F says of which file
-module _ (g : Terms) (s : Service) (operation : Operation) (F : OpenSeen → Type 0) where
-  -- a write to such a file that was refused, and told so
+module _ (g : Terms) (s : Service) (pid : ℕ) (operation : Operation) (F : OpenSeen → Type 0) where
+  -- a write to such a file that was refused, and told so; no command was done
   record IsWell (past : List Request) (error : ErrorSeen) (reply : Option Reply) : Type 0 where
     file : OpenSeen
     by : F file
     errno : Errno
-    write : IsRefusedWrite g s operation past file errno error
+    write : IsRefusedWrite g s pid operation file errno error
     told : reply ≡ Some (replies.Error errno)
+    undone : past ≡ s.past
 
   abbrev NotesWell : List Request → Noting → Option Reply → Type 0
   NotesWell past Keeps reply = Unit {0}
@@ -214,22 +143,22 @@ module _ (g : Terms) (s : Service) (operation : Operation) (F : OpenSeen → Typ
 
   -- ---- writes that are refused
 
-  -- such a write to this file, after these requests
-  refused-write : (past : List Request) (file : OpenSeen) (text sentence : List ℕ) (offset : ℕ) (errno : Errno) → IsBlamed g s operation file text offset errno
-      → IsRefusedWrite g s operation past file errno (refused (begun_now g (record s { past = past }) file) text sentence offset)
-  refused-write past file text sentence offset errno blamed = record {
+  -- such a write to this file
+  refused-write : (file : OpenSeen) (text sentence : List ℕ) (offset : ℕ) (errno : Errno) → IsBlamed g s pid operation file text offset errno
+      → IsRefusedWrite g s pid operation file errno (refused (begun_now g s file) text sentence offset)
+  refused-write file text sentence offset errno blamed = record {
     text = text;
     sentence = sentence;
     offset = offset;
     is = refl;
     blamed = blamed;
-    stands = caret_stands_under file.owner (now_of past) (path_of (scene_of g (record s { past = past })) (node_of file)) text sentence offset;
+    stands = caret_stands_under file.owner (now_of s.past) (path_of (scene_of g s) (node_of file)) text sentence offset;
   }
 
-  well : (past : List Request) (file : OpenSeen) (text sentence : List ℕ) (offset : ℕ) (errno : Errno) → F file → IsBlamed g s operation file text offset errno
-      → IsWell past (refused (begun_now g (record s { past = past }) file) text sentence offset) (Some (replies.Error errno))
-  well past file text sentence offset errno by blamed =
-      record { file = file; by = by; errno = errno; write = refused-write past file text sentence offset errno blamed; told = refl }
+  well : (file : OpenSeen) (text sentence : List ℕ) (offset : ℕ) (errno : Errno) → F file → IsBlamed g s pid operation file text offset errno
+      → IsWell s.past (refused (begun_now g s file) text sentence offset) (Some (replies.Error errno))
+  well file text sentence offset errno by blamed =
+      record { file = file; by = by; errno = errno; write = refused-write file text sentence offset errno blamed; told = refl; undone = refl }
 
   -- of a line of the tracer's own files
   command-notes : (file : OpenSeen) (own text : List ℕ) (fault : LineFault) → F file → Writes operation own
@@ -239,7 +168,7 @@ module _ (g : Terms) (s : Service) (operation : Operation) (F : OpenSeen → Typ
   command-notes file own text (Refused Memory) by written stops = tt
   command-notes file own text (Refused refusal) by written (inl memory) = absurd (cc)
   command-notes file own text (Refused refusal) by written (inr first) =
-      well s.past file text _ _ (errno_of refusal) by (OfCommand own refusal written first refl refl)
+      well file text _ _ (errno_of refusal) by (OfCommand own refusal written first refl refl)
   command-notes file own text NoCommand by written stops = tt
   command-notes file own text TooLong by written stops = tt
 
@@ -255,13 +184,37 @@ module _ (g : Terms) (s : Service) (operation : Operation) (F : OpenSeen → Typ
       by false none = absurd (let no : None ≡ Some event = none in cc)
   event-there file _ event is = absurd (let no : None ≡ Some event = is in cc)
 
-  -- and of one of `inject`
-  line-notes : (past : List Request) (file : OpenSeen) (event : Definition) (text : List ℕ) (fault : LineFault) → F file → Injects file event
+  -- and of one of `inject`, which is refused first of what was not done
+  abbrev Refuses : OpenSeen → Definition → List ℕ → LineFault → Type 0
+  Refuses file event text fault =
+      IsStreamRefused g s.past (asked_by_line g.config.cpus (writer_of file operation pid) event) (not_done file operation) text fault
+
+  own-notes : (file : OpenSeen) (event : Definition) (text : List ℕ) (fault : LineFault) → F file → Injects file event → Refuses file event text fault
+      → NotesWell s.past (noted_line event (begun_now g s file) text fault) (Some (replies.Error (errno_of_fault fault)))
+  own-notes file event text (Refused Memory) by ends own = tt
+  own-notes file event text (Refused refusal) by ends own =
+      well file text _ _ (errno_of refusal) by (OfEvent event (Refused refusal) ends.0 ends.1 own.0 own.1 refl refl)
+  own-notes file event text NoCommand by ends own = well file text _ _ EINVAL by (OfEvent event NoCommand ends.0 ends.1 own.0 own.1 refl refl)
+  own-notes file event text TooLong by ends own = well file text _ _ EINVAL by (OfLongLine ends.0 own.0 own.1 own.2 refl refl)
+
+  stops-notes : (file : OpenSeen) (event : Definition) (text : List ℕ) (fault : LineFault) → F file → Injects file event
+      → (fault ≡ Refused Memory) ⊎ Refuses file event text fault
+      → NotesWell s.past (noted_line event (begun_now g s file) text fault) (Some (replies.Error (errno_of_fault fault)))
+  stops-notes file event text fault by ends (inl memory) =
+      subst (λ (f : LineFault). NotesWell s.past (noted_line event (begun_now g s file) text f) (Some (replies.Error (errno_of_fault f)))) (sym memory) tt
+  stops-notes file event text fault by ends (inr own) = own-notes file event text fault by ends own
+
+  -- nothing was done before it
+  line-notes : (past : List Request) (file : OpenSeen) (event : Definition) (lines : List LineAsked) (text : List ℕ) (fault : LineFault) → F file → Injects file event
+      → (IsFirstRefused g s.past lines text fault → Refuses file event text fault) → (past ≡ s.past) × FirstStops g s.past lines text fault
       → NotesWell past (noted_line event (begun_now g (record s { past = past }) file) text fault) (Some (replies.Error (errno_of_fault fault)))
-  line-notes past file event text (Refused Memory) by ends = tt
-  line-notes past file event text (Refused refusal) by ends = well past file text _ _ (errno_of refusal) by (OfEvent event (Refused refusal) ends.0 ends.1 refl refl)
-  line-notes past file event text NoCommand by ends = well past file text _ _ EINVAL by (OfEvent event NoCommand ends.0 ends.1 refl refl)
-  line-notes past file event text TooLong by ends = well past file text _ _ EINVAL by (OfLongLine ends.0 refl refl)
+  line-notes past file event lines text fault by ends refuses (undone, stops) =
+      subst (λ (p : List Request). NotesWell p (noted_line event (begun_now g (record s { past = p }) file) text fault) (Some (replies.Error (errno_of_fault fault))))
+      (sym undone) (stops-notes file event text fault by ends (found stops))
+    where
+      found : FirstStops g s.past lines text fault → (fault ≡ Refused Memory) ⊎ Refuses file event text fault
+      found (inl memory) = inl memory
+      found (inr first) = inr (refuses first)
 
   -- the first line was not done
   first-notes : (past : List Request) (noting : List ℕ → LineFault → Noting) (done : ℕ) (line : LineRefused) (one other : Outcome)
@@ -276,12 +229,13 @@ module _ (g : Terms) (s : Service) (operation : Operation) (F : OpenSeen → Typ
 
   -- a line was not done, and is told so in any case
   any-notes : (past : List Request) (noting : List ℕ → LineFault → Noting) (done : ℕ) (line : LineRefused) (reply : Option Reply)
-      → NotesWell past (noting line.text line.fault) reply → NotesWell past (noted_if_first noting done (Some line)) reply
-  any-notes past noting done line reply notes = by (done == 0)
+      → ((done == 0) ≡ true → NotesWell past (noting line.text line.fault) reply) → NotesWell past (noted_if_first noting done (Some line)) reply
+  any-notes past noting done line reply notes = by (done == 0) notes
     where
-      by : (first : Bool) → NotesWell past (if first then noting line.text line.fault else Keeps) reply
-      by true = notes
-      by false = tt
+      by : (first : Bool) → (first ≡ true → NotesWell past (noting line.text line.fault) reply)
+          → NotesWell past (if first then noting line.text line.fault else Keeps) reply
+      by true notes = notes refl
+      by false notes = tt
 
   -- ---- WRITE
 
@@ -317,12 +271,12 @@ module _ (g : Terms) (s : Service) (operation : Operation) (F : OpenSeen → Typ
   switch-notes handle size file bytes switch on by written comes (Ok answer) answered = tt
   switch-notes handle size file bytes switch on by written comes (Err Memory) answered = tt
   switch-notes handle size file bytes switch on by written comes (Err refusal) answered =
-      well s.past file bytes _ _ (errno_of refusal) by (OfSwitch switch on size refusal written comes (answered (λ same. absurd (cc))) refl refl)
+      well file bytes _ _ (errno_of refusal) by (OfSwitch switch on size refusal written comes (answered (λ same. absurd (cc))) refl refl)
 
   tool-notes : (handle : ℕ) (file : OpenSeen) (bytes : List ℕ) (comes : ToolWrite) → F file → Writes operation bytes
       → tool_write g.config (scene_of g s) file.owner file.file bytes ≡ comes → StepNotes (write_tool g s handle file bytes comes)
   tool-notes handle file bytes writes.Missing by written is = tt
-  tool-notes handle file bytes writes.Wrong by written is = well s.past file bytes _ _ EINVAL by (OfWord written is refl refl)
+  tool-notes handle file bytes writes.Wrong by written is = well file bytes _ _ EINVAL by (OfWord written is refl refl)
   tool-notes handle file bytes writes.Same by written is = tt
   tool-notes handle file bytes (writes.Switch switch on size) by written is = switch-notes handle size file bytes switch on by written is
 
@@ -336,90 +290,151 @@ module _ (g : Terms) (s : Service) (operation : Operation) (F : OpenSeen → Typ
   other-notes handle file bytes kinds.Pipe by written = text-notes handle file bytes by written
   other-notes handle file bytes kinds.Inject by written = text-notes handle file bytes by written
 
-  stream-notes : (handle lock_owner pid : ℕ) (bytes : List ℕ) (file : OpenSeen) (event : Definition) → F file → Injects file event
+  stream-notes : (handle lock_owner : ℕ) (bytes : List ℕ) (file : OpenSeen) (event : Definition) → F file → Injects file event → KeepsLine file → Writes operation bytes
       → StepNotes (inject_stream g s handle lock_owner pid bytes file event)
-  stream-notes handle lock_owner pid bytes file event by ends ran runs = lines ran.done ran.refused
+  stream-notes handle lock_owner bytes file event by ends keeps written ran runs =
+      lines ran.done ran.refused (λ line refused none. first-refused g s.past asked ran line (stream-ends asking (length bytes) file.stream.rest bytes keeps.unended) runs refused none)
     where
+      asking : List ℕ → Asking
+      asking = asked_by_line g.config.cpus pid event
+
+      asked : List LineAsked
+      asked = stream_lines asking (length file.stream.rest) (length bytes) 0 (pieces_of (file.stream.rest ++ bytes))
+
       after : Stream
       after = stream_after file.stream lock_owner pid bytes
 
       noting : List ℕ → LineFault → Noting
       noting = noted_line event (begun_now g (record s { past = ran.past }) file)
 
-      lines : (done : ℕ) (refused : Option LineRefused) → NotesWell ran.past (noted_if_first noting done refused) (injected handle after (length bytes) s.files done refused).reply
-      lines done None = tt
-      lines done (Some line) =
+      refuses : (text : List ℕ) (fault : LineFault) → IsFirstRefused g s.past asked text fault → Refuses file event text fault
+      refuses text fault first =
+          subst (λ (n : ℕ). IsStreamRefused g s.past (asked_by_line g.config.cpus n event) (not_done file operation) text fault) (sym (writes-whose operation bytes file pid written))
+          (subst (λ (own : List ℕ). IsStreamRefused g s.past asking (file.stream.rest ++ own) text fault) (sym (writes-are operation bytes written))
+          (stream-refused g s.past asking (length file.stream.rest) (length bytes) (file.stream.rest ++ bytes) text fault (none-too-long g.config.cpus pid event) first))
+
+      lines : (done : ℕ) (refused : Option LineRefused)
+          → ((line : LineRefused) → refused ≡ Some line → (done == 0) ≡ true → (ran.past ≡ s.past) × FirstStops g s.past asked line.text line.fault)
+          → NotesWell ran.past (noted_if_first noting done refused) (injected handle after (length bytes) s.files done refused).reply
+      lines done None first = tt
+      lines done (Some line) first =
           first-notes ran.past noting done line
           (told (replies.Error (errno_of_fault line.fault)) (if is_memory line.fault then s.files else drop_rest handle s.files))
-          (told (replies.Written done) (with_stream (without_rest after) handle s.files)) (λ none. line-notes ran.past file event line.text line.fault by ends)
+          (told (replies.Written done) (with_stream (without_rest after) handle s.files))
+          (λ none. line-notes ran.past file event asked line.text line.fault by ends (refuses line.text line.fault) (first line refl none))
 
-  once-notes : (pid : ℕ) (bytes : List ℕ) (file : OpenSeen) (event : Definition) → F file → Injects file event → StepNotes (inject_at_once g s pid bytes file event)
-  once-notes pid bytes file event by ends ran runs = lines ran.refused
+  -- one line, of the process and the bytes that are the first not done
+  single-notes : (own : List ℕ) (whose : ℕ) (file : OpenSeen) (event : Definition) (outcome : Option LineRefused → Outcome) → F file → Injects file event
+      → writer_of file operation pid ≡ whose → own ≡ first_not_done file operation
+      → ((line : LineRefused) → (outcome (Some line)).reply ≡ Some (replies.Error (errno_of_fault line.fault)))
+      → (ran : Ran) → MayRun g s.past (line_at_once (asked_by_line g.config.cpus whose event) own) ran
+      → NotesWell ran.past (noted_first_injection g s file event ran) (outcome ran.refused).reply
+  single-notes own whose file event outcome by ends same is says ran runs =
+      lines ran.refused (λ line refused none. first-refused g s.past asked ran line (inr refl, tt) runs refused none)
     where
+      asking : List ℕ → Asking
+      asking = asked_by_line g.config.cpus whose event
+
+      asked : List LineAsked
+      asked = line_at_once asking own
+
       noting : List ℕ → LineFault → Noting
       noting = noted_line event (begun_now g (record s { past = ran.past }) file)
 
-      lines : (refused : Option LineRefused) → NotesWell ran.past (noted_if_first noting ran.done refused) (injected_at_once (length bytes) s.files refused).reply
-      lines None = tt
-      lines (Some line) =
-          any-notes ran.past noting ran.done line (Some (replies.Error (errno_of_fault line.fault))) (line-notes ran.past file event line.text line.fault by ends)
+      refuses : (text : List ℕ) (fault : LineFault) → IsFirstRefused g s.past asked text fault → Refuses file event text fault
+      refuses text fault first =
+          subst (λ (n : ℕ). IsStreamRefused g s.past (asked_by_line g.config.cpus n event) (not_done file operation) text fault) (sym same)
+          (once-refused g s.past asking own (not_done file operation) text fault (none-too-long g.config.cpus whose event) is first)
 
-  inject-notes : (handle lock_owner pid : ℕ) (bytes : List ℕ) (file : OpenSeen) (event : Option Definition) → F file → EndsLines operation → event_injected s file.file ≡ event
-      → StepNotes (inject g s handle lock_owner pid bytes file event)
-  inject-notes handle lock_owner pid bytes file None by ends is = tt
-  inject-notes handle lock_owner pid bytes file (Some event) by ends is =
-      either StepNotes (goes_on file.stream bytes) (inject_stream g s handle lock_owner pid bytes file event) (inject_at_once g s pid bytes file event)
-      (stream-notes handle lock_owner pid bytes file event by (ends, is)) (once-notes pid bytes file event by (ends, is))
+      lines : (refused : Option LineRefused)
+          → ((line : LineRefused) → refused ≡ Some line → (ran.done == 0) ≡ true → (ran.past ≡ s.past) × FirstStops g s.past asked line.text line.fault)
+          → NotesWell ran.past (noted_if_first noting ran.done refused) (outcome refused).reply
+      lines None first = tt
+      lines (Some line) first =
+          any-notes ran.past noting ran.done line (outcome (Some line)).reply
+          (λ none. subst (λ (r : Option Reply). NotesWell ran.past (noting line.text line.fault) r) (sym (says line))
+          (line-notes ran.past file event asked line.text line.fault by ends (refuses line.text line.fault) (first line refl none)))
 
-  kind-notes : (handle lock_owner pid : ℕ) (bytes : List ℕ) (own : OpenSeen) (file : File) → F own → Writes operation bytes → own.file ≡ file
+  once-notes : (bytes : List ℕ) (file : OpenSeen) (event : Definition) → F file → Injects file event → KeepsLine file → Writes operation bytes
+      → goes_on file.stream bytes ≡ false → StepNotes (inject_at_once g s pid bytes file event)
+  once-notes bytes file event by ends keeps written apart =
+      single-notes bytes pid file event (injected_at_once (length bytes) s.files) by ends (writes-whose operation bytes file pid written) own (λ line. refl)
+    where
+      both : (file.stream.is_stream ≡ false) × (has_newline bytes ≡ false)
+      both = neither file.stream.is_stream (has_newline bytes) apart
+
+      own : bytes ≡ first_not_done file operation
+      own =
+          sym (ap (λ (rest : List ℕ). before_first is_newline (rest ++ bytes_written operation)) (keeps.streamed both.0)
+          ∙ ap (before_first is_newline) (writes-are operation bytes written) ∙ all-first bytes both.1)
+
+  inject-notes : (handle lock_owner : ℕ) (bytes : List ℕ) (file : OpenSeen) (event : Option Definition) → F file → KeepsLine file → Writes operation bytes
+      → event_injected s file.file ≡ event → StepNotes (inject g s handle lock_owner pid bytes file event)
+  inject-notes handle lock_owner bytes file None by keeps written is = tt
+  inject-notes handle lock_owner bytes file (Some event) by keeps written is = by_kind (goes_on file.stream bytes) refl
+    where
+      ends : Injects file event
+      ends = (writes-end operation bytes written, is)
+
+      by_kind : (goes : Bool) → goes_on file.stream bytes ≡ goes
+          → StepNotes (if goes then inject_stream g s handle lock_owner pid bytes file event else inject_at_once g s pid bytes file event)
+      by_kind true at = stream-notes handle lock_owner bytes file event by ends keeps written
+      by_kind false at = once-notes bytes file event by ends keeps written at
+
+  kind-notes : (handle lock_owner : ℕ) (bytes : List ℕ) (own : OpenSeen) (file : File) → F own → KeepsLine own → Writes operation bytes → own.file ≡ file
       → StepNotes (write_kind g s handle lock_owner pid bytes own file)
-  kind-notes handle lock_owner pid bytes own (files.Inject event) by written same =
-      inject-notes handle lock_owner pid bytes own (slice_get (declared_events s.past) event) by (writes-end operation bytes written)
-      (ap (λ (f : File). event_injected s f) same)
-  kind-notes handle lock_owner pid bytes own _ by written same = other-notes handle own bytes (kind_of_file own.file) by written
+  kind-notes handle lock_owner bytes own (files.Inject event) by keeps written same =
+      inject-notes handle lock_owner bytes own (slice_get (declared_events s.past) event) by keeps written (ap (λ (f : File). event_injected s f) same)
+  kind-notes handle lock_owner bytes own _ by keeps written same = other-notes handle own bytes (kind_of_file own.file) by written
 
-  write-notes : (handle lock_owner pid : ℕ) (bytes : List ℕ) (slot : Option OpenSeen) → ((file : OpenSeen) → slot ≡ Some file → F file)
-      → Writes operation bytes → StepNotes (write_file g s handle lock_owner pid bytes slot)
-  write-notes handle lock_owner pid bytes None by written = tt
-  write-notes handle lock_owner pid bytes (Some own) by written =
+  write-notes : (handle lock_owner : ℕ) (bytes : List ℕ) (slot : Option OpenSeen) → ((file : OpenSeen) → slot ≡ Some file → F file)
+      → ((file : OpenSeen) → slot ≡ Some file → KeepsLine file) → Writes operation bytes → StepNotes (write_file g s handle lock_owner pid bytes slot)
+  write-notes handle lock_owner bytes None by keeps written = tt
+  write-notes handle lock_owner bytes (Some own) by keeps written =
       either StepNotes (is_there (scene_of g s) (node_of own)) (write_kind g s handle lock_owner pid bytes own own.file) (failed ENOENT s.files)
-      (kind-notes handle lock_owner pid bytes own own.file (by own refl) written refl) tt
+      (kind-notes handle lock_owner bytes own own.file (by own refl) (keeps own refl) written refl) tt
 
   -- ---- FLUSH, RELEASE
 
-  end-notes : (file : OpenSeen) (outcome : Option LineRefused → Outcome) (event : Definition) → F file → Injects file event → (outcome None).reply ≡ Some replies.Done
+  -- a request that writes nothing may end a line
+  abbrev EndsKept : Type 0
+  EndsKept = EndsLines operation × (bytes_written operation ≡ []) × ((file : OpenSeen) → writer_of file operation pid ≡ file.stream.pid)
+
+  end-notes : (file : OpenSeen) (outcome : Option LineRefused → Outcome) (event : Definition) → F file → KeepsLine file → EndsKept → event_injected s file.file ≡ Some event
       → ((line : LineRefused) → (outcome (Some line)).reply ≡ Some (replies.Error (errno_of_fault line.fault))) → StepNotes (end_line g s file outcome event)
-  end-notes file outcome event by ends done says ran runs = lines ran.refused
+  end-notes file outcome event by keeps ends is says =
+      single-notes file.stream.rest file.stream.pid file event outcome by (ends.0, is) (ends.2 file) own says
     where
-      noting : List ℕ → LineFault → Noting
-      noting = noted_line event (begun_now g (record s { past = ran.past }) file)
+      own : file.stream.rest ≡ first_not_done file operation
+      own =
+          sym (ap (λ (more : List ℕ). before_first is_newline (file.stream.rest ++ more)) ends.1
+          ∙ ap (before_first is_newline) (append-nil file.stream.rest) ∙ all-first file.stream.rest keeps.unended)
 
-      lines : (refused : Option LineRefused) → NotesWell ran.past (noted_if_first noting ran.done refused) (outcome refused).reply
-      lines None = tt
-      lines (Some line) =
-          any-notes ran.past noting ran.done line (outcome (Some line)).reply
-          (subst (λ (r : Option Reply). NotesWell ran.past (noting line.text line.fault) r) (sym (says line)) (line-notes ran.past file event line.text line.fault by ends))
+  flush-line-notes : (handle : ℕ) (file : OpenSeen) (event : Option Definition) → F file → KeepsLine file → EndsKept → event_of_file g s file file.file ≡ event
+      → StepNotes (flush_line g s handle file event)
+  flush-line-notes handle file None by keeps ends is = tt
+  flush-line-notes handle file (Some event) by keeps ends is =
+      end-notes file (flushed handle s.files) event by keeps ends (event-there file file.file event is) (λ line. refl)
 
-  flush-line-notes : (handle : ℕ) (file : OpenSeen) (event : Option Definition) → F file → EndsLines operation → event_of_file g s file file.file ≡ event → StepNotes (flush_line g s handle file event)
-  flush-line-notes handle file None by ends is = tt
-  flush-line-notes handle file (Some event) by ends is = end-notes file (flushed handle s.files) event by (ends, event-there file file.file event is) refl (λ line. refl)
-
-  flush-notes : (handle lock_owner : ℕ) (slot : Option OpenSeen) → ((file : OpenSeen) → slot ≡ Some file → F file) → EndsLines operation
-      → StepNotes (flush_file g s handle lock_owner slot)
-  flush-notes handle lock_owner None by ends = tt
-  flush-notes handle lock_owner (Some file) by ends =
+  flush-notes : (handle lock_owner : ℕ) (slot : Option OpenSeen) → ((file : OpenSeen) → slot ≡ Some file → F file)
+      → ((file : OpenSeen) → slot ≡ Some file → KeepsLine file) → EndsKept → StepNotes (flush_file g s handle lock_owner slot)
+  flush-notes handle lock_owner None by keeps ends = tt
+  flush-notes handle lock_owner (Some file) by keeps ends =
       either StepNotes (has_rest file && file.stream.lock_owner == lock_owner) (flush_line g s handle file (event_of_file g s file file.file)) (plain replies.Done s.files)
-      (flush-line-notes handle file (event_of_file g s file file.file) (by file refl) ends refl) tt
+      (flush-line-notes handle file (event_of_file g s file file.file) (by file refl) (keeps file refl) ends refl) tt
 
-  release-line-notes : (handle : ℕ) (file : OpenSeen) (event : Option Definition) → F file → EndsLines operation → event_of_file g s file file.file ≡ event → StepNotes (release_line g s handle file event)
-  release-line-notes handle file None by ends is = tt
-  release-line-notes handle file (Some event) by ends is = end-notes file (released handle s.files) event by (ends, event-there file file.file event is) refl (λ line. refl)
+  release-line-notes : (handle : ℕ) (file : OpenSeen) (event : Option Definition) → F file → KeepsLine file → EndsKept → event_of_file g s file file.file ≡ event
+      → StepNotes (release_line g s handle file event)
+  release-line-notes handle file None by keeps ends is = tt
+  release-line-notes handle file (Some event) by keeps ends is =
+      end-notes file (released handle s.files) event by keeps ends (event-there file file.file event is) (λ line. refl)
 
-  release-notes : (handle : ℕ) (slot : Option OpenSeen) → ((file : OpenSeen) → slot ≡ Some file → F file) → EndsLines operation → StepNotes (release g s handle slot)
-  release-notes handle None by ends = tt
-  release-notes handle (Some file) by ends =
+  release-notes : (handle : ℕ) (slot : Option OpenSeen) → ((file : OpenSeen) → slot ≡ Some file → F file)
+      → ((file : OpenSeen) → slot ≡ Some file → KeepsLine file) → EndsKept → StepNotes (release g s handle slot)
+  release-notes handle None by keeps ends = tt
+  release-notes handle (Some file) by keeps ends =
       either StepNotes (has_rest file) (release_line g s handle file (event_of_file g s file file.file)) (plain replies.Done (without_file handle s.files))
-      (release-line-notes handle file (event_of_file g s file file.file) (by file refl) ends refl) tt
+      (release-line-notes handle file (event_of_file g s file file.file) (by file refl) (keeps file refl) ends refl) tt
 
   -- ---- OPEN
 
@@ -429,7 +444,7 @@ module _ (g : Terms) (s : Service) (operation : Operation) (F : OpenSeen → Typ
   emptied-notes flags file asked text by opens empties (Ok answer) answered = tt
   emptied-notes flags file asked text by opens empties (Err Memory) answered = tt
   emptied-notes flags file asked text by opens empties (Err refusal) answered =
-      well s.past (record file { starts_over = false }) [] _ _ (errno_of refusal) by
+      well (record file { starts_over = false }) [] _ _ (errno_of refusal) by
       (OfNothing flags asked text refusal opens empties (answered (λ same. absurd (cc))) refl refl refl)
 
   emptying-notes : (flags : ℕ) (file : OpenSeen) (asked : Emptying) → F (record file { starts_over = false }) → Opens operation flags
@@ -509,27 +524,30 @@ module _ (g : Terms) (s : Service) (operation : Operation) (F : OpenSeen → Typ
 
 -- ---- all requests
 
-request-notes : (g : Terms) (s : Service) (unique pid : ℕ) (target : Option Node) (operation : Operation)
-    → StepNotes g s operation (IsFileOf g s target operation) (step_of g s unique pid target operation)
-request-notes g s unique pid target (operations.Lookup name) = entry-notes g s (operations.Lookup name) (λ file. ⊥) (found_in (scene_of g s) name target)
-request-notes g s unique pid target operations.GetAttr = attributes-notes g s operations.GetAttr (λ file. ⊥) (known (scene_of g s) target)
-request-notes g s unique pid target (operations.SetAttr valid size) = set-notes g s (operations.SetAttr valid size) (λ file. ⊥) target valid size
-request-notes g s unique pid target (operations.MkDir name) = made-notes g s (operations.MkDir name) (λ file. ⊥) name (known (scene_of g s) target)
-request-notes g s unique pid target (operations.RmDir name) = removed-notes g s (operations.RmDir name) (λ file. ⊥) name (known (scene_of g s) target)
-request-notes g s unique pid target (operations.Open flags) =
-    open-notes g s (operations.Open flags) (λ file. known (scene_of g s) target ≡ Some (node_of file)) flags (known (scene_of g s) target) (λ file is. is) refl
-request-notes g s unique pid target (operations.Read handle offset size read_flags flags) =
-    read-notes g s (operations.Read handle offset size read_flags flags) (λ file. ⊥) unique (step_of g s unique pid target (operations.Read handle offset size read_flags flags))
+request-notes : (g : Terms) (s : Service) (unique pid : ℕ) (target : Option Node) (operation : Operation) → NoneKeepsMore s.files
+    → StepNotes g s pid operation (IsFileOf g s target operation) (step_of g s unique pid target operation)
+request-notes g s unique pid target (operations.Lookup name) none = entry-notes g s pid (operations.Lookup name) (λ file. ⊥) (found_in (scene_of g s) name target)
+request-notes g s unique pid target operations.GetAttr none = attributes-notes g s pid operations.GetAttr (λ file. ⊥) (known (scene_of g s) target)
+request-notes g s unique pid target (operations.SetAttr valid size) none = set-notes g s pid (operations.SetAttr valid size) (λ file. ⊥) target valid size
+request-notes g s unique pid target (operations.MkDir name) none = made-notes g s pid (operations.MkDir name) (λ file. ⊥) name (known (scene_of g s) target)
+request-notes g s unique pid target (operations.RmDir name) none = removed-notes g s pid (operations.RmDir name) (λ file. ⊥) name (known (scene_of g s) target)
+request-notes g s unique pid target (operations.Open flags) none =
+    open-notes g s pid (operations.Open flags) (λ file. known (scene_of g s) target ≡ Some (node_of file)) flags (known (scene_of g s) target) (λ file is. is) refl
+request-notes g s unique pid target (operations.Read handle offset size read_flags flags) none =
+    read-notes g s pid (operations.Read handle offset size read_flags flags) (λ file. ⊥) unique (step_of g s unique pid target (operations.Read handle offset size read_flags flags))
     (read-step g s (read_of_pipe unique handle size) offset (is_cached read_flags) flags (file_at handle s.files))
-request-notes g s unique pid target (operations.Write handle offset lock_owner bytes) =
-    write-notes g s (operations.Write handle offset lock_owner bytes) (λ file. file_at handle s.files ≡ Some file) handle lock_owner pid bytes (file_at handle s.files) (λ file is. is) refl
-request-notes g s unique pid target (operations.Flush handle lock_owner) =
-    flush-notes g s (operations.Flush handle lock_owner) (λ file. file_at handle s.files ≡ Some file) handle lock_owner (file_at handle s.files) (λ file is. is) tt
-request-notes g s unique pid target (operations.Release handle) =
-    release-notes g s (operations.Release handle) (λ file. file_at handle s.files ≡ Some file) handle (file_at handle s.files) (λ file is. is) tt
-request-notes g s unique pid target (operations.Poll handle wakeup flags events) =
-    poll-notes g s (operations.Poll handle wakeup flags events) (λ file. ⊥) handle wakeup flags (file_at handle s.files)
-request-notes g s unique pid target _ = tt
+request-notes g s unique pid target (operations.Write handle offset lock_owner bytes) none =
+    write-notes g s pid (operations.Write handle offset lock_owner bytes) (λ file. file_at handle s.files ≡ Some file) handle lock_owner bytes (file_at handle s.files)
+    (λ file is. is) (λ file is. kept-line s.files handle file none is) refl
+request-notes g s unique pid target (operations.Flush handle lock_owner) none =
+    flush-notes g s pid (operations.Flush handle lock_owner) (λ file. file_at handle s.files ≡ Some file) handle lock_owner (file_at handle s.files)
+    (λ file is. is) (λ file is. kept-line s.files handle file none is) (tt, refl, λ file. refl)
+request-notes g s unique pid target (operations.Release handle) none =
+    release-notes g s pid (operations.Release handle) (λ file. file_at handle s.files ≡ Some file) handle (file_at handle s.files)
+    (λ file is. is) (λ file is. kept-line s.files handle file none is) (tt, refl, λ file. refl)
+request-notes g s unique pid target (operations.Poll handle wakeup flags events) none =
+    poll-notes g s pid (operations.Poll handle wakeup flags events) (λ file. ⊥) handle wakeup flags (file_at handle s.files)
+request-notes g s unique pid target _ none = tt
 
 -- what is told of a parked read notes nothing
 telling-notes : (g : Terms) (before : Service) (what : Option Owed) (bytes : List ℕ) (after : Service) (error : ErrorSeen) (told : TellsOwed g before what bytes after)
@@ -537,16 +555,16 @@ telling-notes : (g : Terms) (before : Service) (what : Option Owed) (bytes : Lis
 telling-notes g before None bytes after error told is = absurd told
 telling-notes g before (Some (ReplyAt index)) bytes after error told is =
     let step = step_of_parked g before told.read in
-    (noted-well g before operations.GetAttr (λ file. ⊥) (without_read index before) step (Some told.reply) after error told.does refl
-    (read-notes g before operations.GetAttr (λ file. ⊥) told.read.unique step (parked-step g before told.read)) is).by
+    (noted-well g before 0 operations.GetAttr (λ file. ⊥) (without_read index before) step (Some told.reply) after error told.does refl
+    (read-notes g before 0 operations.GetAttr (λ file. ⊥) told.read.unique step (parked-step g before told.read)) is).by
 telling-notes g before (Some (WakeupAt handle)) bytes after error told is = absurd (let no : Keeps ≡ Notes error = is in cc)
 
 asking-notes : (g : Terms) (before : Service) (asked bytes : List ℕ) (after : Service) (error : ErrorSeen) (served : AreServed g before asked bytes after)
-    → noting_asked g before asked bytes after served ≡ Notes error → (request : Asked) × IsRequest asked request × IsNoted g before request bytes after error
-asking-notes g before asked bytes after error (Right request is served) notes =
-    let well = noted-well g before request.operation (IsFileOf g before served.node request.operation) before
+    → NoneKeepsMore before.files → noting_asked g before asked bytes after served ≡ Notes error → (request : Asked) × IsRequest asked request × IsNoted g before request bytes after error
+asking-notes g before asked bytes after error (Right request is served) none notes =
+    let well = noted-well g before request.pid request.operation (IsFileOf g before served.node request.operation) before
     (step_of g before request.unique request.pid served.node request.operation) served.reply after error served.does refl
-    (request-notes g before request.unique request.pid served.node request.operation) notes in (
+    (request-notes g before request.unique request.pid served.node request.operation none) notes in (
       request,
       is,
       record {
@@ -557,12 +575,13 @@ asking-notes g before asked bytes after error (Right request is served) notes =
         errno = well.errno;
         write = well.write;
         told = served.told ∙ ap (bytes_of_reply request.unique) well.told;
+        undone = well.undone;
       },
     )
-asking-notes g before asked bytes after error (Wrong opcode unique framed none told same) notes = absurd (let no : Keeps ≡ Notes error = notes in cc)
-asking-notes g before asked bytes after error (Unframed none told same) notes = absurd (let no : Keeps ≡ Notes error = notes in cc)
+asking-notes g before asked bytes after error (Wrong opcode unique framed other told same) none notes = absurd (let no : Keeps ≡ Notes error = notes in cc)
+asking-notes g before asked bytes after error (Unframed other told same) none notes = absurd (let no : Keeps ≡ Notes error = notes in cc)
 
 pub noted_writes_were_refused : NotedWritesWereRefused
-noted_writes_were_refused g before [] bytes after told error notes = absurd (telling-notes g before (owed g before) bytes after error told notes)
-noted_writes_were_refused g before (byte ∷ asked) bytes after (quiet, served) error notes =
-    asking-notes g before (byte ∷ asked) bytes after error served notes
+noted_writes_were_refused g requests messages before [] bytes after told error served notes = absurd (telling-notes g before (owed g before) bytes after error told notes)
+noted_writes_were_refused g requests messages before (byte ∷ asked) bytes after (quiet, exchanged) error served notes =
+    asking-notes g before (byte ∷ asked) bytes after error exchanged (none-keeps-more g requests messages before served) notes

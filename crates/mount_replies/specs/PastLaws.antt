@@ -9,7 +9,7 @@ use Rattle.fuse_wire.specs.declared.request.Operation.TheVariants as operations
 use Rattle.fuse_wire.specs.declared.request.Request.{Request as Asked}
 use Rattle.trace_command.specs.Configs.{IsInRange}
 use Rattle.trace_command.specs.Paths as paths
-use Rattle.trace_command.specs.Requests.{Request, ReadFile, WriteFile}
+use Rattle.trace_command.specs.Requests.{FitsItsTypes, Request, ReadFile, WriteFile}
 use Rattle.trace_command.specs.declared.file_name.CpuFile.TheVariants as per_cpu
 use Rattle.trace_command.specs.declared.refusal.Refusal.{Refusal}
 use Rattle.tracer_specification.specs.FileTexts.{cpu_stats_text}
@@ -54,6 +54,13 @@ pub record WasDone (g : Terms) (past : List Request) : Type 0 where
 -- whatever a mounted tracer served, its past is a list of such commands, so that what history_laws says of requests that were done holds of it
 abbrev pub PastsAreDone : Type 0
 PastsAreDone = (g : Terms) (requests messages : List (List ℕ)) (after : Service) → Serves g just_mounted requests messages after → WasDone g after.past
+
+-- and with a configuration in range the numbers of each of them fit their types, whatever the bytes of the requests were: an emission's CPU and process have
+-- 32 bits, and what a read takes at most 64
+abbrev pub PastsFitTheirTypes : Type 0
+PastsFitTheirTypes =
+    (g : Terms) (requests messages : List (List ℕ)) (after : Service) → IsInRange g.config → Serves g just_mounted requests messages after
+    → All FitsItsTypes after.past
 
 -- ---- reads
 

@@ -1,12 +1,12 @@
 -- What is kept of refused writes, whatever was served: of each instance the last eight since they were forgotten, each with its caret where its refusal
 -- says. Theorems that speak of no program.
-use Rattle.std.specs.Prelude.{◌≡◌, ℕ, ⊤, Bool, true, false, not, List, [], ◌∷◌, ◌++◌, Option, Some, None, Err}
-use Rattle.std.specs.List.{flat_map, slice_get}
+use Rattle.std.specs.Prelude.{◌≡◌, ◌≢◌, ◌<◌, ℕ, ⊤, Bool, true, false, not, List, [], ◌∷◌, ◌++◌, length, Option, Some, None, Err}
+use Rattle.std.specs.List.{before_first, flat_map, slice_get}
 use Rattle.std.proofs.Common.{inl, inr}
 use Rattle.fuse_wire.specs.Replies.{reply_bytes}
 use Rattle.fuse_wire.specs.Requests.{IsRequest}
 use Rattle.fuse_wire.specs.declared.errno.Errno.{Errno}
-use Rattle.fuse_wire.specs.declared.errno.Errno.TheVariants.{EINVAL}
+use Rattle.fuse_wire.specs.declared.errno.Errno.TheVariants.{EINVAL, ENOMEM}
 use Rattle.fuse_wire.specs.declared.reply.Reply.{Reply}
 use Rattle.fuse_wire.specs.declared.reply.Reply.TheVariants as replies
 use Rattle.fuse_wire.specs.declared.request.Operation.{Operation}
@@ -23,7 +23,7 @@ use Rattle.error_log.specs.Errors.{ErrorSeen, error_text, refused}
 use Rattle.error_log.specs.LogLaws.{Change, Cleared, Noted, StandsUnder, last_eight, noted_since}
 use Rattle.error_log.specs.Logs.{errors_of}
 use Rattle.mount_tree.specs.Children.{is_there}
-use Rattle.mount_tree.specs.FileKinds.{kind_of_file}
+use Rattle.mount_tree.specs.FileKinds.{access_of_file, kind_of_file}
 use Rattle.mount_tree.specs.NodePaths.{path_of}
 use Rattle.mount_tree.specs.declared.file.File.{File}
 use Rattle.mount_tree.specs.declared.file.File.TheVariants as files
@@ -36,15 +36,16 @@ use Rattle.mount_stub_files.specs.WrongWords.{wrong_offset}
 use Rattle.mount_stub_files.specs.declared.write.ToolWrite.TheVariants as writes
 use Rattle.mount_replies.specs.Errnos.{errno_of}
 use Rattle.mount_replies.specs.FileWrites.{begun_now, switch_text}
-use Rattle.mount_replies.specs.Lines.{command_text, errno_of_fault, most_kept, refusal_in, written_lines}
+use Rattle.mount_replies.specs.Lines.{asked_by_line, command_text, errno_of_fault, is_newline, most_kept, refusal_in, written_lines}
 use Rattle.mount_replies.specs.Mounted.{AreServed, Does, IsExchanged, IsNamed, IsServed, Right, Serves, TellsOwed, Unframed, Wrong}
 use Rattle.mount_replies.specs.Owed.{Owed, ReplyAt, WakeupAt, owed, step_of_parked}
 use Rattle.mount_replies.specs.PastLaws.{ShowsNow, just_mounted}
 use Rattle.mount_replies.specs.Served.{AsksToWrite, emptying_of, is_cached, step_of}
 use Rattle.mount_replies.specs.Services.{OpenSeen, Service, Terms, file_at, node_of, scene_of, without_read}
-use Rattle.mount_replies.specs.Steps.{Asks, AsksFor, AsksLines, AsksNoting, Counts, Forgets, Interrupts, Keeps, LineAsked, Notes, Noting, Parks, Plain, Step, Takes, Tells, write_of}
-use Rattle.mount_replies.specs.Told.{empties, known}
+use Rattle.mount_replies.specs.Steps.{Asking, Asks, AsksFor, AsksLines, AsksNoting, Counts, Forgets, Interrupts, IsTooLong, IsWrongLine, Keeps, LineAsked, Notes, Noting, Parks, Plain, Step, Takes, Tells, write_of}
+use Rattle.mount_replies.specs.Told.{empties, known, may, wants_read, wants_write}
 use Rattle.mount_replies.specs.declared.fault.LineFault.{LineFault}
+use Rattle.mount_replies.specs.declared.fault.LineFault.TheVariants.{NoCommand, Refused, TooLong}
 
 -- ---- what was noted and forgotten
 
@@ -141,64 +142,111 @@ abbrev pub event_injected : Service → File → Option Definition
 event_injected s (files.Inject event) = slice_get (declared_events s.past) event
 event_injected s _ = None
 
--- the first of these lines, which has this text, is a command that is refused so after these requests
-pub record IsFirstRefused (g : Terms) (past : List Request) (lines : List LineAsked) (text : List ℕ) (refusal : Refusal) : Type 0 where
+-- what was written to an open `inject` and not done: what it kept, and what this request writes
+abbrev pub bytes_written : Operation → List ℕ
+bytes_written (operations.Write handle offset lock_owner bytes) = bytes
+bytes_written _ = []
+
+abbrev pub not_done : OpenSeen → Operation → List ℕ
+not_done file operation = file.stream.rest ++ bytes_written operation
+
+-- the first line of that: what comes before the first newline
+abbrev pub first_not_done : OpenSeen → Operation → List ℕ
+first_not_done file operation = before_first is_newline (not_done file operation)
+
+-- and the process whose event it is: the one that writes now, or, where nothing is written, that wrote what was kept
+abbrev pub writer_of : OpenSeen → Operation → ℕ → ℕ
+writer_of file (operations.Write handle offset lock_owner bytes) pid = pid
+writer_of file _ pid = file.stream.pid
+
+-- what is asked for a line is refused for this after these requests
+abbrev pub IsRefusedFor : Terms → List Request → LineFault → Asking → Type 0
+IsRefusedFor g past (Refused refusal) (AsksFor command) = live_answer g.config past command ≡ Err refusal
+IsRefusedFor g past NoCommand IsWrongLine = ⊤
+IsRefusedFor g past TooLong IsTooLong = ⊤
+IsRefusedFor g past _ _ = ⊥
+
+-- the first of these lines, which has this text, is refused for this
+pub record IsFirstRefused (g : Terms) (past : List Request) (lines : List LineAsked) (text : List ℕ) (fault : LineFault) : Type 0 where
   pub first : LineAsked
   pub more : List LineAsked
   pub lines_are : lines ≡ first ∷ more
   pub text_is : text ≡ first.text
-  pub command : Request
-  pub asks : first.asking ≡ AsksFor command
-  pub refused : live_answer g.config past command ≡ Err refusal
+  pub refused : IsRefusedFor g past fault first.asking
 
--- which byte of a text is to blame that a request was to write to a file, where this error was told
-pub data IsBlamed (g : Terms) (s : Service) (operation : Operation) (file : OpenSeen) (text : List ℕ) (offset : ℕ) (errno : Errno) : Type 0 where
+-- which byte of a text is to blame that a request of this process was to write to a file, where this error was told
+pub data IsBlamed (g : Terms) (s : Service) (pid : ℕ) (operation : Operation) (file : OpenSeen) (text : List ℕ) (offset : ℕ) (errno : Errno) : Type 0 where
   -- of a command, which is the first line that was written and is not blank, the one that its refusal says
   OfCommand : (own : List ℕ) (refusal : Refusal) → Writes operation own
-      → IsFirstRefused g s.past (written_lines (scene_of g s) file.owner file.file (not file.starts_over) own) text refusal → errno ≡ errno_of refusal
-      → offset ≡ write_offset (path_of (scene_of g s) (node_of file)) (command_text file.file text) refusal → IsBlamed g s operation file text offset errno
-  -- of a line of `inject`, the one that its fault says
-  OfEvent : (event : Definition) (fault : LineFault) → EndsLines operation → event_injected s file.file ≡ Some event → errno ≡ errno_of_fault fault
-      → offset ≡ injection_offset event text (refusal_in fault) → IsBlamed g s operation file text offset errno
-  -- of one that is too long, the first that has no room
-  OfLongLine : EndsLines operation → errno ≡ EINVAL → offset ≡ most_kept → IsBlamed g s operation file text offset errno
+      → IsFirstRefused g s.past (written_lines (scene_of g s) file.owner file.file (not file.starts_over) own) text (Refused refusal) → errno ≡ errno_of refusal
+      → offset ≡ write_offset (path_of (scene_of g s) (node_of file)) (command_text file.file text) refusal → IsBlamed g s pid operation file text offset errno
+  -- of a line of `inject`, which is the first that was not done, the one that its fault says
+  OfEvent : (event : Definition) (fault : LineFault) → EndsLines operation → event_injected s file.file ≡ Some event → text ≡ first_not_done file operation
+      → IsRefusedFor g s.past fault (asked_by_line g.config.cpus (writer_of file operation pid) event text) → errno ≡ errno_of_fault fault
+      → offset ≡ injection_offset event text (refusal_in fault) → IsBlamed g s pid operation file text offset errno
+  -- of one that has not ended and is too long, the first that has no room
+  OfLongLine : EndsLines operation → text ≡ first_not_done file operation → text ≡ not_done file operation → most_kept < length text → errno ≡ EINVAL
+      → offset ≡ most_kept → IsBlamed g s pid operation file text offset errno
   -- of what was written to a file that tools ask for, where its first word begins, if no byte of it can be taken
   OfWord : Writes operation text → tool_write g.config (scene_of g s) file.owner file.file text ≡ writes.Wrong → errno ≡ EINVAL → offset ≡ wrong_offset text
-      → IsBlamed g s operation file text offset errno
+      → IsBlamed g s pid operation file text offset errno
   -- or if the switch that it names refuses it
   OfSwitch : (switch : File) (on : Bool) (size : ℕ) (refusal : Refusal) → Writes operation text
       → tool_write g.config (scene_of g s) file.owner file.file text ≡ writes.Switch switch on size → IsNotWritten g s file switch (switch_text on) refusal
-      → errno ≡ errno_of refusal → offset ≡ wrong_offset text → IsBlamed g s operation file text offset errno
+      → errno ≡ errno_of refusal → offset ≡ wrong_offset text → IsBlamed g s pid operation file text offset errno
   -- where a file could not be emptied that was opened for that, nothing was written, and there is none
   OfNothing : (flags : ℕ) (asked : File) (emptying : List ℕ) (refusal : Refusal) → Opens operation flags
       → emptying_of file.file (empties flags) ≡ AsksToWrite asked emptying → IsNotWritten g s file asked emptying refusal
-      → errno ≡ errno_of refusal → text ≡ [] → offset ≡ 0 → IsBlamed g s operation file text offset errno
+      → errno ≡ errno_of refusal → text ≡ [] → offset ≡ 0 → IsBlamed g s pid operation file text offset errno
 
--- A write to this file that this request was to do and that was refused by this error, when these requests were done: what is kept is the line of the byte
--- to blame, with the caret under it.
-pub record IsRefusedWrite (g : Terms) (s : Service) (operation : Operation) (past : List Request) (file : OpenSeen) (errno : Errno) (error : ErrorSeen) : Type 0 where
+-- A write to this file that this request was to do and that was refused by this error: what is kept is the line of the byte to blame, with the caret
+-- under it.
+pub record IsRefusedWrite (g : Terms) (s : Service) (pid : ℕ) (operation : Operation) (file : OpenSeen) (errno : Errno) (error : ErrorSeen) : Type 0 where
   pub text : List ℕ
   pub sentence : List ℕ
   pub offset : ℕ
-  pub is : error ≡ refused (begun_now g (record s { past = past }) file) text sentence offset
-  pub blamed : IsBlamed g s operation file text offset errno
+  pub is : error ≡ refused (begun_now g s file) text sentence offset
+  pub blamed : IsBlamed g s pid operation file text offset errno
   pub stands : StandsUnder text offset error
 
--- What is noted is a write to the file that was written, opened or closed, and its refusal was told. When it is
--- noted, all that the request does is done.
+-- What is noted is a write to the file that was written, opened or closed, and its refusal was told. No command was done.
 pub record IsNoted (g : Terms) (before : Service) (request : Asked) (bytes : List ℕ) (after : Service) (error : ErrorSeen) : Type 0 where
   pub node : Option Node
   pub named : IsNamed request.node node
   pub file : OpenSeen
   pub by : IsFileOf g before node request.operation file
   pub errno : Errno
-  pub write : IsRefusedWrite g before request.operation after.past file errno error
+  pub write : IsRefusedWrite g before request.pid request.operation file errno error
   pub told : bytes ≡ reply_bytes request.unique (replies.Error errno)
+  pub undone : after.past ≡ before.past
 
+-- of whatever was served
 abbrev pub NotedWritesWereRefused : Type 0
 NotedWritesWereRefused =
-    (g : Terms) (before : Service) (asked bytes : List ℕ) (after : Service) (exchanged : IsExchanged g before asked bytes after) (error : ErrorSeen)
-    → noting_of g before asked bytes after exchanged ≡ Notes error → (request : Asked) × IsRequest asked request × IsNoted g before request bytes after error
+    (g : Terms) (requests messages : List (List ℕ)) (before : Service) (asked bytes : List ℕ) (after : Service) (exchanged : IsExchanged g before asked bytes after)
+    (error : ErrorSeen)
+    → Serves g just_mounted requests messages before → noting_of g before asked bytes after exchanged ≡ Notes error
+    → (request : Asked) × IsRequest asked request × IsNoted g before request bytes after error
+
+-- ---- all that are refused are noted
+
+-- a request that may write a file: it does; or it closes or flushes an `inject`, where a line may end; or it opens a file as may be done with it
+abbrev pub MayWrite : Operation → File → Type 0
+MayWrite (operations.Open flags) file = may (access_of_file file) (wants_read flags) (wants_write flags) ≡ true
+MayWrite (operations.Write handle offset lock_owner bytes) file = ⊤
+MayWrite (operations.Flush handle lock_owner) file = kind_of_file file ≡ kinds.Inject
+MayWrite (operations.Release handle) file = kind_of_file file ≡ kinds.Inject
+MayWrite _ file = ⊥
+
+-- Where such a request, about a file of an instance that is there, is told an error, that is noted; but that memory was refused is not. What is noted is
+-- this refusal, as `NotedWritesWereRefused` says.
+abbrev pub RefusedWritesAreNoted : Type 0
+RefusedWritesAreNoted =
+    (g : Terms) (before : Service) (asked bytes : List ℕ) (after : Service) (exchanged : IsExchanged g before asked bytes after) (request : Asked)
+    (node : Option Node) (file : OpenSeen) (errno : Errno)
+    → IsRequest asked request → IsNamed request.node node → IsFileOf g before node request.operation file → MayWrite request.operation file.file
+    → is_there (scene_of g before) (node_of file) ≡ true → errno ≢ ENOMEM → bytes ≡ reply_bytes request.unique (replies.Error errno)
+    → (error : ErrorSeen) × (noting_of g before asked bytes after exchanged ≡ Notes error)
 
 -- ---- what is shown
 

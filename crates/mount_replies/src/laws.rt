@@ -4,8 +4,8 @@ ghost use Rattle.mount_replies.specs.ComputedSteps.{StepsAreComputed};
 ghost use Rattle.mount_replies.specs.MountExamples.{SessionsAreServed};
 ghost use Rattle.mount_replies.specs.MountLaws.{CutsDontMatter, LinesEndAtNewlines, NothingLeftIsAll, OthersFlushNothing, ReadsGoOn, StepsDoCommands, StreamsLoseNothing};
 ghost use Rattle.mount_replies.specs.ParkedLaws.{ClosedReadsTakeNothing, InterruptedReadsTakeNothing, NoPollWaitsForWhatIsThere, NoReadWaitsForWhatIsThere, NoRecordIsLostOrToldTwice, OldestIsAnsweredFirst, ParkedReadsArmPolls, ReadsAreAnsweredOnce, ReadsArmPolls, TakenTextIsGivenOrKept, TellingDoesOneCommandAtMost};
-ghost use Rattle.mount_replies.specs.PastLaws.{ErrorsAreOfInstances, LaterReadsGoOn, PastsAreDone, ReadsEndWithTheText, ReadsShowThePast, RemovedFilesAreMissing, ServedScenesAreSound, SizesAreLengths, StatsShowThePast, ToolReadsShowThePast, WritesAreCommands};
-ghost use Rattle.mount_replies.specs.ServedErrors.{LastEightAreKept, LogReadsShowTheLastEight, NotedWritesWereRefused};
+ghost use Rattle.mount_replies.specs.PastLaws.{ErrorsAreOfInstances, LaterReadsGoOn, PastsAreDone, PastsFitTheirTypes, ReadsEndWithTheText, ReadsShowThePast, RemovedFilesAreMissing, ServedScenesAreSound, SizesAreLengths, StatsShowThePast, ToolReadsShowThePast, WritesAreCommands};
+ghost use Rattle.mount_replies.specs.ServedErrors.{LastEightAreKept, LogReadsShowTheLastEight, NotedWritesWereRefused, RefusedWritesAreNoted};
 ghost use Rattle.mount_replies.specs.SessionBytes.{SessionIsServed};
 ghost use Rattle.mount_replies.specs.SetEvents.{SetEventsAreShown};
 
@@ -71,6 +71,11 @@ pub fn pasts_are_done()
     ensures { PastsAreDone }
 {}
 
+/// With a configuration in range their numbers fit their types, whatever bytes were served.
+pub fn pasts_fit_their_types()
+    ensures { PastsFitTheirTypes }
+{}
+
 /// A read of a file that is there, is no pipe and is not `inject`, from its beginning, whatever was served before it, is refused, or shows what the file
 /// shows after the commands that were done by then, unless it is the page cache's; of `stats` these are the counts that are defined over them. So it is of
 /// files that tools ask for, as `set_event`, and `error_log` shows the last eight refused writes that were noted since it was cleared. Later reads go on in
@@ -103,11 +108,15 @@ pub fn removed_instances_are_gone()
     ensures errors { ErrorsAreOfInstances }
 {}
 
-/// Whatever was served, the log of an instance has its last eight refused writes that were noted since it was cleared. What is noted is a write to a file
-/// that was written, opened or closed, and its refusal was told; the caret stands under the byte that is to blame by the refusal.
+/// Whatever was served, the log of an instance has its last eight refused writes since it was cleared (`kept`). What is noted is a write to a file that was
+/// written, opened or closed, and its refusal was told; of `inject` it is the first line that was not done; the caret stands under the byte that is to
+/// blame by the refusal (`noted`). And each write that was refused is noted, but where memory was refused (`all`): of a file that was written, of an
+/// `inject` that was flushed or closed, and of one that was opened to be emptied. What fails before anything is written is none: a handle that is not
+/// known, an instance that was removed, a file that can't be opened so.
 pub fn logs_have_the_last_eight()
     ensures kept { LastEightAreKept }
     ensures noted { NotedWritesWereRefused }
+    ensures all { RefusedWritesAreNoted }
 {}
 
 /// Whatever was served, all folders and files have names, and no two in a folder have one name, so that lists are look-ups.

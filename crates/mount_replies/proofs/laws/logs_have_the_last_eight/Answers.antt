@@ -1,4 +1,5 @@
 use Rattle.mount_replies.proofs.NotedWrites.{noted_writes_were_refused}
+use Rattle.mount_replies.proofs.RefusedNoted.{refused_writes_are_noted}
 use Rattle.mount_replies.proofs.ServedErrors.{last_eight_are_kept}
 use Rattle.mount_replies.proofs.laws.logs_have_the_last_eight.Goals as goal
 
@@ -7,3 +8,6 @@ returns-clause-kept c = last_eight_are_kept
 
 pub returns-clause-noted : goal.returns-clause-noted
 returns-clause-noted c = noted_writes_were_refused
+
+pub returns-clause-all : goal.returns-clause-all
+returns-clause-all c = refused_writes_are_noted
