@@ -1,4 +1,5 @@
 pub mod ServiceLemmas
 pub mod KnownBytes
 pub mod RecordLemmas
+pub mod RowLemmas
 pub mod ReaderLemmas

@@ -105,6 +105,12 @@ answered g past before (one ∷ more) after mounted terms h =
       is_last = rest.is_last;
     }
 
+-- a mounted tracer is one state, but for the requests that led to it
+same-state : (mount : MountSeen) (past others : List Request) (one other : Service) → service_of past mount ≡ one → service_of others mount ≡ other
+    → one ≡ record other { past = one.past }
+same-state mount past others one other is also =
+    subst (λ (s : Service). s ≡ record other { past = s.past }) is (subst (λ (s : Service). service_of past mount ≡ record s { past = past }) also refl)
+
 module _ (g : Terms) (before : MountServer) (mounted : IsMounted [] before.mount) (terms : terms_of before.mount ≡ g) (closed : before.mount.files ≡ []) (unparked : before.mount.parked ≡ [])
     (unrefused : before.mount.errors ≡ []) (uncounted : before.mount.counted ≡ []) (begun : before.is_destroyed ≡ false) where
   all_served : (exchanges : List Exchange) (after : MountServer) (h : AnswersAll Answers ends owes before exchanges after) → AreServed g exchanges (answered g [] before exchanges after mounted terms h).last
@@ -130,6 +136,7 @@ module _ (g : Terms) (before : MountServer) (mounted : IsMounted [] before.mount
         served = all_served h.done h.now h.answered;
         last = rest.last;
         more = subst (λ (s : Service). Serves g s (map (λ (one : Exchange). one.request) h.later) (map (λ (one : Exchange). one.reply) h.later) rest.last) all.is_last rest.served;
+        last_is = same-state after.mount rest.past_after whole.past_after rest.last whole.last rest.is_last whole.is_last;
         last_owes = sym rest.owes ∙ whole.owes;
         nothing_owed = sym all.owes ∙ h.waiting.1;
         mounted = sym (all.ends begun) ∙ h.waiting.0;

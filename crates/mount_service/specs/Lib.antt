@@ -1,5 +1,6 @@
 pub mod TracerServices
 pub mod TracerLaws
 pub mod RecordLaws
+pub mod RecordRows
 pub mod ReaderLaws
 pub mod private

@@ -50,8 +50,8 @@ abbrev pub AreServed : Terms → List Exchange → Service → Type 0
 AreServed g exchanges after = Serves g just_mounted (map (λ (one : Exchange). one.request) exchanges) (map (λ (one : Exchange). one.reply) exchanges) after
 
 -- After these calls a read comes: all that was read before was served, but for bytes that begin no whole request, and all replies and all that was
--- owed were written; nothing is owed then, and no DESTROY came. From this very state what came later was served; what this led to owes something
--- exactly if the service at its end does.
+-- owed were written; nothing is owed then, and no DESTROY came. From this very state what came later was served, and this led to the service's last state,
+-- but that the requests of its past may be others that led to the same tracer; it owes something exactly if the service at its end does.
 pub record IsReadNext (g : Terms) (after : Service) (calls : List Call) (exchanges : List Exchange) : Type 0 where
   pub done : List Exchange
   pub later : List Exchange
@@ -64,6 +64,7 @@ pub record IsReadNext (g : Terms) (after : Service) (calls : List Call) (exchang
   pub served : AreServed g done now
   pub last : Service
   pub more : Serves g now (map (λ (one : Exchange). one.request) later) (map (λ (one : Exchange). one.reply) later) last
+  pub last_is : last ≡ record after { past = last.past }
   pub last_owes : owes_after g last ≡ owes_after g after
   pub nothing_owed : owes_after g now ≡ false
   pub mounted : has_destroy done ≡ false

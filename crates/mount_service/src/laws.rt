@@ -2,6 +2,7 @@
 
 ghost use Rattle.mount_service.specs.ReaderLaws.{ExchangesTakeForOne, NoRecordIsTakenTwice, TakenIsOfOneRead};
 ghost use Rattle.mount_service.specs.RecordLaws.{ServicesAreAccountedFor, StatsTellAllRecords};
+ghost use Rattle.mount_service.specs.RecordRows.{ServedRecordsShowEmissions, ServedRecordsShowTheirRows};
 ghost use Rattle.mount_service.specs.TracerLaws.{CallsAreServed, KnownBytesAreServed};
 
 /// If what the reads of a device gave are whole requests, a service that found the end, or that the device is gone, served exactly these, and its writes
@@ -23,6 +24,19 @@ pub fn records_are_accounted_for()
     history_laws::laws::emissions_are_accounted_for();
     mount_replies::laws::pasts_are_done();
     mount_replies::laws::reads_show_the_past();
+}
+
+/// With a configuration in range, whatever was served: the line of each emission's record shows the row that was emitted, whatever was done after it
+/// (`rows`), and each record that a CPU's ring of an instance keeps, of either side, has such a line: of an emission on that CPU, since the instance was
+/// made, which the instance recorded (`kept`).
+pub fn records_show_what_was_emitted()
+    ensures rows { ServedRecordsShowTheirRows }
+    ensures kept { ServedRecordsShowEmissions }
+{
+    tracer_specification::laws::records_show_their_rows();
+    tracer_specification::laws::kept_records_show_emissions();
+    mount_replies::laws::pasts_are_done();
+    mount_replies::laws::pasts_fit_their_types();
 }
 
 /// No record goes to two readers, whatever was served: of all records that reads of an instance's pipes took no two are one (`once`); what an
