@@ -59,8 +59,8 @@ def gate(user, has, status=0):
 
 def installs(_):
     """.ci/run installs what the tests want and what is missing, if it is root's, and checks in any case."""
-    every = ["busybox", "cc", "fusermount3", "groff", "pkg-config", "python3", "strace", "trace-cmd"]
-    packages = ["busybox-static", "fuse3", "gcc", "groff-base", "libc6-dev", "libtraceevent-dev", "libtracefs-dev", "pkg-config", "python3", "strace", "trace-cmd"]
+    every = ["busybox", "cc", "fusermount3", "groff", "pkg-config", "python3", "rsync", "strace", "trace-cmd"]
+    packages = ["busybox-static", "fuse3", "gcc", "groff-base", "libc6-dev", "libtraceevent-dev", "libtracefs-dev", "pkg-config", "python3", "rsync", "strace", "trace-cmd"]
     wanted = (
         (gate(0, []), packages + ["update"]),
         (gate(0, every), []),
