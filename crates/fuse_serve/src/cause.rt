@@ -5,6 +5,15 @@ ghost use Rattle.fuse_serve.specs.Causes as causes;
 
 use std::io;
 
+// errno.h.
+const ENOENT: i32 = 2;
+
+const EINTR: i32 = 4;
+
+const ENODEV: i32 = 19;
+
+const ECONNABORTED: i32 = 103;
+
 /// Why a call failed.
 #[derive(Clone, Copy, Debug, PartialEq, Eq)]
 pub enum Cause {
@@ -23,9 +32,9 @@ pub(crate) fn cause_of(error: &io::Error) -> Cause
     ensures { result ≡ causes.cause_of error.now }
 {
     match error.raw_os_error() {
-        Some(2) => Cause::NoEntry,
-        Some(4) => Cause::Interrupted,
-        Some(19 | 103) => Cause::NoDevice,
+        Some(ENOENT) => Cause::NoEntry,
+        Some(EINTR) => Cause::Interrupted,
+        Some(ENODEV | ECONNABORTED) => Cause::NoDevice,
         _ => Cause::Other,
     }
 }

@@ -2,7 +2,11 @@
 //!
 //! Most bodies have one length, so after it is tested their numbers are read where they lie.
 
-ghost use Rattle.fuse_wire.specs.private.Answers.{Decodes};
+ghost use Rattle.std.specs.Prelude.{◌≡◌, ℕ, List, [], ◌∷◌};
+ghost use Rattle.fuse_wire.specs.Parts.{Ignored};
+ghost use Rattle.fuse_wire.specs.Requests.{HasOwnOpcode, body as parts_of, opcode_of};
+ghost use Rattle.fuse_wire.specs.declared.request.Operation.{Operation as Seen};
+ghost use Rattle.fuse_wire.specs.private.Answers.{Decodes, IsBody};
 
 use crate::bytes::Bytes;
 use crate::names::name_in;
@@ -13,6 +17,31 @@ use crate::opcode::{
     SETATTR, STATFS, WRITE,
 };
 use crate::request::Operation;
+use crate::sizes::{
+    FUSE_ACCESS_IN, FUSE_BATCH_FORGET_IN, FUSE_FLUSH_IN, FUSE_FORGET_IN, FUSE_FORGET_ONE,
+    FUSE_FSYNC_IN, FUSE_GETATTR_IN, FUSE_GETXATTR_IN, FUSE_INIT_IN, FUSE_INTERRUPT_IN,
+    FUSE_MKDIR_IN, FUSE_OPEN_IN, FUSE_POLL_IN, FUSE_READ_IN, FUSE_RELEASE_IN, FUSE_SETATTR_IN,
+    FUSE_WRITE_IN,
+};
+
+/// An operation whose body is so many bytes of which none is read.
+fn unread<'a>(
+    opcode: u32,
+    body: &[u8],
+    size: usize,
+    operation: Operation<'a>,
+) -> Option<Operation<'a>>
+    requires opcode { opcode_of operation ≡ opcode }
+    requires own { HasOwnOpcode operation }
+    requires parts { parts_of operation ≡ Ignored size ∷ [] }
+    requires only { (bytes : List ℕ) (other : Seen) → IsBody opcode bytes other → other ≡ operation }
+    ensures { Decodes opcode body.now result }
+{
+    if body.len() != size {
+        return None;
+    }
+    Some(operation)
+}
 
 fn lookup(body: &[u8]) -> Option<Operation<'_>>
     ensures { Decodes LOOKUP body.now result }
@@ -23,28 +52,10 @@ fn lookup(body: &[u8]) -> Option<Operation<'_>>
     }
 }
 
-fn forget(body: &[u8]) -> Option<Operation<'_>>
-    ensures { Decodes FORGET body.now result }
-{
-    if body.len() != 8 {
-        return None;
-    }
-    Some(Operation::Forget)
-}
-
-fn get_attr(body: &[u8]) -> Option<Operation<'_>>
-    ensures { Decodes GETATTR body.now result }
-{
-    if body.len() != 16 {
-        return None;
-    }
-    Some(Operation::GetAttr)
-}
-
 fn set_attr(body: &[u8]) -> Option<Operation<'_>>
     ensures { Decodes SETATTR body.now result }
 {
-    if body.len() != 88 {
+    if body.len() != FUSE_SETATTR_IN {
         return None;
     }
     Some(Operation::SetAttr {
@@ -56,10 +67,10 @@ fn set_attr(body: &[u8]) -> Option<Operation<'_>>
 fn mk_dir(body: &[u8]) -> Option<Operation<'_>>
     ensures { Decodes MKDIR body.now result }
 {
-    if body.len() < 8 {
+    if body.len() < FUSE_MKDIR_IN {
         return None;
     }
-    match name_in(&body[8..]) {
+    match name_in(&body[FUSE_MKDIR_IN..]) {
         Some(name) => Some(Operation::MkDir { name }),
         None => None,
     }
@@ -77,7 +88,7 @@ fn rm_dir(body: &[u8]) -> Option<Operation<'_>>
 fn open(body: &[u8]) -> Option<Operation<'_>>
     ensures { Decodes OPEN body.now result }
 {
-    if body.len() != 8 {
+    if body.len() != FUSE_OPEN_IN {
         return None;
     }
     Some(Operation::Open {
@@ -89,7 +100,7 @@ fn open(body: &[u8]) -> Option<Operation<'_>>
 fn read(body: &[u8]) -> Option<Operation<'_>>
     ensures { Decodes READ body.now result }
 {
-    if body.len() != 40 {
+    if body.len() != FUSE_READ_IN {
         return None;
     }
     Some(Operation::Read {
@@ -105,10 +116,10 @@ fn read(body: &[u8]) -> Option<Operation<'_>>
 fn write(body: &[u8]) -> Option<Operation<'_>>
     ensures { Decodes WRITE body.now result }
 {
-    if body.len() < 40 {
+    if body.len() < FUSE_WRITE_IN {
         return None;
     }
-    let bytes = &body[40..];
+    let bytes = &body[FUSE_WRITE_IN..];
     if u32_at(body, 16) as usize != bytes.len() {
         return None;
     }
@@ -132,7 +143,7 @@ fn stat_fs(body: &[u8]) -> Option<Operation<'_>>
 fn release(body: &[u8]) -> Option<Operation<'_>>
     ensures { Decodes RELEASE body.now result }
 {
-    if body.len() != 24 {
+    if body.len() != FUSE_RELEASE_IN {
         return None;
     }
     Some(Operation::Release {
@@ -140,40 +151,22 @@ fn release(body: &[u8]) -> Option<Operation<'_>>
     })
 }
 
-fn fsync(body: &[u8]) -> Option<Operation<'_>>
-    ensures { Decodes FSYNC body.now result }
-{
-    if body.len() != 16 {
-        return None;
-    }
-    Some(Operation::Fsync)
-}
-
 fn get_xattr(body: &[u8]) -> Option<Operation<'_>>
     ensures { Decodes GETXATTR body.now result }
 {
-    if body.len() < 8 {
+    if body.len() < FUSE_GETXATTR_IN {
         return None;
     }
-    match name_in(&body[8..]) {
+    match name_in(&body[FUSE_GETXATTR_IN..]) {
         Some(name) => Some(Operation::GetXAttr { name }),
         None => None,
     }
 }
 
-fn list_xattr(body: &[u8]) -> Option<Operation<'_>>
-    ensures { Decodes LISTXATTR body.now result }
-{
-    if body.len() != 8 {
-        return None;
-    }
-    Some(Operation::ListXAttr)
-}
-
 fn flush(body: &[u8]) -> Option<Operation<'_>>
     ensures { Decodes FLUSH body.now result }
 {
-    if body.len() != 24 {
+    if body.len() != FUSE_FLUSH_IN {
         return None;
     }
     Some(Operation::Flush {
@@ -185,7 +178,7 @@ fn flush(body: &[u8]) -> Option<Operation<'_>>
 fn init(body: &[u8]) -> Option<Operation<'_>>
     ensures { Decodes INIT body.now result }
 {
-    if body.len() < 16 {
+    if body.len() < FUSE_INIT_IN {
         return None;
     }
     Some(Operation::Init {
@@ -196,19 +189,10 @@ fn init(body: &[u8]) -> Option<Operation<'_>>
     })
 }
 
-fn open_dir(body: &[u8]) -> Option<Operation<'_>>
-    ensures { Decodes OPENDIR body.now result }
-{
-    if body.len() != 8 {
-        return None;
-    }
-    Some(Operation::OpenDir)
-}
-
 fn read_dir(body: &[u8]) -> Option<Operation<'_>>
     ensures { Decodes READDIR body.now result }
 {
-    if body.len() != 40 {
+    if body.len() != FUSE_READ_IN {
         return None;
     }
     Some(Operation::ReadDir {
@@ -221,7 +205,7 @@ fn read_dir(body: &[u8]) -> Option<Operation<'_>>
 fn release_dir(body: &[u8]) -> Option<Operation<'_>>
     ensures { Decodes RELEASEDIR body.now result }
 {
-    if body.len() != 24 {
+    if body.len() != FUSE_RELEASE_IN {
         return None;
     }
     Some(Operation::ReleaseDir {
@@ -232,7 +216,7 @@ fn release_dir(body: &[u8]) -> Option<Operation<'_>>
 fn access(body: &[u8]) -> Option<Operation<'_>>
     ensures { Decodes ACCESS body.now result }
 {
-    if body.len() != 8 {
+    if body.len() != FUSE_ACCESS_IN {
         return None;
     }
     Some(Operation::Access {
@@ -243,7 +227,7 @@ fn access(body: &[u8]) -> Option<Operation<'_>>
 fn interrupt(body: &[u8]) -> Option<Operation<'_>>
     ensures { Decodes INTERRUPT body.now result }
 {
-    if body.len() != 8 {
+    if body.len() != FUSE_INTERRUPT_IN {
         return None;
     }
     Some(Operation::Interrupt {
@@ -263,7 +247,7 @@ fn destroy(body: &[u8]) -> Option<Operation<'_>>
 fn poll(body: &[u8]) -> Option<Operation<'_>>
     ensures { Decodes POLL body.now result }
 {
-    if body.len() != 24 {
+    if body.len() != FUSE_POLL_IN {
         return None;
     }
     Some(Operation::Poll {
@@ -277,11 +261,11 @@ fn poll(body: &[u8]) -> Option<Operation<'_>>
 fn batch_forget(body: &[u8]) -> Option<Operation<'_>>
     ensures { Decodes BATCH_FORGET body.now result }
 {
-    if body.len() < 8 {
+    if body.len() < FUSE_BATCH_FORGET_IN {
         return None;
     }
     let count = u32_at(body, 0);
-    if body.len() - 8 != count as usize * 16 {
+    if body.len() - FUSE_BATCH_FORGET_IN != count as usize * FUSE_FORGET_ONE {
         return None;
     }
     Some(Operation::BatchForget { count })
@@ -294,8 +278,8 @@ pub(crate) fn operation_of(opcode: u32, body: &[u8]) -> Option<Operation<'_>>
 {
     match opcode {
         LOOKUP => lookup(body),
-        FORGET => forget(body),
-        GETATTR => get_attr(body),
+        FORGET => unread(FORGET, body, FUSE_FORGET_IN, Operation::Forget),
+        GETATTR => unread(GETATTR, body, FUSE_GETATTR_IN, Operation::GetAttr),
         SETATTR => set_attr(body),
         MKDIR => mk_dir(body),
         RMDIR => rm_dir(body),
@@ -304,12 +288,12 @@ pub(crate) fn operation_of(opcode: u32, body: &[u8]) -> Option<Operation<'_>>
         WRITE => write(body),
         STATFS => stat_fs(body),
         RELEASE => release(body),
-        FSYNC => fsync(body),
+        FSYNC => unread(FSYNC, body, FUSE_FSYNC_IN, Operation::Fsync),
         GETXATTR => get_xattr(body),
-        LISTXATTR => list_xattr(body),
+        LISTXATTR => unread(LISTXATTR, body, FUSE_GETXATTR_IN, Operation::ListXAttr),
         FLUSH => flush(body),
         INIT => init(body),
-        OPENDIR => open_dir(body),
+        OPENDIR => unread(OPENDIR, body, FUSE_OPEN_IN, Operation::OpenDir),
         READDIR => read_dir(body),
         RELEASEDIR => release_dir(body),
         ACCESS => access(body),

@@ -14,6 +14,7 @@ mod number;
 mod opcode;
 mod reply;
 mod request;
+mod sizes;
 mod words;
 
 pub use attributes::{Attributes, FileKind};

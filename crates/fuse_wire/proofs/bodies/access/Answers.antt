@@ -4,8 +4,8 @@ use Rattle.fuse_wire.proofs.PartLemmas.{ignored_at, part_at, end_at}
 use Rattle.fuse_wire.proofs.Decoding.{decodes, of_another_length}
 use Rattle.fuse_wire.proofs.bodies.access.Goals as goal
 
-pub returns-then-body-ne8 : goal.returns-then-body-ne8
-returns-then-body-ne8 c = of_another_length 34 c.args.body.now refl (λ e. omega arith)
+pub returns-then-body-ne-FUSE_ACCESS_IN : goal.returns-then-body-ne-FUSE_ACCESS_IN
+returns-then-body-ne-FUSE_ACCESS_IN c = of_another_length 34 c.args.body.now refl (λ e. omega arith)
 
 pub returns : goal.returns
 returns c =

@@ -5,8 +5,8 @@ use Rattle.fuse_wire.proofs.PartLemmas.{part_at, ignored_at, end_at}
 use Rattle.fuse_wire.proofs.Decoding.{decodes, of_another_length, too_few}
 use Rattle.fuse_wire.proofs.bodies.batch_forget.Goals as goal
 
-pub returns-then-body-lt8 : goal.returns-then-body-lt8
-returns-then-body-lt8 c = too_few 42 c.args.body.now (λ l. omega arith)
+pub returns-then-body-lt-FUSE_BATCH_FORGET_IN : goal.returns-then-body-lt-FUSE_BATCH_FORGET_IN
+returns-then-body-lt-FUSE_BATCH_FORGET_IN c = too_few 42 c.args.body.now (λ l. omega arith)
 
 pub returns-then-body-count : goal.returns-then-body-count
 returns-then-body-count c =

@@ -4,8 +4,8 @@ use Rattle.fuse_wire.proofs.PartLemmas.{ignored_at, part_at, end_at}
 use Rattle.fuse_wire.proofs.Decoding.{decodes, of_another_length}
 use Rattle.fuse_wire.proofs.bodies.flush.Goals as goal
 
-pub returns-then-body-ne24 : goal.returns-then-body-ne24
-returns-then-body-ne24 c = of_another_length 25 c.args.body.now refl (λ e. omega arith)
+pub returns-then-body-ne-FUSE_FLUSH_IN : goal.returns-then-body-ne-FUSE_FLUSH_IN
+returns-then-body-ne-FUSE_FLUSH_IN c = of_another_length 25 c.args.body.now refl (λ e. omega arith)
 
 pub returns : goal.returns
 returns c =

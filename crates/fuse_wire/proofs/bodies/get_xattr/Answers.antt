@@ -7,7 +7,7 @@ returns-in-Some c =
     decodes 22 c.args.body.now _ (record {
       opcode_is = refl;
       own_opcode = tt;
-      parts = after_eight c.args.body.now c.in-Some.name c.name_in.result c.if-body-lt8.false c.name_in.ensures c.in-Some.is;
+      parts = after_eight c.args.body.now c.in-Some.name c.name_in.result c.if-body-lt-FUSE_GETXATTR_IN.false c.name_in.ensures c.in-Some.is;
     })
 
 pub returns-in-None : goal.returns-in-None

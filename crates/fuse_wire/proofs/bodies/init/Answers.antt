@@ -4,8 +4,8 @@ use Rattle.fuse_wire.proofs.PartLemmas.{part_at, alone}
 use Rattle.fuse_wire.proofs.Decoding.{decodes, too_few}
 use Rattle.fuse_wire.proofs.bodies.init.Goals as goal
 
-pub returns-then-body-lt16 : goal.returns-then-body-lt16
-returns-then-body-lt16 c = too_few 26 c.args.body.now (λ l. omega arith)
+pub returns-then-body-lt-FUSE_INIT_IN : goal.returns-then-body-lt-FUSE_INIT_IN
+returns-then-body-lt-FUSE_INIT_IN c = too_few 26 c.args.body.now (λ l. omega arith)
 
 pub returns : goal.returns
 returns c =

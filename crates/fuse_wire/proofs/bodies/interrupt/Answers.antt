@@ -4,8 +4,8 @@ use Rattle.fuse_wire.proofs.PartLemmas.{part_at, end_at}
 use Rattle.fuse_wire.proofs.Decoding.{decodes, of_another_length}
 use Rattle.fuse_wire.proofs.bodies.interrupt.Goals as goal
 
-pub returns-then-body-ne8 : goal.returns-then-body-ne8
-returns-then-body-ne8 c = of_another_length 36 c.args.body.now refl (λ e. omega arith)
+pub returns-then-body-ne-FUSE_INTERRUPT_IN : goal.returns-then-body-ne-FUSE_INTERRUPT_IN
+returns-then-body-ne-FUSE_INTERRUPT_IN c = of_another_length 36 c.args.body.now refl (λ e. omega arith)
 
 pub returns : goal.returns
 returns c =

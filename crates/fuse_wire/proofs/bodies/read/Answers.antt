@@ -4,8 +4,8 @@ use Rattle.fuse_wire.proofs.PartLemmas.{ignored_at, part_at, end_at}
 use Rattle.fuse_wire.proofs.Decoding.{decodes, of_another_length}
 use Rattle.fuse_wire.proofs.bodies.read.Goals as goal
 
-pub returns-then-body-ne40 : goal.returns-then-body-ne40
-returns-then-body-ne40 c = of_another_length 15 c.args.body.now refl (λ e. omega arith)
+pub returns-then-body-ne-FUSE_READ_IN : goal.returns-then-body-ne-FUSE_READ_IN
+returns-then-body-ne-FUSE_READ_IN c = of_another_length 15 c.args.body.now refl (λ e. omega arith)
 
 pub returns : goal.returns
 returns c =

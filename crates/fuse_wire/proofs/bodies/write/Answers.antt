@@ -8,8 +8,8 @@ use Rattle.fuse_wire.proofs.Opcodes.{long_at, number_at}
 use Rattle.fuse_wire.proofs.Decoding.{decodes, none_decoded, too_few}
 use Rattle.fuse_wire.proofs.bodies.write.Goals as goal
 
-pub returns-then-body-lt40 : goal.returns-then-body-lt40
-returns-then-body-lt40 c = too_few 16 c.args.body.now (λ l. omega arith)
+pub returns-then-body-lt-FUSE_WRITE_IN : goal.returns-then-body-lt-FUSE_WRITE_IN
+returns-then-body-lt-FUSE_WRITE_IN c = too_few 16 c.args.body.now (λ l. omega arith)
 
 pub returns-then-u32_at-bytes : goal.returns-then-u32_at-bytes
 returns-then-u32_at-bytes c =
