@@ -11,9 +11,19 @@ pub(crate) const GETATTR: u32 = 3;
 
 pub(crate) const SETATTR: u32 = 4;
 
+pub const SYMLINK: u32 = 6;
+
+pub const MKNOD: u32 = 8;
+
 pub(crate) const MKDIR: u32 = 9;
 
+pub const UNLINK: u32 = 10;
+
 pub(crate) const RMDIR: u32 = 11;
+
+pub const RENAME: u32 = 12;
+
+pub const LINK: u32 = 13;
 
 pub(crate) const OPEN: u32 = 14;
 
@@ -43,6 +53,8 @@ pub(crate) const RELEASEDIR: u32 = 29;
 
 pub(crate) const ACCESS: u32 = 34;
 
+pub const CREATE: u32 = 35;
+
 pub(crate) const INTERRUPT: u32 = 36;
 
 pub(crate) const DESTROY: u32 = 38;
@@ -50,6 +62,8 @@ pub(crate) const DESTROY: u32 = 38;
 pub(crate) const POLL: u32 = 40;
 
 pub(crate) const BATCH_FORGET: u32 = 42;
+
+pub const RENAME2: u32 = 45;
 
 /// Whether a kernel awaits a reply to a request of this opcode.
 pub fn has_reply(opcode: u32) -> bool

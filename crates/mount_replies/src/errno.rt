@@ -4,6 +4,7 @@ ghost use Rattle.std.specs.Prelude.{◌≡◌};
 ghost use Rattle.mount_replies.specs.Errnos.{errno_of, errno_of_other};
 
 use fuse_wire::Errno;
+use fuse_wire::opcode::{CREATE, LINK, MKNOD, RENAME, RENAME2, SYMLINK, UNLINK};
 use trace_command::Refusal;
 
 /// What a refused command is told as.
@@ -46,8 +47,8 @@ pub(crate) fn errno_of_other(opcode: u32) -> Errno
     ensures { result ≡ errno_of_other opcode }
 {
     match opcode {
-        35 => Errno::EACCES,
-        6 | 8 | 10 | 12 | 13 | 45 => Errno::EPERM,
+        CREATE => Errno::EACCES,
+        SYMLINK | MKNOD | UNLINK | RENAME | LINK | RENAME2 => Errno::EPERM,
         _ => Errno::ENOSYS,
     }
 }

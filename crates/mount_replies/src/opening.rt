@@ -15,9 +15,19 @@ ghost use Rattle.mount_replies.specs.private.ShortReplies.{IsShort};
 use crate::mount::Mount;
 use crate::open_file::OpenFile;
 use crate::told::{empties, may_open};
+use fuse_wire::headers::{
+    FOPEN_DIRECT_IO, FOPEN_NOFLUSH, FOPEN_NONSEEKABLE, FOPEN_STREAM, FUSE_POLL_SCHEDULE_NOTIFY,
+    POLLIN, POLLOUT, POLLRDNORM, POLLWRNORM,
+};
 use fuse_wire::{Errno, Reply};
 use mount_tree::{File, FileKind, Node, Owner, ToolFile};
 use trace_command::TopFile;
+
+/// The events of a poll of a pipe that can be read at once.
+const READY_PIPE: u32 = POLLIN | POLLRDNORM;
+
+/// Those of any other file.
+const READY_FILE: u32 = POLLIN | POLLOUT | POLLRDNORM | POLLWRNORM;
 
 /// The flags that a file is opened with: a kernel asks for each read, whatever the size, and a pipe has no places and several reads at once. Only of
 /// `inject` it tells that a descriptor is closed.
@@ -25,9 +35,11 @@ fn open_flags(kind: FileKind) -> u32
     ensures { result ≡ flags_of kind }
 {
     match kind {
-        FileKind::Pipe => 53,
-        FileKind::Inject => 1,
-        FileKind::Text | FileKind::Trace | FileKind::Tool | FileKind::ErrorLog => 33,
+        FileKind::Pipe => FOPEN_DIRECT_IO | FOPEN_NONSEEKABLE | FOPEN_STREAM | FOPEN_NOFLUSH,
+        FileKind::Inject => FOPEN_DIRECT_IO,
+        FileKind::Text | FileKind::Trace | FileKind::Tool | FileKind::ErrorLog => {
+            FOPEN_DIRECT_IO | FOPEN_NOFLUSH
+        }
     }
 }
 
@@ -165,7 +177,7 @@ impl Mount {
             | FileKind::Trace
             | FileKind::Inject
             | FileKind::Tool
-            | FileKind::ErrorLog => Reply::Poll { events: 325 },
+            | FileKind::ErrorLog => Reply::Poll { events: READY_FILE },
         }
     }
 
@@ -174,11 +186,11 @@ impl Mount {
         ensures step { StepsBy self.old self.new (polled waits handle wakeup flags self.old.files) result }
         ensures short { IsShort result }
     {
-        if flags % 2 == 1 {
+        if flags % 2 == FUSE_POLL_SCHEDULE_NOTIFY {
             self.files.keep_poll(handle, wakeup, waits);
         }
         Reply::Poll {
-            events: if waits { 0 } else { 65 },
+            events: if waits { 0 } else { READY_PIPE },
         }
     }
 }

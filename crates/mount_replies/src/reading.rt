@@ -21,6 +21,7 @@ use crate::open_file::is_read_out;
 use crate::parked::{Parked, add};
 use crate::telling::{MOST_DATA, tell_error, tell_part};
 use fuse_wire::Errno;
+use fuse_wire::headers::{FUSE_READ_LOCKOWNER, O_NONBLOCK};
 use mount_tree::{File, FileKind, Node, Owner};
 use std::alloc::Global;
 use trace_command::Reply as Answer;
@@ -46,18 +47,18 @@ fn text_in(alloc: Global, answer: Answer) -> Text
     }
 }
 
-/// Whether a read may not wait (O_NONBLOCK).
+/// Whether a read may not wait.
 fn is_nonblocking(flags: u32) -> bool
     ensures { result ≡ nonblocking flags }
 {
-    flags / 2048 % 2 == 1
+    flags / O_NONBLOCK % 2 == 1
 }
 
-/// Whether a READ with these flags is the page cache's (no FUSE_READ_LOCKOWNER).
+/// Whether a READ with these flags is the page cache's.
 pub(crate) fn is_cached(read_flags: u32) -> bool
     ensures { result ≡ of_page_cache read_flags }
 {
-    read_flags / 2 % 2 != 1
+    read_flags / FUSE_READ_LOCKOWNER % 2 != 1
 }
 
 impl Mount {

@@ -13,6 +13,7 @@ ghost use Rattle.mount_replies.specs.Sizes as sizes;
 
 use crate::counted::Counted;
 use crate::mount::Mount;
+use fuse_wire::headers::FATTR_SIZE;
 use fuse_wire::{Errno, Reply};
 use mount_tree::{File, FileKind, Node, Owner};
 use std::alloc::AllocError;
@@ -187,7 +188,7 @@ impl Mount {
             (sizes.set_attributes (terms_of self.old) (service_of past self.old) node valid size) (Some result) }
         ensures short { IsShort result }
     {
-        if valid / 8 % 2 == 1 && size != 0 {
+        if valid / FATTR_SIZE % 2 == 1 && size != 0 {
             return Reply::Error(Errno::EINVAL);
         }
         self.get_attributes(node)

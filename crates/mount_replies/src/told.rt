@@ -7,7 +7,12 @@ ghost use Rattle.mount_tree.specs.FileKinds.{access_of_file};
 ghost use Rattle.mount_replies.specs.Told as told;
 
 use crate::mount::Mount;
+use crate::telling::MOST_DATA;
 use file_list::Access;
+use fuse_wire::headers::{
+    FUSE_ATOMIC_O_TRUNC, FUSE_BIG_WRITES, FUSE_KERNEL_VERSION, MINOR_VERSION, O_ACCMODE, O_RDONLY,
+    O_TRUNC, O_WRONLY, R_OK, W_OK, X_OK,
+};
 use fuse_wire::{Agreement, Attributes, Errno, FileKind, Reply};
 use mount_tree::{File, Node};
 
@@ -70,7 +75,7 @@ fn may(access: Access, reads: bool, writes: bool) -> bool
 pub(crate) fn empties(flags: u32) -> bool
     ensures { result ≡ told.empties flags }
 {
-    flags / 512 % 2 == 1
+    flags / O_TRUNC % 2 == 1
 }
 
 /// Whether a file may be opened with these flags.
@@ -79,8 +84,8 @@ pub(crate) fn may_open(file: File, flags: u32) -> bool
 {
     may(
         file.access(),
-        flags % 4 != 1,
-        flags % 4 != 0 || empties(flags),
+        flags % (O_ACCMODE + 1) != O_WRONLY,
+        flags % (O_ACCMODE + 1) != O_RDONLY || empties(flags),
     )
 }
 
@@ -91,7 +96,7 @@ fn may_use(node: Node, mask: u32) -> bool
     match node {
         Node::Folder(_, _) => true,
         Node::File(_, file) => {
-            may(file.access(), mask / 4 % 2 == 1, mask / 2 % 2 == 1) && mask % 2 != 1
+            may(file.access(), mask / R_OK % 2 == 1, mask / W_OK % 2 == 1) && mask % 2 != X_OK
         }
     }
 }
@@ -101,17 +106,18 @@ pub(crate) fn agree(major: u32, max_readahead: u32, flags: u32) -> Reply<'static
     ensures reply { result ≡ told.agree major max_readahead flags }
     ensures short { IsShort result }
 {
-    if major < 7 {
+    if major < FUSE_KERNEL_VERSION {
         return Reply::Error(Errno::EPROTO);
     }
     Reply::Init(Agreement {
-        major: 7,
-        minor: 31,
+        major: FUSE_KERNEL_VERSION,
+        minor: MINOR_VERSION,
         max_readahead,
-        flags: flags / 8 % 2 * 8 + flags / 32 % 2 * 32,
+        flags: flags / FUSE_ATOMIC_O_TRUNC % 2 * FUSE_ATOMIC_O_TRUNC
+            + flags / FUSE_BIG_WRITES % 2 * FUSE_BIG_WRITES,
         max_background: 65_535,
         congestion_threshold: 65_535,
-        max_write: 131_072,
+        max_write: MOST_DATA,
     })
 }
 
