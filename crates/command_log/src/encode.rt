@@ -169,6 +169,7 @@ impl Chunk {
         ensures ahead { OnOk result (self.new.ahead ≡ to_le_bytes w64 ticket ++ to_le_bytes w32 by ++ other_bytes kind limit path.now text.now) }
         ensures short { (length path.now < 2 ^ 64) × (length text.now < 2 ^ 64) }
     {
+        // These do nothing, but that the proof knows how long both can be.
         let _path_length = path.len();
         let _text_length = text.len();
         self.make_room()?;
@@ -194,6 +195,7 @@ impl Chunk {
         ensures ahead { OnOk result (self.new.ahead ≡ to_le_bytes w64 ticket ++ to_le_bytes w32 by ++ other_bytes kind limit path.now []) }
         ensures short { length path.now < 2 ^ 64 }
     {
+        // Does nothing, but that the proof knows how long it can be.
         let _length = path.len();
         let head = other_head(ticket, by, kind, limit);
         let is_short = self.write_short(&head, path, &[])?;

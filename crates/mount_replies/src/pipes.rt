@@ -39,6 +39,7 @@ impl Mount {
             InstanceStandsFor self.now.live.config (owner_name self.now.scene owner) past instance.now) }
         ensures cpus { IfSome result (λ instance. buffers.cpus instance.now.sides.live ≡ self.now.live.config.cpus) }
     {
+        // Does nothing, but that the proof knows that some requests led to it.
         self.live.was_led();
         match owner {
             Owner::Top => self.live.instance(None),
