@@ -21,10 +21,11 @@ use trace_format::BorrowedPair;
 use trace_script::{EmissionHead, Line, Outcome, PlainRead, ScriptFault};
 use trace_workers::{ask, ask_emission, ask_read};
 
-/// The outcome of a line that is no command.
+/// The outcome of a line that is no command. Out of line, so that commands don't pay for what the other lines drop.
+#[inline(never)]
 #[tactic(auto, unfolding(crate::specs::Sessions::turn_of))]
-fn outcome_unasked(said: &Result<Line, ScriptFault>) -> Option<Outcome>
-    ensures { (g : Config) (before : Progress) (text : List ℕ) → ((command : Command) → said.now ≢ Ok (Line.Ask command)) → said.now ≡ line_of text
+fn unasked(said: Result<Line, ScriptFault>) -> Option<Outcome>
+    ensures { (g : Config) (before : Progress) (text : List ℕ) → ((command : Command) → said ≢ Ok (Line.Ask command)) → said ≡ line_of text
         → turn_of g before text ≡ record { outcome = result; progress = before } }
 {
     match said {
@@ -32,17 +33,8 @@ fn outcome_unasked(said: &Result<Line, ScriptFault>) -> Option<Outcome>
         Ok(Line::Parallel | Line::Thread | Line::End) => {
             Some(Outcome::Fault(ScriptFault::BlockOutOfPlace))
         }
-        Err(fault) => Some(Outcome::Fault(*fault)),
+        Err(fault) => Some(Outcome::Fault(fault)),
     }
-}
-
-/// As `outcome_unasked`, which then drops the line. Out of line, so that commands don't pay for what the other lines drop.
-#[inline(never)]
-fn unasked(said: Result<Line, ScriptFault>) -> Option<Outcome>
-    ensures { (g : Config) (before : Progress) (text : List ℕ) → ((command : Command) → said ≢ Ok (Line.Ask command)) → said ≡ line_of text
-        → turn_of g before text ≡ record { outcome = result; progress = before } }
-{
-    outcome_unasked(&said)
 }
 
 /// Runs a line. A command's ticket is the number of commands before it, refused ones included. If all tickets are drawn, which no script can reach,
