@@ -4,7 +4,8 @@ use Rattle.std.specs.List.{prefix_len}
 use Rattle.std.proofs.lemmas.Bool.{ne_eqb}
 use Rattle.std.proofs.lemmas.List.{drop-append-le, drop_more, get_or-append-add, get_or-drop, get_or-map, get_or-take, length-append, length-drop, length-map, length-take, length-take-le, take-append-drop}
 use Rattle.std.proofs.lemmas.List.Folds.{length-prefix_len}
-use Rattle.error_log.specs.Errors.{caret_of, column_at, first_line, is_in_line, last_line, line_at, pad_byte, shift_of, shown_byte, window}
+use Rattle.error_log.specs.Errors.{caret_of, column_at, first_line, is_in_line, last_line, line_at, shift_of, window}
+use Rattle.refusal_explanations.specs.Layout.{pad_byte, shown_byte}
 use Rattle.error_log.specs.LogLaws.{CaretStandsUnder}
 
 -- ---- cutting

@@ -1,11 +1,12 @@
 -- Writes that were refused, as `error_log` shows them (ftrace.rst, "The File System": error_log).
-use Rattle.std.specs.Prelude.{ℕ, ◌-◌, ◌==◌, ◌&&◌, nat_lt, Bool, not, List, [], ◌++◌, length, map, take, drop, reverse, Option, Some, codes, if◌then◌else◌}
+use Rattle.std.specs.Prelude.{ℕ, ◌-◌, ◌==◌, Bool, not, List, [], ◌++◌, length, map, take, drop, reverse, Option, Some, codes}
 use Rattle.std.specs.Fmt.{decimal}
 use Rattle.std.specs.List.{prefix_len}
 use Rattle.trace_command.specs.Paths.{File, OfInstance, OfEvent, address_of}
 use Rattle.trace_command.specs.declared.file_name.EventFile.TheVariants as per_event
 use Rattle.trace_command.specs.declared.file_name.TopFile.TheVariants as top
 use Rattle.mount_tree.specs.declared.node.Owner.{Owner}
+use Rattle.refusal_explanations.specs.Layout.{pad_byte, shown_bytes}
 
 -- A write that was refused: the instance whose file was written, when, what the file is called, what is kept of the line to blame, one sentence of what
 -- is wrong, and where in what is kept the byte is that is to blame.
@@ -76,20 +77,12 @@ refused error text sentence offset =
 abbrev pub time_text : ℕ → List ℕ
 time_text time = take (5 - length (decimal time)) (codes "     ") ++ decimal time ++ codes ".000000"
 
--- a byte that no line has is shown as a `?` (63)
-abbrev pub shown_byte : ℕ → ℕ
-shown_byte b = if b == 9 then b else if nat_lt 31 b && nat_lt b 127 then b else 63
-
--- what stands under a byte before the caret: a tab (9) under a tab, else a space
-abbrev pub pad_byte : ℕ → ℕ
-pad_byte b = if b == 9 then 9 else 32
-
 abbrev pub heading : ErrorSeen → List ℕ
 heading e = codes "[" ++ time_text e.time ++ codes "] " ++ e.name ++ codes ": error: " ++ e.sentence ++ codes "\n"
 
 -- what was written, and the caret under the byte that is to blame
 abbrev pub command : ErrorSeen → List ℕ
-command e = codes "  Command: " ++ map shown_byte e.written
+command e = codes "  Command: " ++ shown_bytes e.written
 
 abbrev pub before_caret : ErrorSeen → List ℕ
 before_caret e = codes "           " ++ map pad_byte (take e.at e.written)

@@ -1,7 +1,8 @@
 -- What is kept: of each instance the last eight errors since its log was cleared, whatever becomes of the others; and where the caret stands.
 use Rattle.std.specs.Prelude.{◌≡◌, ◌≢◌, ◌≤◌, ◌<◌, ℕ, ◌+◌, ◌-◌, List, [], ◌∷◌, ◌++◌, length, drop, slice_index, codes, if◌then◌else◌}
 use Rattle.mount_tree.specs.declared.node.Owner.{Owner}
-use Rattle.error_log.specs.Errors.{ErrorSeen, before_caret, begun, command, refused, shown_byte}
+use Rattle.error_log.specs.Errors.{ErrorSeen, before_caret, begun, command, refused}
+use Rattle.refusal_explanations.specs.Layout.{shown_byte}
 use Rattle.error_log.specs.Logs.{cleared, errors_of, is_of, is_same, noted}
 
 -- what happens to the logs

@@ -1,25 +1,13 @@
 //! The line of a text that is to blame, and what is kept of it.
 
-ghost use Rattle.std.specs.Prelude.{◌≡◌, ◌≤◌, drop, length, reverse, take};
+ghost use Rattle.std.specs.Prelude.{◌≡◌, ◌≤◌, length, reverse};
 ghost use Rattle.std.specs.List.{prefix_len};
 ghost use Rattle.error_log.specs.Errors as errors;
 
+use refusal_explanations::{after, up_to};
+
 /// The most bytes that are kept of a line.
 pub(crate) const MOST_BYTES: usize = 256;
-
-/// As many bytes as there are up to an offset.
-pub(crate) fn up_to(at: usize, text: &[u8]) -> &[u8]
-    ensures { result.now ≡ take at text.now }
-{
-    text.get(..at).unwrap_or(text)
-}
-
-/// What follows so many bytes.
-fn after(len: usize, text: &[u8]) -> &[u8]
-    ensures { result.now ≡ drop len text.now }
-{
-    text.get(len..).unwrap_or(&[])
-}
 
 /// How many bytes come before the first newline.
 fn first_line_len(text: &[u8]) -> usize

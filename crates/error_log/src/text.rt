@@ -1,47 +1,12 @@
 //! What is shown of a write that was refused.
 
-ghost use Rattle.std.specs.Prelude.{◌≡◌, ◌++◌, OnOk, map, take};
+ghost use Rattle.std.specs.Prelude.{◌≡◌, ◌++◌, OnOk, take};
 ghost use Rattle.error_log.specs.Errors as errors;
 
-use crate::blame::up_to;
 use crate::error::NotedError;
 use itoa::Buffer;
+use refusal_explanations::{push_padding, push_shown, up_to};
 use std::alloc::AllocError;
-
-/// A byte as it is shown.
-fn shown_byte(byte: u8) -> u8
-    ensures { result ≡ errors.shown_byte byte }
-{
-    match byte {
-        b'\t' | b' '..=b'~' => byte,
-        _ => b'?',
-    }
-}
-
-/// What stands under a byte before the caret.
-fn pad_byte(byte: u8) -> u8
-    ensures { result ≡ errors.pad_byte byte }
-{
-    if byte == b'\t' { b'\t' } else { b' ' }
-}
-
-fn push_shown(out: &mut Vec<u8>, bytes: &[u8]) -> Result<(), AllocError>
-    ensures { OnOk result (out.new.items ≡ out.old.items ++ map errors.shown_byte bytes.now) }
-{
-    for byte in bytes {
-        out.push(shown_byte(*byte))?;
-    }
-    Ok(())
-}
-
-fn push_padding(out: &mut Vec<u8>, above: &[u8]) -> Result<(), AllocError>
-    ensures { OnOk result (out.new.items ≡ out.old.items ++ map errors.pad_byte above.now) }
-{
-    for byte in above {
-        out.push(pad_byte(*byte))?;
-    }
-    Ok(())
-}
 
 fn push_time(out: &mut Vec<u8>, time: u64) -> Result<(), AllocError>
     ensures { OnOk result (out.new.items ≡ out.old.items ++ errors.time_text time) }

@@ -1,5 +1,4 @@
 pub mod CaretLemmas
 pub mod HistLemmas
 pub mod InjectionLemmas
-pub mod LayoutLemmas
 pub mod OpeningLemmas

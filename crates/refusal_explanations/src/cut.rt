@@ -12,14 +12,14 @@ use std::alloc::{AllocError, Global};
 use trace_lex::{is_blank, len_before};
 
 /// As many bytes as there are up to an offset.
-pub(crate) fn up_to(at: usize, text: &[u8]) -> &[u8]
+pub fn up_to(at: usize, text: &[u8]) -> &[u8]
     ensures { result.now ≡ take at text.now }
 {
     text.get(..at).unwrap_or(text)
 }
 
 /// What follows so many bytes.
-pub(crate) fn after(len: usize, text: &[u8]) -> &[u8]
+pub fn after(len: usize, text: &[u8]) -> &[u8]
     ensures { result.now ≡ drop len text.now }
 {
     text.get(len..).unwrap_or(&[])

@@ -42,7 +42,7 @@ fn pad_byte(byte: u8) -> u8
 }
 
 /// Appends bytes as they are shown.
-fn push_shown(out: &mut Vec<u8>, bytes: &[u8]) -> Result<(), AllocError>
+pub fn push_shown(out: &mut Vec<u8>, bytes: &[u8]) -> Result<(), AllocError>
     ensures { OnOk result (out.new.items ≡ out.old.items ++ shown_bytes bytes.now) }
 {
     for byte in bytes {
@@ -51,8 +51,8 @@ fn push_shown(out: &mut Vec<u8>, bytes: &[u8]) -> Result<(), AllocError>
     Ok(())
 }
 
-/// Appends what stands before a caret.
-fn push_padding(out: &mut Vec<u8>, above: &[u8]) -> Result<(), AllocError>
+/// Appends what stands before a caret under a line that begins with these bytes.
+pub fn push_padding(out: &mut Vec<u8>, above: &[u8]) -> Result<(), AllocError>
     ensures { OnOk result (out.new.items ≡ out.old.items ++ map pad_byte above.now) }
 {
     for byte in above {

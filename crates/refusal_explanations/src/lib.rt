@@ -20,8 +20,9 @@ mod subject;
 mod trigger_due;
 mod wording;
 
+pub use cut::{after, up_to};
 pub use explainer::Explainer;
 pub use injection::{injection_offset, injection_words};
-pub use layout::ScriptLine;
+pub use layout::{ScriptLine, push_padding, push_shown};
 pub use place::write_offset;
 pub use wording::write_words;

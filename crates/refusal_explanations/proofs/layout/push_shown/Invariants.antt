@@ -1,6 +1,7 @@
-use Rattle.std.proofs.Common.{◌≡◌, ◌++◌, map, take}
+use Rattle.std.proofs.Common.{◌≡◌, ◌++◌, map, drop}
 use Rattle.refusal_explanations.specs.Layout.{shown_byte}
 use Rattle.refusal_explanations.proofs.layout.push_shown.Given as goal
 
+-- what was written and what is left to write are all
 abbrev pub invariant-loop-byte : goal.invariant-loop-byte
-invariant-loop-byte l = l.out.items ≡ l.fn.out.items ++ map shown_byte (take l.byte-index l.bytes)
+invariant-loop-byte l = l.out.items ++ map shown_byte (drop l.byte-index l.bytes) ≡ l.initial.out.items ++ map shown_byte l.bytes
