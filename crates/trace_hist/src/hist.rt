@@ -38,6 +38,7 @@ ghost use Rattle.hist_entries.specs.PrintOrder.{row_in, printed};
 ghost use Rattle.trace_hist.specs.Hists.{StandsFor, IsReserved, IsReservedAs, NeedsEntry, NeedsEntryAs, HasRoom, IsReservedFor, IsCountedFor};
 
 use crate::counts::Counts;
+use crate::shared::SharedSpec;
 use crate::totals::Totals;
 use hist_entries::HistRow;
 use std::alloc::{AllocError, Global};
@@ -49,7 +50,7 @@ use trace_trigger::{Action, HistSpec};
 #[derive(Drop)]
 pub struct Hist {
     alloc: Global,
-    spec: HistSpec,
+    spec: SharedSpec,
     paused: bool,
     counts: Counts,
 }
@@ -69,7 +70,7 @@ impl Model for Hist {
 
 impl Hist {
     /// The histogram of a trigger, with nothing counted. It is paused where the trigger asks for it. It takes no memory, and never fails.
-    pub fn new(alloc: Global, spec: HistSpec) -> Result<Hist, AllocError>
+    pub fn new(alloc: Global, spec: SharedSpec) -> Result<Hist, AllocError>
         ensures ok { IsOk result }
         ensures stands { IfOk result (λ hist. StandsFor hist []) }
         ensures spec { IfOk result (λ hist. hist.spec ≡ spec) }

@@ -51,9 +51,9 @@ ask-answer spec kept written same event name past at are is =
     else new_hist_answer (trigger_of name event past) (own_left name past event written.append) (fits_named name past event written.append spec) spec.action)
     (has-same_left name past event kept spec written.append are ∙ at)
 
-ask-refused : (spec : SpecSeen) (event : Definition) (kept : EventTriggers) (written : WrittenText) → is_some (same_left spec kept written.append) ≡ true
-    → spec.action ≡ action.Attach → IsAsked spec event kept written (Err refusal.TriggerExists)
-ask-refused spec event kept written same attach = λ name past number are is.
+ask-refused : (spec : SpecSeen) (kept : EventTriggers) (written : WrittenText) → is_some (same_left spec kept written.append) ≡ true
+    → spec.action ≡ action.Attach → IsAsked spec kept written (Err refusal.TriggerExists)
+ask-refused spec kept written same attach = λ event name past number are is.
     refused refusal.TriggerExists (trigger_answer name past written.append written.text.now event)
     (ask-answer spec kept written true event name past same are is ∙ ap asked_answer attach)
 
@@ -70,10 +70,10 @@ said-same name past event append spec same =
     ap (has_same spec) (own-left event append (hist_triggers name past)) ∙ same in
     rw there refl
 
-ask-done : (spec : SpecSeen) (event : Definition) (kept : EventTriggers) (written : WrittenText) (a : AttachedHist)
+ask-done : (spec : SpecSeen) (kept : EventTriggers) (written : WrittenText) (a : AttachedHist)
     → same_left spec kept written.append ≡ Some a
-    → (spec.action ≡ action.Attach → ⊥) → IsAsked spec event kept written (Ok (AskTable a.table spec.action))
-ask-done spec event kept written a found other = λ name past number are is.
+    → (spec.action ≡ action.Attach → ⊥) → IsAsked spec kept written (Ok (AskTable a.table spec.action))
+ask-done spec kept written a found other = λ event name past number are is.
     let same : is_some (same_left spec kept written.append) ≡ true = ap is_some found in
     let there : has_same spec (own_left name past event written.append) ≡ true = has-same_left name past event kept spec written.append are ∙ same in (
       ask-answer spec kept written true event name past same are is ∙ asked-done spec.action other,
@@ -90,17 +90,17 @@ ask-done spec event kept written a found other = λ name past number are is.
       },
     )
 
-pub ask-again : (spec : SpecSeen) (event : Definition) (kept : EventTriggers) (written : WrittenText) (a : AttachedHist)
-    → same_left spec kept written.append ≡ Some a → IsAsked spec event kept written (asked_change a.table spec.action)
-ask-again spec event kept written a found = by spec.action refl
+pub ask-again : (spec : SpecSeen) (kept : EventTriggers) (written : WrittenText) (a : AttachedHist)
+    → same_left spec kept written.append ≡ Some a → IsAsked spec kept written (asked_change a.table spec.action)
+ask-again spec kept written a found = by spec.action refl
   where
-    done : (asked : Action) → spec.action ≡ asked → (asked ≡ action.Attach → ⊥) → IsAsked spec event kept written (Ok (AskTable a.table asked))
+    done : (asked : Action) → spec.action ≡ asked → (asked ≡ action.Attach → ⊥) → IsAsked spec kept written (Ok (AskTable a.table asked))
     done asked is other =
-        subst (λ (b : Action). IsAsked spec event kept written (Ok (AskTable a.table b))) is
-        (ask-done spec event kept written a found (λ attaching. other (sym is ∙ attaching)))
+        subst (λ (b : Action). IsAsked spec kept written (Ok (AskTable a.table b))) is
+        (ask-done spec kept written a found (λ attaching. other (sym is ∙ attaching)))
 
-    by : (asked : Action) → spec.action ≡ asked → IsAsked spec event kept written (asked_change a.table asked)
-    by action.Attach is = ask-refused spec event kept written (ap is_some found) is
+    by : (asked : Action) → spec.action ≡ asked → IsAsked spec kept written (asked_change a.table asked)
+    by action.Attach is = ask-refused spec kept written (ap is_some found) is
     by asked is = done asked is (λ other. absurd (cc))
 
 -- ---- where none says the same
@@ -117,9 +117,9 @@ new-attaches attached hists fits action.Attach attaching = refl
 new-attaches attached hists fits action.Pause attaching = refl
 new-attaches attached hists fits asked attaching = absurd (cc)
 
-pub ask-lacks : (spec : SpecSeen) (event : Definition) (kept : EventTriggers) (written : WrittenText) → same_left spec kept written.append ≡ None
-    → attaches spec.action ≡ false → IsAsked spec event kept written (Err refusal.NoSuchTrigger)
-ask-lacks spec event kept written none lacking = λ name past number are is.
+pub ask-lacks : (spec : SpecSeen) (kept : EventTriggers) (written : WrittenText) → same_left spec kept written.append ≡ None
+    → attaches spec.action ≡ false → IsAsked spec kept written (Err refusal.NoSuchTrigger)
+ask-lacks spec kept written none lacking = λ event name past number are is.
     refused refusal.NoSuchTrigger (trigger_answer name past written.append written.text.now event)
     (ask-answer spec kept written false event name past (ap is_some none) are is
     ∙ new-lacks (trigger_of name event past) (own_left name past event written.append) (fits_named name past event written.append spec) spec.action lacking)
@@ -133,9 +133,9 @@ room-answer spec kept written event name past none attaching are is =
     ask-answer spec kept written false event name past (ap is_some none) are is
     ∙ new-attaches (trigger_of name event past) (own_left name past event written.append) (fits_named name past event written.append spec) spec.action attaching
 
-pub ask-full : (spec : SpecSeen) (event : Definition) (kept : EventTriggers) (written : WrittenText) → same_left spec kept written.append ≡ None
-    → attaches spec.action ≡ true → 4 ≤ kept_count kept written.append → IsAsked spec event kept written (Err refusal.TooMany)
-ask-full spec event kept written none attaching many = λ name past number are is.
+pub ask-full : (spec : SpecSeen) (kept : EventTriggers) (written : WrittenText) → same_left spec kept written.append ≡ None
+    → attaches spec.action ≡ true → 4 ≤ kept_count kept written.append → IsAsked spec kept written (Err refusal.TooMany)
+ask-full spec kept written none attaching many = λ event name past number are is.
     let full : 4 ≤ trigger_count (trigger_of name event past) (own_left name past event written.append) =
     omega (arith, many, count-left name past event kept written.append are) in
     refused refusal.TooMany (trigger_answer name past written.append written.text.now event)

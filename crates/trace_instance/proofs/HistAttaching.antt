@@ -102,9 +102,9 @@ none-there name past event kept append spec are lost =
 
 -- ---- a text for which there is room
 
-module _ (spec : SpecSeen) (event : Definition) (kept : EventTriggers) (written : WrittenText) (none : same_left spec kept written.append ≡ None)
+module _ (spec : SpecSeen) (kept : EventTriggers) (written : WrittenText) (none : same_left spec kept written.append ≡ None)
     (attaching : attaches spec.action ≡ true) (few : kept_count kept written.append < 4) where
-  module _ (name : Option (List ℕ)) (past : List Request) (number : length past ≡ written.number) (are : AreKept name past event kept)
+  module _ (event : Definition) (name : Option (List ℕ)) (past : List Request) (number : length past ≡ written.number) (are : AreKept name past event kept)
       (is : said_of event written.text.now ≡ Ok (said.Hist spec)) where
     abbrev request : Request
     request = text_request name event written.append written.text.now
@@ -142,103 +142,103 @@ module _ (spec : SpecSeen) (event : Definition) (kept : EventTriggers) (written 
   -- ---- one that names the table of another trigger
 
   module _ (other : AttachedHist) (found : named_in spec (left_of kept written.append) ≡ Some other) where
-    joined-fits : (name : Option (List ℕ)) (past : List Request) → AreKept name past event kept → (fits : Bool) → is_fitting spec other.spec ≡ fits
+    joined-fits : (event : Definition) (name : Option (List ℕ)) (past : List Request) → AreKept name past event kept → (fits : Bool) → is_fitting spec other.spec ≡ fits
         → fits_named name past event written.append spec ≡ fits
-    joined-fits name past are fits at =
+    joined-fits event name past are fits at =
         let joined = named-there name past event kept written.append spec other are found in
         let here : is_fitting spec joined.t.spec ≡ fits = ap (λ (a : AttachedHist). is_fitting spec a.spec) joined.seen ∙ at in
         sym (book-alike name past event kept written.append spec are).fits ∙ ap (fits_that spec) joined.found ∙ here
 
     -- it counts in that table
-    join-done : (attached : Box AttachedHist) → is_fitting spec other.spec ≡ true → attached.value ≡ new_as written.number other.table spec
-        → IsAsked spec event kept written (Ok (AttachHist attached))
-    join-done attached fits same = λ name past number are is.
+    join-done : (attached : AttachedHist) → is_fitting spec other.spec ≡ true → attached ≡ new_as written.number other.table spec
+        → IsAsked spec kept written (Ok (AttachHist attached))
+    join-done attached fits same = λ event name past number are is.
         let joined = named-there name past event kept written.append spec other are found in
         let table : table_or (length past) (named_by spec (all_left name past event written.append)) ≡ other.table =
         sym (book-alike name past event kept written.append spec are).table ∙ ap (table_or (length past)) joined.found
         ∙ ap (λ (a : AttachedHist). a.table) joined.seen in
         let here : is_fitting spec joined.t.spec ≡ true = ap (λ (a : AttachedHist). is_fitting spec a.spec) joined.seen ∙ fits in
         let there = in-contains joined.t (hist_triggers name past) joined.there in
-        let fitting = joined-fits name past are true fits in (
-          fitting-answer name past number are is true fitting,
+        let fitting = joined-fits event name past are true fits in (
+          fitting-answer event name past number are is true fitting,
           record {
             snapshot = snapshot-stays name past event written.append written.text.now (Ok (said.Hist spec)) is refl;
-            hists = hists-now name past number are is attached.value other.table same table;
-            possible = newest-now name past number are is attached.value other.table same;
-            tables = asked-now name past number are is attached.value other.table same table;
+            hists = hists-now event name past number are is attached other.table same table;
+            possible = newest-now event name past number are is attached other.table same;
+            tables = asked-now event name past number are is attached other.table same table;
             joined = subst (Joins name past) (sym same) (record {
               t = joined.t;
               there = there;
               table = ap (λ (a : AttachedHist). a.table) joined.seen;
               alike = said-alike name past event written.text.now spec joined.t there is here;
             });
-            fitting = fit-attached name past event are.id written.append written.text.now spec are.named is (lacks name past number are is) fitting;
+            fitting = fit-attached name past event are.id written.append written.text.now spec are.named is (lacks event name past number are is) fitting;
             spare = rw is refl;
           },
         )
 
     -- there is no memory for it
-    join-memory : is_fitting spec other.spec ≡ true → IsAsked spec event kept written (Err refusal.Memory)
-    join-memory fits = λ name past number are is.
+    join-memory : is_fitting spec other.spec ≡ true → IsAsked spec kept written (Err refusal.Memory)
+    join-memory fits = λ event name past number are is.
         done-late (trigger_answer name past written.append written.text.now event)
-        (fitting-answer name past number are is true (joined-fits name past are true fits))
+        (fitting-answer event name past number are is true (joined-fits event name past are true fits))
 
     -- it does not fit that table
-    join-refused : is_fitting spec other.spec ≡ false → IsAsked spec event kept written (Err refusal.TriggerExists)
-    join-refused fits = λ name past number are is.
+    join-refused : is_fitting spec other.spec ≡ false → IsAsked spec kept written (Err refusal.TriggerExists)
+    join-refused fits = λ event name past number are is.
         refused refusal.TriggerExists (trigger_answer name past written.append written.text.now event)
-        (fitting-answer name past number are is false (joined-fits name past are false fits))
+        (fitting-answer event name past number are is false (joined-fits event name past are false fits))
 
-    pub ask-joined : (result : Result TriggerChange Refusal) → IsJoinedChange written.number spec other result → IsAsked spec event kept written result
+    pub ask-joined : (result : Result TriggerChange Refusal) → IsJoinedChange written.number spec other result → IsAsked spec kept written result
     ask-joined (Ok (AttachHist attached)) is = join-done attached is.0 is.1
     ask-joined (Ok change) is = absurd is
-    ask-joined (Err refused) is = subst (λ (r : Refusal). IsAsked spec event kept written (Err r)) (sym is) (by (is_fitting spec other.spec) refl)
+    ask-joined (Err refused) is = subst (λ (r : Refusal). IsAsked spec kept written (Err r)) (sym is) (by (is_fitting spec other.spec) refl)
       where
         by : (fits : Bool) → is_fitting spec other.spec ≡ fits
-            → IsAsked spec event kept written (Err (if fits then refusal.Memory else refusal.TriggerExists))
+            → IsAsked spec kept written (Err (if fits then refusal.Memory else refusal.TriggerExists))
         by true fits = join-memory fits
         by false fits = join-refused fits
 
   -- ---- one that names none
 
   module _ (lost : named_in spec (left_of kept written.append) ≡ None) where
-    made-fits : (name : Option (List ℕ)) (past : List Request) → AreKept name past event kept → fits_named name past event written.append spec ≡ true
-    made-fits name past are =
+    made-fits : (event : Definition) (name : Option (List ℕ)) (past : List Request) → AreKept name past event kept → fits_named name past event written.append spec ≡ true
+    made-fits event name past are =
         sym (book-alike name past event kept written.append spec are).fits
         ∙ ap (fits_that spec) (none-there name past event kept written.append spec are lost)
 
     -- a table is made with it
     make-done : (made : Box NewHist) → made.value.attached ≡ new_as written.number written.number spec → made.value.hist.spec ≡ spec
-        → StandsFor made.value.hist [] → made.value.hist.paused ≡ is_pause spec.action → IsAsked spec event kept written (Ok (MakeHist made))
-    make-done made same says empty paused = λ name past number are is.
+        → StandsFor made.value.hist [] → made.value.hist.paused ≡ is_pause spec.action → IsAsked spec kept written (Ok (MakeHist made))
+    make-done made same says empty paused = λ event name past number are is.
         let table : table_or (length past) (named_by spec (all_left name past event written.append)) ≡ written.number =
         sym (book-alike name past event kept written.append spec are).table
         ∙ ap (table_or (length past)) (none-there name past event kept written.append spec are lost) ∙ number in
-        let fitting = made-fits name past are in (
-          fitting-answer name past number are is true fitting,
+        let fitting = made-fits event name past are in (
+          fitting-answer event name past number are is true fitting,
           record {
             snapshot = snapshot-stays name past event written.append written.text.now (Ok (said.Hist spec)) is refl;
-            hists = hists-now name past number are is made.value.attached written.number same table;
-            possible = newest-now name past number are is made.value.attached written.number same;
-            tables = asked-now name past number are is made.value.attached written.number same table;
+            hists = hists-now event name past number are is made.value.attached written.number same table;
+            possible = newest-now event name past number are is made.value.attached written.number same;
+            tables = asked-now event name past number are is made.value.attached written.number same table;
             joined = record {
               table = ap (λ (a : AttachedHist). a.table) same ∙ sym number;
               spec = says ∙ sym (ap (λ (a : AttachedHist). a.spec) same);
               empty = empty;
               paused = paused ∙ sym (ap (λ (a : AttachedHist). is_pause a.spec.action) same);
             };
-            fitting = fit-attached name past event are.id written.append written.text.now spec are.named is (lacks name past number are is) fitting;
+            fitting = fit-attached name past event are.id written.append written.text.now spec are.named is (lacks event name past number are is) fitting;
             spare = rw is refl;
           },
         )
 
     -- there is no memory for it
-    make-memory : IsAsked spec event kept written (Err refusal.Memory)
-    make-memory = λ name past number are is.
+    make-memory : IsAsked spec kept written (Err refusal.Memory)
+    make-memory = λ event name past number are is.
         done-late (trigger_answer name past written.append written.text.now event)
-        (fitting-answer name past number are is true (made-fits name past are))
+        (fitting-answer event name past number are is true (made-fits event name past are))
 
-    pub ask-made : (result : Result TriggerChange Refusal) → IsMadeChange written.number spec result → IsAsked spec event kept written result
+    pub ask-made : (result : Result TriggerChange Refusal) → IsMadeChange written.number spec result → IsAsked spec kept written result
     ask-made (Ok (MakeHist made)) is = make-done made is.0 is.1 is.2 is.3
     ask-made (Ok change) is = absurd is
-    ask-made (Err refused) is = subst (λ (r : Refusal). IsAsked spec event kept written (Err r)) (sym is) make-memory
+    ask-made (Err refused) is = subst (λ (r : Refusal). IsAsked spec kept written (Err r)) (sym is) make-memory

@@ -86,7 +86,7 @@ left-all P false hists index all = All-nil P
 
 -- it holds of the trigger that a change attaches
 abbrev pub OfAttached : (AttachedHist → Type 0) → TriggerChange → Type 0
-OfAttached P (AttachHist attached) = P attached.value
+OfAttached P (AttachHist attached) = P attached
 OfAttached P (MakeHist made) = P made.value.attached
 OfAttached P change = Unit {0}
 
@@ -96,7 +96,7 @@ OfNew P change = Unit {0}
 
 changed-all : (P : AttachedHist → Type 0) (change : TriggerChange) (hists : List AttachedHist) → All P hists → OfAttached P change
     → All P (hists_changed change hists)
-changed-all P (AttachHist attached) hists all new = All-push P hists attached.value all new
+changed-all P (AttachHist attached) hists all new = All-push P hists attached all new
 changed-all P (MakeHist made) hists all new = All-push P hists made.value.attached all new
 changed-all P (DetachHist spec) hists all new = All-filter (λ (a : AttachedHist). not (says_same spec.value a)) P hists all
 changed-all P change hists all new = all

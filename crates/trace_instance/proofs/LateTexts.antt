@@ -1,11 +1,10 @@
 -- For which trigger texts no memory is taken.
-use Rattle.std.proofs.Common.{◌≡◌, ◌≢◌, ℕ, Bool, true, false, ◌||◌, inl, inr, codes, if◌then◌else◌, is_some, List, length, take, drop, Option, Some, None, Result, Ok, Err, bytes_eq, refl}
-use Rattle.std.proofs.lemmas.Slice.Eq.{bytes_eq-Decides}
+use Rattle.std.proofs.Common.{◌≡◌, ◌≢◌, ℕ, Bool, true, false, ◌||◌, codes, if◌then◌else◌, is_some, List, Option, Some, None, Result, Ok, Err, refl}
 use Rattle.std.specs.List.{list_all}
 use Rattle.trace_lex.specs.Blanks.{is_blank}
 use Rattle.trace_format.specs.Definitions.{Definition}
 use Rattle.trace_trigger.specs.HistSpecs.{SpecSeen}
-use Rattle.trace_trigger.specs.HistTexts.{IsHistText, spec_of}
+use Rattle.trace_trigger.specs.HistTexts.{spec_of}
 use Rattle.trace_trigger.specs.TriggerAnswers.{◌>>=◌}
 use Rattle.trace_trigger.specs.TriggerTexts.{after, begins, is_hist_text, said_after, said_of, snapshot_said, trigger_of}
 use Rattle.trace_trigger.specs.declared.fault.TriggerFault.{TriggerFault}
@@ -89,20 +88,3 @@ attaches-begins definition text trigger e none =
     blank false false true body h n = removed_hist (spec_of definition text) h
     blank false false false None h n = cc
     blank false false false (Some body) h n = removed (trigger_of definition text body) h
-
--- a string that begins so begins with these bytes
-begun : (beginning text : List ℕ) → begins beginning text ≡ true → take (length beginning) text ≡ beginning
-begun beginning text is =
-    (bytes_eq-Decides (take (length beginning) text) beginning).0 (by (bytes_eq (take (length beginning) text) beginning) is)
-  where
-    by : (same : Bool) → is_some (let o : Option (List ℕ) = if same then Some (drop (length beginning) text) else None in o) ≡ true → same ≡ true
-    by true is = refl
-    by false is = absurd (cc)
-
-pub hist-text : (text : List ℕ) → is_hist_text text ≡ true → IsHistText text
-hist-text text is = by (begins (codes "hist:") text) refl (begins (codes "!hist:") text) refl is
-  where
-    by : (one : Bool) → begins (codes "hist:") text ≡ one → (two : Bool) → begins (codes "!hist:") text ≡ two → (one || two) ≡ true → IsHistText text
-    by true at two also h = inl (begun (codes "hist:") text at)
-    by false at true also h = inr (begun (codes "!hist:") text also)
-    by false at false also h = absurd (cc)

@@ -193,11 +193,10 @@ new-stands : (name : Option (List ℕ)) (past : List Request) (request : Request
     → hists ≡ map (kept_hists name past) (declared_events past) → AllOfEach (TableStandsFor name past old) hists
     → OfNew (λ a. is_used a.table (hists_after change hists) ≡ true → TableStandsFor name (request ∷ past) new a) change
 new-stands name past request (Triggers index append (AttachHist one)) hists old new came asked joins are all = λ used.
-    let a = one.value in
     let there = contains-in joins.t (hist_triggers name past) joins.there in
     let own = kept-one (TableStandsFor name past old) name past hists are all joins.t there in
-    table-asked name past request old new a (asks (Triggers index append (AttachHist one)) a.table) (asked a.table) (came a.table used)
-    (table-joined name past old a joins.t joins.table joins.alike own)
+    table-asked name past request old new one (asks (Triggers index append (AttachHist one)) one.table) (asked one.table) (came one.table used)
+    (table-joined name past old one joins.t joins.table joins.alike own)
 new-stands name past request (Triggers index append (MakeHist one)) hists old new came asked made are all = λ used.
     let a = one.value.attached in
     let hist = one.value.hist in

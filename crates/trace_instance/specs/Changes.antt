@@ -73,7 +73,7 @@ triggers_after change triggers = triggers
 
 -- the hist triggers of an event after a change, of those that `>` or `>>` left
 abbrev pub hists_changed : TriggerChange → List AttachedHist → List AttachedHist
-hists_changed (AttachHist attached) hists = hists ++ attached.value ∷ []
+hists_changed (AttachHist attached) hists = hists ++ attached ∷ []
 hists_changed (MakeHist made) hists = hists ++ made.value.attached ∷ []
 hists_changed (DetachHist spec) hists = without_same spec.value hists
 hists_changed change hists = hists
@@ -86,7 +86,7 @@ hists_after change hists = hists
 
 -- what is asked of the table of a number
 abbrev pub asks_triggers : TriggerChange → ℕ → Option Action
-asks_triggers (AttachHist attached) number = if attached.value.table == number then Some attached.value.spec.action else None
+asks_triggers (AttachHist attached) number = if attached.table == number then Some attached.spec.action else None
 asks_triggers (MakeHist made) number = if made.value.attached.table == number then Some made.value.attached.spec.action else None
 asks_triggers (AskTable table action) number = if table == number then Some action else None
 asks_triggers change number = None
@@ -142,7 +142,7 @@ pub record IsNewest (number : ℕ) (trigger : Option Trigger) (hists : List Atta
 -- a change of an event's triggers can be made where these are left
 abbrev pub IsPossible : TriggerChange → Option Trigger → List AttachedHist → Type 0
 IsPossible (Attach new) trigger hists = (trigger ≡ None) × IsNewest new.number trigger hists
-IsPossible (AttachHist attached) trigger hists = IsNewest attached.value.number trigger hists
+IsPossible (AttachHist attached) trigger hists = IsNewest attached.number trigger hists
 IsPossible (MakeHist made) trigger hists = IsNewest made.value.attached.number trigger hists
 IsPossible change trigger hists = ⊤
 
@@ -204,7 +204,7 @@ pub record IsMadeFor (past : List Request) (attached : AttachedHist) (hist : See
 
 -- a hist trigger that is attached counts in a table that is there, or in one that is made with it
 abbrev pub IsJoinedBy : Option (List ℕ) → List Request → TriggerChange → Type 0
-IsJoinedBy name past (AttachHist attached) = Joins name past attached.value
+IsJoinedBy name past (AttachHist attached) = Joins name past attached
 IsJoinedBy name past (MakeHist made) = IsMadeFor past made.value.attached made.value.hist
 IsJoinedBy name past change = ⊤
 

@@ -2,12 +2,11 @@
 //! triggers").
 
 ghost use Rattle.std.specs.Prelude.{◌≡◌, ◌≢◌, ◌<◌, ◌≤◌, true, false, [], length, slice_index_or, None, Ok, option_copied, OnOk, IfOk, IfErr};
-ghost use Rattle.trace_trigger.specs.TriggerTexts.{HasFilter, is_hist_text, said_of};
+ghost use Rattle.trace_trigger.specs.TriggerTexts.{HasFilter, is_hist_text};
 ghost use Rattle.trace_instance.specs.MemoryTaken.{TriggersTakeMemory, attaches_none};
 ghost use Rattle.trace_instance.specs.private.Attaching as attaching;
 ghost use Rattle.trace_instance.specs.EventLists.{all_hists};
 ghost use Rattle.trace_instance.specs.private.SharedTables as sharing;
-ghost use Rattle.trace_trigger.specs.declared.trigger.TriggerText.TheVariants as said;
 
 use crate::change::{NewHist, TriggerChange};
 use crate::event::InstanceEvent;
@@ -18,7 +17,7 @@ use crate::write::WrittenText;
 use std::alloc::Global;
 use trace_command::Refusal;
 use trace_format::EventDef;
-use trace_hist::{Action, Hist, HistSpec};
+use trace_hist::{Action, Hist, HistSpec, SharedSpec};
 use trace_trigger::{SnapshotTrigger, TriggerText};
 
 /// An event of an instance, whose triggers a string changes, and all events there, whose hist triggers' tables it may name.
@@ -66,7 +65,7 @@ impl<'a> EventTriggers<'a> {
                 TriggerChange::Detach,
             ),
             TriggerText::Remove => Err(Refusal::NoSuchTrigger),
-            TriggerText::Hist(spec) => self.asked(alloc, event, written, spec),
+            TriggerText::Hist(spec) => self.asked(alloc, written, spec),
             TriggerText::RemoveHist(spec) => self.removed(alloc, written, spec),
         }
     }
@@ -91,12 +90,10 @@ impl<'a> EventTriggers<'a> {
     fn asked(
         self,
         alloc: Global,
-        event: &EventDef,
         written: WrittenText<'_>,
         spec: HistSpec,
     ) -> Result<TriggerChange, Refusal>
-        requires said { said_of event.now written.text.now ≡ Ok (said.Hist spec) }
-        ensures { attaching.IsAsked spec event.now self.entry written.entry result }
+        ensures { attaching.IsAsked spec self.entry written.entry result }
     {
         if let Some(hist) = self.matching(written.append, &spec) {
             return asked_again(hist.table, spec.action());
@@ -107,7 +104,7 @@ impl<'a> EventTriggers<'a> {
         self.check_room(written.append)?;
         match self.named_by(written.append, &spec) {
             Some(other) => joined(alloc, written, spec, other),
-            None => made(alloc, event, written, spec),
+            None => made(alloc, written, spec),
         }
     }
 
@@ -189,35 +186,25 @@ fn joined(
     if !spec.fits(&other.spec) {
         return Err(Refusal::TriggerExists);
     }
-    let attached = AttachedHist {
+    Ok(TriggerChange::AttachHist(AttachedHist {
         number: written.number,
         table: other.table,
-        spec,
-    };
-    Ok(TriggerChange::AttachHist(Box::new(alloc, attached)?))
+        spec: SharedSpec::new(alloc, spec)?,
+    }))
 }
 
-// A hist trigger with a table of its own. The table keeps the specification as well, so the string is parsed once more, which only memory can refuse.
-fn made(
-    alloc: Global,
-    event: &EventDef,
-    written: WrittenText<'_>,
-    spec: HistSpec,
-) -> Result<TriggerChange, Refusal>
-    requires said { said_of event.now written.text.now ≡ Ok (said.Hist spec) }
+// A hist trigger with a table of its own, which share what the string says.
+fn made(alloc: Global, written: WrittenText<'_>, spec: HistSpec) -> Result<TriggerChange, Refusal>
     ensures { attaching.IsMadeChange written.entry.number spec result }
 {
-    let Ok(again) = HistSpec::parse(alloc, written.text, event) else {
-        return Err(Refusal::Memory);
+    let spec = SharedSpec::new(alloc, spec)?;
+    let hist = Hist::new(alloc, spec.share()?)?;
+    let attached = AttachedHist {
+        number: written.number,
+        table: written.number,
+        spec,
     };
-    let made = NewHist {
-        attached: AttachedHist {
-            number: written.number,
-            table: written.number,
-            spec,
-        },
-        hist: Hist::new(alloc, again).unwrap(),
-    };
+    let made = NewHist { attached, hist };
     Ok(TriggerChange::MakeHist(Box::new(alloc, made)?))
 }
 

@@ -59,7 +59,7 @@ pub enum TriggerChange {
     /// Removes the snapshot trigger.
     Detach,
     /// Attaches a hist trigger to an existing table.
-    AttachHist(Box<AttachedHist>),
+    AttachHist(AttachedHist),
     /// Attaches a hist trigger with a table of its own.
     MakeHist(Box<NewHist>),
     /// Removes the hist trigger that matches this, if there is one.

@@ -9,7 +9,7 @@ ghost use Rattle.trace_text.specs.ShownTriggers.{shown_trigger};
 
 use crate::tables;
 use crate::tables::Table;
-use trace_hist::HistSpec;
+use trace_hist::{HistSpec, SharedSpec};
 use trace_text::Shown;
 
 /// The most triggers, of all kinds, that an event may have in an instance.
@@ -25,7 +25,7 @@ pub struct AttachedHist {
     pub number: u64,
     /// The number of the table in which it counts.
     pub table: u64,
-    pub spec: HistSpec,
+    pub spec: SharedSpec,
 }
 
 impl AttachedHist {

@@ -318,12 +318,7 @@ impl Instance {
     }
 
     // Attaches a hist trigger to an existing table, and applies the string's action to that table.
-    fn join(
-        &mut self,
-        event: usize,
-        append: bool,
-        attached: Box<AttachedHist>,
-    ) -> Result<(), AllocError>
+    fn join(&mut self, event: usize, append: bool, attached: AttachedHist) -> Result<(), AllocError>
         requires triggers { event < length self.old.triggers }
         requires hists { event < length self.old.hists }
         requires possible { changes.IsPossible (attaching.AttachHist attached) (slice_index_or self.old.triggers event None) (if append then slice_index_or self.old.hists event [] else []) }
@@ -334,7 +329,7 @@ impl Instance {
         let action = attached.spec.action();
         let triggers = &mut self.events[event].triggers;
         triggers.reserve_one()?;
-        triggers.attach(append, EventTrigger::Hist(Box::into_inner(attached)));
+        triggers.attach(append, EventTrigger::Hist(attached));
         tables::ask(&mut self.tables, table, action);
         Ok(())
     }

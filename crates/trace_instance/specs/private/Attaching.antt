@@ -97,10 +97,8 @@ abbrev pub IsAttached : SnapshotTrigger → EventTriggers → WrittenText → Re
 IsAttached trigger = IsSaidChange (said.Attach trigger)
 
 -- a hist trigger of this event
-abbrev pub IsAsked : SpecSeen → Definition → EventTriggers → WrittenText → Result TriggerChange Refusal → Type 0
-IsAsked spec event triggers written result =
-    (name : Option (List ℕ)) (past : List Request) → length past ≡ written.number → AreKept name past event triggers
-    → said_of event written.text.now ≡ Ok (said.Hist spec) → IsTriggerChange name past event written result
+abbrev pub IsAsked : SpecSeen → EventTriggers → WrittenText → Result TriggerChange Refusal → Type 0
+IsAsked spec = IsSaidChange (said.Hist spec)
 
 -- a hist trigger that is removed
 abbrev pub IsRemovedHist : SpecSeen → EventTriggers → WrittenText → Result TriggerChange Refusal → Type 0
@@ -123,7 +121,7 @@ attaches action.Clear = false
 -- it counts in the table of another one, if it fits that and there is memory
 abbrev pub IsJoinedChange : ℕ → SpecSeen → AttachedHist → Result TriggerChange Refusal → Type 0
 IsJoinedChange number spec other (Ok (AttachHist attached)) =
-    (is_fitting spec other.spec ≡ true) × (attached.value ≡ record { number = number; table = other.table; spec = spec })
+    (is_fitting spec other.spec ≡ true) × (attached ≡ record { number = number; table = other.table; spec = spec })
 IsJoinedChange number spec other (Ok change) = ⊥
 IsJoinedChange number spec other (Err refusal) = refusal ≡ (if is_fitting spec other.spec then Memory else TriggerExists)
 

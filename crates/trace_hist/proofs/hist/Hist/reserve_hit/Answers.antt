@@ -19,7 +19,7 @@ returns-clause-reserved c =
     let pid : to_z w32 (of_z w32 c.args.pid) ≡ c.args.pid = search rules in
     let place : OnOk c.reserve.result (IsPlaceOf c.reserve.new.self.next h.counts.size h.counts.table.entries (hit_of h.spec emission).key) =
     subst (λ (n : ℤ). OnOk c.reserve.result (IsPlaceOf c.reserve.new.self.next h.counts.size h.counts.table.entries (hit_of h.spec (record { values = c.args.row.now.values; cpu = c.args.cpu; pid = n })).key)) pid
-    c.reserve.ensures.place in
+    (rw c.deref.ensures at c.reserve.ensures.place) in
     subst (λ (s : Seen). OnOk c.reserve.result (IsReservedFor s.spec emission c.args.self.now (seen_of h.spec h.paused c.reserve.new.self))) c.self.view_is
     (told-reserved h.spec h.paused h.counts c.self.invariant c.args.self.now c.self.view_is c.reserve.new.self h.spec emission c.reserve.result c.reserve.ensures.table place)
 
@@ -35,8 +35,8 @@ returns-clause-memory c =
     let emission : Emission = record { values = c.args.row.now.values; cpu = c.args.cpu; pid = c.args.pid } in
     let pid : to_z w32 (of_z w32 c.args.pid) ≡ c.args.pid = search rules in
     let new : OnErr c.reserve.result (is_among (entry_keys h.counts.table.entries) (hit_of h.spec emission).key ≡ false) =
-    subst (λ (n : ℤ). OnErr c.reserve.result (is_among (entry_keys h.counts.table.entries) (hit_of h.spec (record { values = c.args.row.now.values; cpu = c.args.cpu; pid = n })).key ≡ false)) pid c.reserve.ensures.new in
+    subst (λ (n : ℤ). OnErr c.reserve.result (is_among (entry_keys h.counts.table.entries) (hit_of h.spec (record { values = c.args.row.now.values; cpu = c.args.cpu; pid = n })).key ≡ false)) pid (rw c.deref.ensures at c.reserve.ensures.new) in
     let unreserved : OnErr c.reserve.result (h.counts.next ≢ In (hit_of h.spec emission).key) =
-    subst (λ (n : ℤ). OnErr c.reserve.result (h.counts.next ≢ In (hit_of h.spec (record { values = c.args.row.now.values; cpu = c.args.cpu; pid = n })).key)) pid c.reserve.ensures.unreserved in
+    subst (λ (n : ℤ). OnErr c.reserve.result (h.counts.next ≢ In (hit_of h.spec (record { values = c.args.row.now.values; cpu = c.args.cpu; pid = n })).key)) pid (rw c.deref.ensures at c.reserve.ensures.unreserved) in
     subst (λ (s : Seen). OnErr c.reserve.result (NeedsEntryAs c.args.self.now s.spec emission)) c.self.view_is
     (told-needed h.spec h.paused h.counts c.self.invariant c.args.self.now c.self.view_is c.reserve.new.self h.spec emission c.reserve.result c.reserve.ensures.table c.if-self.false c.reserve.ensures.room new unreserved)

@@ -39,7 +39,7 @@ returns-in-Remove-2-clause-change c =
 pub returns-in-Hist-clause-change : goal.returns-in-Hist-clause-change
 returns-in-Hist-clause-change c = λ name past number are.
     let read : said_of c.args.event.now c.args.written.text.now ≡ Ok (said.Hist c.in-Hist.spec) = c.in_ok-parse.ensures.exact ∙ ap Ok c.in-Hist.is in
-    c.asked.ensures name past number are read
+    c.asked.ensures c.args.event.now name past number are read
 
 pub returns-in-RemoveHist-clause-change : goal.returns-in-RemoveHist-clause-change
 returns-in-RemoveHist-clause-change c = λ name past number are.

@@ -26,7 +26,7 @@ hit-requires-clause-ready c =
     let knows : get_or c.args.passed.now c.loop-trigger.k false ≡ is_passed c.in-Hist.hist.spec.filter e =
     ap (λ (l : List Bool). get_or l c.loop-trigger.k false) c.requires.passed
     ∙ passed_here e hists c.loop-trigger.k c.in-Hist.hist at.inside at.small at.is in
-    rw pid (ready-here e hists c.loop-trigger.k c.in-Hist.hist c.args.tables.now c.loop-trigger.tables at.inside at.is (sym knows ∙ c.if-passed-k.true)
+    rw (c.deref.ensures, pid) (ready-here e hists c.loop-trigger.k c.in-Hist.hist c.args.tables.now c.loop-trigger.tables at.inside at.is (sym knows ∙ c.if-passed-k.true)
     (rw pid at c.loop-trigger.invariant.reached))
 
 pub hit-requires-clause-few : goal.hit-requires-clause-few
@@ -55,7 +55,7 @@ loop-trigger-preserved c =
             | then-passed-k v ↦ rw (w.k-is, w.tables-is, v.tables-is) (record {
               at = at.next;
               reached = reached-more e hists k a c.args.tables.now c.loop-trigger.tables v.hit.new.tables c.requires.agree at.inside at.is
-                  (sym knows ∙ v.if-passed-k.true) v.hit.ensures.hit v.hit.ensures.others was.reached;
+                  (sym knows ∙ v.if-passed-k.true) (rw v.deref.ensures at v.hit.ensures.hit) v.hit.ensures.others was.reached;
             })
             | else-passed-k v ↦ rw (w.k-is, w.tables-is, v.tables-is) (record {
               at = at.next;
