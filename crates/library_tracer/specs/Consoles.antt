@@ -11,7 +11,7 @@ use Rattle.trace_command.specs.declared.refusal.Refusal.TheVariants.{Memory}
 use Rattle.trace_format.specs.declared.field_value.FieldValue.{FieldValue}
 use Rattle.trace_format.specs.declared.pair.Pair.{Pair}
 use Rattle.tracer_specification.specs.Settings.{declared_events}
-use Rattle.tracer_without_history.specs.Lives.{IsLive, limited_answer}
+use Rattle.tracer.specs.Lives.{IsLive, limited_answer}
 use Rattle.tracer_state.specs.ValueEmissions.{values_emission}
 use Rattle.trace_script.specs.Lines.{line_of}
 use Rattle.trace_script.specs.declared.fault.LineError.{LineError}

@@ -1,6 +1,6 @@
 -- A console as contracts see it.
 use Rattle.std.specs.Prelude.{ℕ}
-use Rattle.tracer_without_history.specs.LiveSeen.{LiveSeen}
+use Rattle.tracer.specs.LiveSeen.{LiveSeen}
 use Rattle.trace_script.specs.declared.outcome.Outcome.{Outcome}
 
 -- how many commands it does at most, its tracer, which keeps no list of them, and what the last call came to

@@ -8,7 +8,7 @@ ghost use Rattle.trace_command.specs.declared.command.Command.TheVariants as com
 ghost use Rattle.trace_command.specs.declared.command.Reply.TheVariants as replies;
 ghost use Rattle.trace_command.specs.declared.refusal.Refusal.TheVariants as refusals;
 ghost use Rattle.tracer_specification.specs.Waiting.{waiting};
-ghost use Rattle.tracer_without_history.specs.Lives.{most_done};
+ghost use Rattle.tracer.specs.Lives.{most_done};
 ghost use Rattle.library_tracer.specs.Consoles.{Asked, ComesTo, StandsFor, after_command, after_emission, after_line, after_listing, after_values, failed, opened, outcome_of, with_last};
 ghost use Rattle.library_tracer.specs.Statuses.{offset_in, reply_in, status_of};
 ghost use Rattle.trace_script.specs.declared.outcome.Outcome.TheVariants as outcomes;
@@ -23,14 +23,14 @@ use trace_command::{BorrowedEmission, Command, Config, Refusal, Reply};
 use trace_format::FieldValue;
 use trace_lex::Text;
 use trace_script::{Line, LineError, Outcome, ScriptFault, prepare};
-use tracer_without_history::Live;
+use tracer::Tracer;
 
 /// A tracer for one caller, which keeps no history, and what the last call came to.
 #[derive(Drop)]
 pub struct Console {
     alloc: Global,
     limit: u64,
-    live: Live,
+    live: Tracer,
     last: Outcome,
 }
 
@@ -42,7 +42,7 @@ impl Model for Console {
     ghost view = { λ c. record { limit = c.limit; live = c.live; last = c.last } };
 
     ghost use Rattle.std.specs.Prelude.{◌≤◌};
-    ghost use Rattle.tracer_without_history.specs.Lives.{most_done};
+    ghost use Rattle.tracer.specs.Lives.{most_done};
 
     ghost invariant = { λ c. c.limit ≤ most_done };
 }
@@ -60,7 +60,7 @@ impl Console {
         Ok(Console {
             alloc,
             limit,
-            live: Live::new(alloc, config)?,
+            live: Tracer::new(alloc, config)?,
             last: Outcome::Replied(Reply::Done),
         })
     }

@@ -4,11 +4,11 @@ ghost use Rattle.std.specs.Prelude.{◌≡◌, ◌++◌, List, IfOk, OnOk};
 ghost use Rattle.trace_command.specs.Requests.{Request};
 ghost use Rattle.library_tracer.specs.ListedFiles.{event_names, files_after, names_of};
 ghost use Rattle.tracer_specification.specs.Settings.{instance_names};
-ghost use Rattle.tracer_without_history.specs.Lives.{IsLive};
+ghost use Rattle.tracer.specs.Lives.{IsLive};
 
 use file_list::Names;
 use std::alloc::{AllocError, Global};
-use tracer_without_history::Live;
+use tracer::Tracer;
 
 /// How many events there can be.
 const MOST_EVENTS: usize = 64;
@@ -17,7 +17,7 @@ const MOST_EVENTS: usize = 64;
 const MOST_INSTANCES: usize = 7;
 
 /// Adds the names of a tracer's events.
-fn add_events(names: &mut Names, live: &Live) -> Result<(), AllocError>
+fn add_events(names: &mut Names, live: &Tracer) -> Result<(), AllocError>
     ensures { (past : List Request) → IsLive live.now.config past live.now → OnOk result (names.new ≡ record {
       events = names.old.events ++ event_names past;
       instances = names.old.instances;
@@ -34,7 +34,7 @@ fn add_events(names: &mut Names, live: &Live) -> Result<(), AllocError>
 }
 
 /// Adds the names of a tracer's instances.
-fn add_instances(names: &mut Names, live: &Live) -> Result<(), AllocError>
+fn add_instances(names: &mut Names, live: &Tracer) -> Result<(), AllocError>
     ensures { (past : List Request) → IsLive live.now.config past live.now → OnOk result (names.new ≡ record {
       events = names.old.events;
       instances = names.old.instances ++ instance_names past;
@@ -51,7 +51,7 @@ fn add_instances(names: &mut Names, live: &Live) -> Result<(), AllocError>
 }
 
 /// The names of a tracer's events and instances.
-fn names_of(alloc: Global, live: &Live) -> Result<Names, AllocError>
+fn names_of(alloc: Global, live: &Tracer) -> Result<Names, AllocError>
     ensures { (past : List Request) → IsLive live.now.config past live.now → IfOk result (λ names. names ≡ names_of past) }
 {
     let mut names = Names::new(alloc);
@@ -61,7 +61,7 @@ fn names_of(alloc: Global, live: &Live) -> Result<Names, AllocError>
 }
 
 /// The list of the files.
-pub(crate) fn files_of(alloc: Global, live: &Live) -> Result<Vec<u8>, AllocError>
+pub(crate) fn files_of(alloc: Global, live: &Tracer) -> Result<Vec<u8>, AllocError>
     ensures { (past : List Request) → IsLive live.now.config past live.now
         → IfOk result (λ text. text.items ≡ files_after live.now.config past) }
 {

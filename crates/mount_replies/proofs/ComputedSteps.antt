@@ -4,7 +4,7 @@ use Rattle.trace_command.specs.Refusals.{OrMemory}
 use Rattle.trace_command.specs.Requests.{Request}
 use Rattle.trace_command.specs.declared.command.Reply.{Reply as Answer}
 use Rattle.trace_command.specs.declared.refusal.Refusal.{Refusal}
-use Rattle.tracer_without_history.specs.Lives.{live_answer}
+use Rattle.tracer.specs.Lives.{live_answer}
 use Rattle.mount_replies.specs.ComputedSteps.{StepsAreComputed, answered_line, run_line, run_lines}
 use Rattle.mount_replies.specs.Mounted.{GoesOnIf, IsLineRun, IsRun}
 use Rattle.mount_replies.specs.Services.{Terms}

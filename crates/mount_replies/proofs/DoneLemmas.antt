@@ -11,7 +11,7 @@ use Rattle.tracer_specification.proofs.EventLists.{AreEvents-push}
 use Rattle.tracer_specification.specs.History.{answer_with_room, unless_full}
 use Rattle.tracer_specification.specs.Pasts.{AreDone}
 use Rattle.tracer_specification.specs.Settings.{declared_events, declares}
-use Rattle.tracer_without_history.specs.Lives.{limited_answer, live_answer, most_done}
+use Rattle.tracer.specs.Lives.{limited_answer, live_answer, most_done}
 use Rattle.mount_replies.proofs.NewEvents.{declared-new}
 use Rattle.mount_replies.proofs.RunLemmas.{any-lines, lines-keep}
 use Rattle.mount_replies.specs.Mounted.{AreServed, Does, IsAnswered, IsExchanged, Right, Serves, TellsOwed, Unframed, Wrong, past_after}

@@ -8,8 +8,8 @@ use Rattle.trace_command.specs.declared.command.Command.TheVariants.{Read}
 use Rattle.trace_command.specs.declared.command.Reply.{Reply as Answer}
 use Rattle.fuse_wire.specs.declared.reply.Reply.{Reply}
 use Rattle.tracer_specification.specs.History.{answer_with_room}
-use Rattle.tracer_without_history.specs.Lives.{live_answer, most_done}
-use Rattle.tracer_without_history.proofs.Limits.{limited-done}
+use Rattle.tracer.specs.Lives.{live_answer, most_done}
+use Rattle.tracer.proofs.Limits.{limited-done}
 use Rattle.mount_tree.specs.FileKinds.{kind_of_file}
 use Rattle.mount_tree.specs.NodePaths.{path_of}
 use Rattle.mount_tree.specs.Scenes.{SceneSeen}

@@ -22,7 +22,7 @@ use Rattle.tracer_specification.specs.FileTexts.{shown_pipe}
 use Rattle.tracer_specification.specs.History.{declaration_answer, emission_answer, switch_answer, trigger_answer}
 use Rattle.tracer_specification.specs.Settings.{written_flag}
 use Rattle.tracer_specification.specs.Waiting.{waiting}
-use Rattle.tracer_without_history.specs.Lives.{limited_answer}
+use Rattle.tracer.specs.Lives.{limited_answer}
 use Rattle.file_list.specs.Files.{event_folder}
 use Rattle.mount_replies.specs.Injections.{left_out, pairs_of_line}
 use Rattle.mount_replies.specs.Lines.{command_lines, stream_lines}

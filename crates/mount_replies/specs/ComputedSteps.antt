@@ -6,7 +6,7 @@ use Rattle.fuse_wire.specs.declared.request.Operation.{Operation}
 use Rattle.trace_command.specs.Requests.{Request}
 use Rattle.trace_command.specs.declared.command.Reply.{Reply as Answer}
 use Rattle.trace_command.specs.declared.refusal.Refusal.{Refusal}
-use Rattle.tracer_without_history.specs.Lives.{live_answer}
+use Rattle.tracer.specs.Lives.{live_answer}
 use Rattle.mount_tree.specs.declared.node.Node.{Node}
 use Rattle.mount_replies.specs.Mounted.{Does, after_count, after_noting, after_outcome, all_done, past_after, stopped_at}
 use Rattle.mount_replies.specs.Owed.{Owed, ReplyAt, WakeupAt, owed, step_of_parked}

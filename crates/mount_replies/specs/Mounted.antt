@@ -13,8 +13,8 @@ use Rattle.trace_command.specs.declared.command.Reply.{Reply as Answer}
 use Rattle.trace_command.specs.declared.refusal.Refusal.{Refusal}
 use Rattle.trace_command.specs.declared.refusal.Refusal.TheVariants.{Memory}
 use Rattle.tracer_specification.specs.Settings.{declares, made, removed}
-use Rattle.tracer_without_history.specs.LiveSeen.{LiveSeen}
-use Rattle.tracer_without_history.specs.Lives.{IsLive, live_answer}
+use Rattle.tracer.specs.LiveSeen.{LiveSeen}
+use Rattle.tracer.specs.Lives.{IsLive, live_answer}
 use Rattle.error_log.specs.Errors.{ErrorSeen}
 use Rattle.mount_tree.specs.Nodes.{FitsItsTypes, number_of}
 use Rattle.mount_tree.specs.Scenes.{SceneSeen}

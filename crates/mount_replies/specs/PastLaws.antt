@@ -15,7 +15,7 @@ use Rattle.trace_command.specs.declared.refusal.Refusal.{Refusal}
 use Rattle.tracer_specification.specs.FileTexts.{cpu_stats_text}
 use Rattle.tracer_specification.specs.History.{text_of}
 use Rattle.tracer_specification.specs.Pasts.{AreDone}
-use Rattle.tracer_without_history.specs.Lives.{live_answer, most_done}
+use Rattle.tracer.specs.Lives.{live_answer, most_done}
 use Rattle.error_log.specs.Errors.{ErrorSeen}
 use Rattle.mount_tree.specs.Children.{is_there, owner_is_there}
 use Rattle.mount_tree.specs.FileKinds.{kind_of_file}

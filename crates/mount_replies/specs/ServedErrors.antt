@@ -16,7 +16,7 @@ use Rattle.trace_command.specs.Requests.{Request}
 use Rattle.trace_command.specs.declared.refusal.Refusal.{Refusal}
 use Rattle.trace_format.specs.Definitions.{Definition}
 use Rattle.tracer_specification.specs.Settings.{declared_events}
-use Rattle.tracer_without_history.specs.Lives.{live_answer}
+use Rattle.tracer.specs.Lives.{live_answer}
 use Rattle.refusal_explanations.specs.InjectionWords.{injection_offset}
 use Rattle.refusal_explanations.specs.Writes.{write_offset}
 use Rattle.error_log.specs.Errors.{ErrorSeen, error_text, refused}

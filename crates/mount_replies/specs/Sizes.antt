@@ -6,7 +6,7 @@ use Rattle.fuse_wire.specs.declared.reply.Reply.TheVariants as replies
 use Rattle.trace_command.specs.declared.command.Reply.{Reply as Answer}
 use Rattle.trace_command.specs.declared.command.Reply.TheVariants as answers
 use Rattle.trace_command.specs.declared.refusal.Refusal.{Refusal}
-use Rattle.tracer_without_history.specs.Lives.{live_answer}
+use Rattle.tracer.specs.Lives.{live_answer}
 use Rattle.error_log.specs.Logs.{log_text}
 use Rattle.mount_tree.specs.FileKinds.{kind_of_file}
 use Rattle.mount_tree.specs.Nodes.{number_of}

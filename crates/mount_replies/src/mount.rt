@@ -22,14 +22,14 @@ use mount_tree::{Node, Scene};
 use std::alloc::Global;
 use std::marker::Model;
 use trace_command::{Config, Refusal};
-use tracer_without_history::Live;
+use tracer::Tracer;
 
 /// A mounted tracer: the tracer, which folders and files it has, the open files, the reads that wait, the writes that were refused, the texts that were
 /// counted, whether something has to be told before the next request is answered, whose the files are, and their permissions.
 #[derive(Drop)]
 pub struct Mount {
     pub(crate) alloc: Global,
-    pub(crate) live: Live,
+    pub(crate) live: Tracer,
     pub(crate) scene: Scene,
     pub(crate) files: OpenFiles,
     pub(crate) parked: Vec<Parked>,
@@ -103,7 +103,7 @@ impl Mount {
         ensures out_of_range { ¬ IsInRange config → IfErr result (λ r. r ≡ refusals.BadValue) }
         ensures refused { IfErr result (λ r. r ≢ refusals.Memory → (r ≡ refusals.BadValue) × ¬ IsInRange config) }
     {
-        let live = Live::new(alloc, config)?;
+        let live = Tracer::new(alloc, config)?;
         Ok(Mount {
             alloc,
             live,

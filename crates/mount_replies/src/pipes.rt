@@ -5,7 +5,7 @@ ghost use Rattle.trace_buffer.specs.Buffers as buffers;
 ghost use Rattle.trace_command.specs.Requests.{Request};
 ghost use Rattle.tracer_specification.specs.Settings.{is_tracing, is_there as exists};
 ghost use Rattle.trace_instance.specs.Instances.{InstanceStandsFor};
-ghost use Rattle.tracer_without_history.specs.Lives.{IsLive};
+ghost use Rattle.tracer.specs.Lives.{IsLive};
 ghost use Rattle.mount_tree.specs.Children.{owner_is_there};
 ghost use Rattle.mount_tree.specs.NodePaths.{owner_name};
 ghost use Rattle.mount_replies.specs.Mounted.{HasLedTo, service_of, terms_of};

@@ -20,7 +20,7 @@ use std::alloc::AllocError;
 use std::mem;
 use trace_command::{Refusal, Reply as Answer};
 use trace_lex::Text;
-use tracer_without_history::MOST_DONE;
+use tracer::MOST_DONE;
 
 /// What a look-up tells of a node.
 #[derive(Clone, Copy)]

@@ -10,7 +10,7 @@ use Rattle.trace_command.specs.Requests.{Request, ReadFile}
 use Rattle.trace_command.specs.declared.command.Reply.{Reply as Answer}
 use Rattle.trace_command.specs.declared.file_name.CpuFile.TheVariants as per_cpu
 use Rattle.trace_command.specs.declared.file_name.TopFile.TheVariants as top
-use Rattle.tracer_without_history.specs.Lives.{live_answer}
+use Rattle.tracer.specs.Lives.{live_answer}
 use Rattle.history_laws.specs.ReadOnce.{NothingIsReadTwice}
 use Rattle.history_laws.specs.ReadsInParts.{is_pipe}
 use Rattle.mount_tree.specs.Children.{is_there}

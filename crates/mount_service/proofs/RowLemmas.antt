@@ -8,7 +8,7 @@ use Rattle.tracer_specification.specs.Emissions.{emitted_bytes}
 use Rattle.tracer_specification.specs.Laws.{KeptRecordsShowEmissions, KeptSpareRecordsShowEmissions, RecordsShowTheirRows}
 use Rattle.tracer_specification.specs.Pasts.{AreDone}
 use Rattle.tracer_specification.specs.Settings.{declared_events}
-use Rattle.tracer_without_history.specs.Lives.{most_done}
+use Rattle.tracer.specs.Lives.{most_done}
 use Rattle.record_text.specs.RecordText.{record_line}
 use Rattle.mount_replies.specs.PastLaws.{PastsAreDone, PastsFitTheirTypes}
 use Rattle.mount_service.specs.RecordRows.{ServedRecordsShowEmissions, ServedRecordsShowTheirRows}

@@ -11,10 +11,10 @@ use Rattle.trace_command.specs.declared.refusal.Refusal.TheVariants.{Memory}
 use Rattle.tracer_specification.specs.History.{answer, answer_with_room, past_of, IsEntry, IsLegal}
 use Rattle.tracer_specification.specs.LateMemory.{TakesMemoryLate}
 use Rattle.tracer_state.proofs.Histories.{IsLegal-push, length-past_of}
-use Rattle.tracer_without_history.specs.LiveSeen.{LiveSeen}
-use Rattle.tracer_without_history.specs.Lives.{IsLive, limited_answer}
-use Rattle.tracer_without_history.proofs.BookAnswers.{book-answer}
-use Rattle.tracer_without_history.proofs.Limits.{limited-done, limited-late}
+use Rattle.tracer.specs.LiveSeen.{LiveSeen}
+use Rattle.tracer.specs.Lives.{IsLive, limited_answer}
+use Rattle.tracer.proofs.BookAnswers.{book-answer}
+use Rattle.tracer.proofs.Limits.{limited-done, limited-late}
 use Rattle.trace_book.specs.BookSeen.{BookSeen}
 use Rattle.trace_book.specs.private.BookCalls.{IsBookCall}
 

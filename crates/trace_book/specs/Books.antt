@@ -1,6 +1,6 @@
 -- What contracts see of a book.
 use Rattle.tracer_specification.specs.History.{past_of, IsLegal}
-use Rattle.tracer_without_history.specs.Lives.{IsLive}
+use Rattle.tracer.specs.Lives.{IsLive}
 use Rattle.trace_book.specs.BookSeen.{BookSeen}
 use Rattle.trace_book.specs.declared.book.Book.TheInside.{Inside}
 

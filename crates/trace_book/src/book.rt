@@ -1,6 +1,6 @@
 //! The book: a history of commands, and the tracer that they led to.
 //!
-//! A command runs in the tracer's two phases (`Live`, tracer_without_history), and between them its entry is written ahead:
+//! A command runs in the tracer's two phases (`Tracer`, tracer), and between them its entry is written ahead:
 //!
 //! ```text
 //!   prepare   looks      what can be refused is found, HistoryFull last; the memory of the change is allocated
@@ -32,12 +32,12 @@ use std::slice;
 use trace_command::{BorrowedEmission, Command, Config, Refusal, Reply};
 use trace_format::{EventDef, Pair, borrowed};
 use trace_instance::Instance;
-use tracer_without_history::{Live, let_go, single};
+use tracer::{Tracer, let_go, single};
 
 /// A tracer and the history of the commands done. Commands name files as in ftrace.rst and run one at a time.
 #[derive(Drop)]
 pub struct Book {
-    live: Live,
+    live: Tracer,
     history: History,
 }
 
@@ -61,7 +61,7 @@ impl Book {
         ensures out_of_range { ¬ IsInRange config → IfErr result (λ r. r ≡ refusal.BadValue) }
         ensures refused { IfErr result (λ r. r ≢ refusal.Memory → (r ≡ refusal.BadValue) × ¬ IsInRange config) }
     {
-        let live = Live::new(alloc, config)?;
+        let live = Tracer::new(alloc, config)?;
         Ok(Book {
             live,
             history: History::new(alloc),

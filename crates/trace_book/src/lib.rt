@@ -3,15 +3,15 @@
 
 mod book;
 mod logged;
+mod one_caller;
 mod shared;
-mod tracer;
 
 pub use book::Book;
 pub use command_log::{CommandRef, Entries, EntryRef, PairRefs};
+pub use one_caller::Tracer;
 pub use shared_book::{ask, ask_emission, ask_read};
 pub use trace_command::{BorrowedEmission, Command, Config, Entry, Pairs, Refusal, Reply};
 pub use trace_format::{BorrowedPair, Pair};
 pub use trace_instance::Instance;
 pub use trace_lex::Text;
-pub use tracer::Tracer;
 pub use tracer_specification::laws;

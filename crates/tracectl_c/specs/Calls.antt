@@ -7,7 +7,7 @@ use Rattle.trace_command.specs.declared.refusal.Refusal.{Refusal}
 use Rattle.trace_command.specs.declared.refusal.Refusal.TheVariants.{BadValue}
 use Rattle.trace_format.specs.declared.field_value.FieldValue.{FieldValue}
 use Rattle.tracer_specification.specs.Waiting.{waiting}
-use Rattle.tracer_without_history.specs.Lives.{most_done}
+use Rattle.tracer.specs.Lives.{most_done}
 use Rattle.library_tracer.specs.Consoles.{Asked, ComesTo, StandsFor, after_values, with_last}
 use Rattle.library_tracer.specs.ConsolesSeen.{ConsoleSeen}
 use Rattle.library_tracer.specs.Statuses.{offset_in, reply_in, status_of}

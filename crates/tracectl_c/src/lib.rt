@@ -5,7 +5,7 @@ ghost use Rattle.std.specs.Prelude.{◌≡◌, ◌≢◌, ◌≤◌, None, Some,
 ghost use Rattle.trace_command.specs.Configs.{IsInRange};
 ghost use Rattle.trace_command.specs.declared.command.Command.{Command as CommandValue};
 ghost use Rattle.trace_command.specs.declared.command.Command.TheVariants as commands;
-ghost use Rattle.tracer_without_history.specs.Lives.{most_done};
+ghost use Rattle.tracer.specs.Lives.{most_done};
 ghost use Rattle.library_tracer.specs.Consoles.{ComesTo, StandsFor, after_command, after_emission, after_line, after_listing, opened};
 ghost use Rattle.library_tracer.specs.Statuses.{status_of};
 ghost use Rattle.tracectl_c.specs.GivenValues.{values_in};
@@ -23,7 +23,7 @@ use library_tracer::Console;
 use std::alloc::{AllocError, Global};
 use std::slice;
 use trace_command::{Config, Refusal};
-use tracer_without_history::MOST_DONE;
+use tracer::MOST_DONE;
 use value::{Value, value_in, values_in};
 
 /// The status of a call whose handle is not open.

@@ -1,6 +1,6 @@
 use Rattle.std.proofs.Common.{◌≡◌, ◌++◌, List, drop}
 use Rattle.trace_command.specs.Requests.{Request}
-use Rattle.tracer_without_history.specs.Lives.{IsLive}
+use Rattle.tracer.specs.Lives.{IsLive}
 use Rattle.library_tracer.specs.ListedFiles.{event_names}
 use Rattle.library_tracer.proofs.files.add_events.Given as goal
 

@@ -1,7 +1,7 @@
 use Rattle.std.proofs.Common.{◌≡◌, ◌++◌, List, drop}
 use Rattle.trace_command.specs.Requests.{Request}
 use Rattle.tracer_specification.specs.Settings.{instance_names}
-use Rattle.tracer_without_history.specs.Lives.{IsLive}
+use Rattle.tracer.specs.Lives.{IsLive}
 use Rattle.library_tracer.proofs.files.add_instances.Given as goal
 
 -- the names so far, and those of the instances that are left, are all

@@ -1,7 +1,7 @@
 use Rattle.std.proofs.Common.{refl}
 use Rattle.trace_command.specs.Requests.{Request, Emission}
 use Rattle.tracer_specification.specs.History.{past_of}
-use Rattle.tracer_without_history.proofs.Limits.{limited-refusal}
+use Rattle.tracer.proofs.Limits.{limited-refusal}
 use Rattle.trace_book.specs.Books.{seen}
 use Rattle.trace_book.proofs.BookCalls.{refused-call}
 use Rattle.trace_book.proofs.book.Book.ask_pairs.Goals as goal

@@ -2,7 +2,7 @@ use Rattle.std.proofs.Common.{◌≡◌, [], sym, ap, subst}
 use Rattle.trace_command.specs.declared.command.Config.{Config}
 use Rattle.tracer_specification.specs.History.{IsLegal, past_of}
 use Rattle.command_log.specs.HistorySeen.{HistorySeen}
-use Rattle.tracer_without_history.specs.Lives.{IsLive}
+use Rattle.tracer.specs.Lives.{IsLive}
 use Rattle.trace_book.proofs.book.Book.new.Goals as goal
 
 pub invariant_of-result : goal.invariant_of-result

@@ -1,5 +1,0 @@
-use Rattle.std.proofs.Common.{arith}
-use Rattle.trace_book.proofs.tracer.Tracer.ask.Goals as goal
-
-pub returns-clause-worn : goal.returns-clause-worn
-returns-clause-worn c = λ worn. absurd (omega (arith, worn, c.in-Ok.ensures.drawn.2))

@@ -1,0 +1,11 @@
+//! A tracer that keeps no history: it runs commands one after another in memory that does not grow with their number.
+#![tactic(auto)]
+
+mod discard;
+pub mod laws;
+mod pair;
+mod tracer;
+
+pub use discard::let_go;
+pub use pair::single;
+pub use tracer::{MOST_DONE, Tracer};

@@ -1,0 +1,147 @@
+//! Whole calls: a command is done, or refused.
+
+ghost use Rattle.std.specs.Prelude.{◌≡◌, ◌≤◌, List};
+ghost use Rattle.trace_command.specs.Requests.{Request, Emission, request_of};
+ghost use Rattle.tracer_specification.specs.Settings.{declared_events, ticks};
+ghost use Rattle.tracer_state.specs.ValueEmissions.{values_emission};
+ghost use Rattle.tracer.specs.Lives.{IsLive, IsCall, IsCallWithin, most_done};
+
+use super::{MOST_DONE, Tracer};
+use crate::discard::let_go;
+use crate::pair::single;
+use std::slice;
+use trace_command::{BorrowedEmission, Command, Refusal, Reply};
+use trace_format::{FieldValue, Pair, borrowed};
+
+impl Tracer {
+    /// Runs a command, or refuses it. The answer is the one that the commands done before it give. A refused command changes nothing.
+    ///
+    /// If an allocation is refused, `Memory` may replace the answer, but never `NoSuchFile`, `NotReadable`, `NotWritable`, `BadValue`, `NoSuchEvent`,
+    /// `InstanceExists`, `NoSuchInstance` or `NoSuchCpu`, and never a refusal of a command that allocates late (`TakesMemoryLate`): `rmdir`, or a
+    /// write of anything but a declaration, a filter that doesn't clear, a trigger with a filter, or a hist trigger. Of these a command that takes no
+    /// memory at all (`TakesNoMemory`) has just its answer: any but a trigger that is attached, and a snapshot that needs a spare side.
+    pub fn ask(&mut self, command: Command) -> Result<Reply, Refusal>
+        ensures call { (past : List Request) → IsLive self.old.config past self.old
+            → IsCall past self.new (request_of command) result }
+        ensures config { self.new.config ≡ self.old.config }
+    {
+        self.ask_within(MOST_DONE, command)
+    }
+
+    /// As `ask`, but where `limit` commands were done, one that would be done is refused with `HistoryFull`.
+    pub fn ask_within(&mut self, limit: u64, command: Command) -> Result<Reply, Refusal>
+        requires { limit ≤ most_done }
+        ensures call { (past : List Request) → IsLive self.old.config past self.old
+            → IsCallWithin limit past self.new (request_of command) result }
+        ensures config { self.new.config ≡ self.old.config }
+    {
+        let answer = match &command {
+            Command::Emit {
+                event,
+                cpu,
+                pid,
+                pairs,
+            } => self.ask_pairs(limit, event.as_bytes(), *cpu, *pid, pairs.as_slice()),
+            _ => self.ask_other(limit, &command),
+        };
+        let_go(command);
+        answer
+    }
+
+    // As `ask_within`, for an emission of these pairs. For a single pair no list is allocated.
+    fn ask_pairs(
+        &mut self,
+        limit: u64,
+        event: &[u8],
+        cpu: u32,
+        pid: i32,
+        pairs: &[Pair],
+    ) -> Result<Reply, Refusal>
+        requires { limit ≤ most_done }
+        ensures call { (past : List Request) → IsLive self.old.config past self.old
+            → IsCallWithin limit past self.new (Emission event.now cpu pid pairs.now) result }
+        ensures config { self.new.config ≡ self.old.config }
+    {
+        if let Some(pair) = single(pairs) {
+            let emission = BorrowedEmission::new(event, cpu, pid, slice::from_ref(&pair));
+            return self.ask_emission_within(limit, &emission);
+        }
+        let Ok(pairs) = borrowed(self.alloc, pairs) else {
+            return Err(self.refusal_without_memory(cpu, event));
+        };
+        self.ask_emission_within(limit, &BorrowedEmission::new(event, cpu, pid, &pairs))
+    }
+
+    /// As `ask`, for an emission whose strings are borrowed.
+    pub fn ask_emission(&mut self, emission: &BorrowedEmission<'_>) -> Result<Reply, Refusal>
+        ensures call { (past : List Request) → IsLive self.old.config past self.old
+            → IsCall past self.new (request_of emission.now) result }
+        ensures config { self.new.config ≡ self.old.config }
+    {
+        self.ask_emission_within(MOST_DONE, emission)
+    }
+
+    /// As `ask_within`, for an emission whose strings are borrowed.
+    pub fn ask_emission_within(
+        &mut self,
+        limit: u64,
+        emission: &BorrowedEmission<'_>,
+    ) -> Result<Reply, Refusal>
+        requires { limit ≤ most_done }
+        ensures call { (past : List Request) → IsLive self.old.config past self.old
+            → IsCallWithin limit past self.new (request_of emission.now) result }
+        ensures config { self.new.config ≡ self.old.config }
+    {
+        let (event, cpu, pid, pairs) = emission.parts();
+        self.prepare_emission(limit, event, cpu, pid, pairs)?;
+        self.deliver();
+        Ok(Reply::Done)
+    }
+
+    /// As `ask`, for the emission of the event with this number, from 1, and values of its fields in order of declaration (`values_emission`).
+    pub fn ask_values(
+        &mut self,
+        event: u32,
+        cpu: u32,
+        pid: i32,
+        values: &[FieldValue<'_>],
+    ) -> Result<Reply, Refusal>
+        ensures call { (past : List Request) → IsLive self.old.config past self.old
+            → IsCall past self.new (values_emission (declared_events past) event cpu pid values.now) result }
+        ensures config { self.new.config ≡ self.old.config }
+    {
+        self.ask_values_within(MOST_DONE, event, cpu, pid, values)
+    }
+
+    /// As `ask_within`, for the same.
+    #[inline(always)]
+    pub fn ask_values_within(
+        &mut self,
+        limit: u64,
+        event: u32,
+        cpu: u32,
+        pid: i32,
+        values: &[FieldValue<'_>],
+    ) -> Result<Reply, Refusal>
+        requires { limit ≤ most_done }
+        ensures call { (past : List Request) → IsLive self.old.config past self.old
+            → IsCallWithin limit past self.new (values_emission (declared_events past) event cpu pid values.now) result }
+        ensures config { self.new.config ≡ self.old.config }
+    {
+        self.prepare_values(limit, event, cpu, pid, values)?;
+        self.deliver();
+        Ok(Reply::Done)
+    }
+
+    // As `ask_within`, for a command other than an emission.
+    fn ask_other(&mut self, limit: u64, command: &Command) -> Result<Reply, Refusal>
+        requires few { limit ≤ most_done }
+        requires other { ticks (request_of command.now) ≡ 0 }
+        ensures call { (past : List Request) → IsLive self.old.config past self.old
+            → IsCallWithin limit past self.new (request_of command.now) result }
+        ensures config { self.new.config ≡ self.old.config }
+    {
+        let prepared = self.prepare(limit, command)?;
+        self.carry_out(prepared)
+    }
+}
