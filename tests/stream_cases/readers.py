@@ -6,7 +6,7 @@ import time
 
 from stream_cases.place import INJECT, PLACE, ROOM, declare, get, need, numbers, put, resident, script
 
-# So many records are there first that their number keeps its length while more come: the text's head has it, and `less` reads the first block twice.
+# So many records are there first that their number, which the text's head has, keeps its length while more come.
 QUIET, TIMES = 10_000, 5
 HEADER = re.compile(rb"# tracer: nop\n#\n# entries-in-buffer/entries-written: (\d+)/(\d+)   #P:1\n#\n")
 
@@ -18,7 +18,6 @@ WHOLE = {
     "busybox cp": ('busybox cp "$1" out && cat out', "busybox"),
     "shutil.copyfile": ("python3 -c 'import shutil, sys; shutil.copyfile(sys.argv[1], \"out\")' \"$1\" && cat out", "python3"),
     "grep": ('grep "" "$1"', "grep"),
-    "less -F": ('less -F "$1"', "less"),
     "dd": ('dd if="$1" status=none', "dd"),
     "dd of megabytes": ('dd if="$1" bs=1M status=none', "dd"),
     "head -c": ('head -c 9999999 "$1"', "head"),
@@ -26,8 +25,10 @@ WHOLE = {
     "tail -n +1 -f": ('timeout 0.3 tail -n +1 -f "$1" || [ $? -eq 124 ]', "timeout"),
 }
 
-# These take as much as they were told, of a text that may have grown since. GNU tar says so by a status of 1.
+# These take as much as they were told, of a text that may have grown since. GNU tar says so by a status of 1; `less` may end at any multiple of 8,192
+# bytes that is not below the size.
 BY_SIZE = {
+    "less -F": ('less -F "$1"', "less"),
     "rsync": ('rsync "$1" out && cat out', "rsync"),
     "tar": ('{ tar -C "${1%/*}" -cf - "${1##*/}" || [ $? -eq 1 ]; } | tar -xOf -', "tar"),
 }
