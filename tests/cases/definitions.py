@@ -155,8 +155,9 @@ def imports_of(text):
 
 
 def uses_of(text):
-    """For each name that a source brings in, its path."""
-    return {path[-1]: path for tree in RUST_IMPORT.findall(text) for path in paths_of(re.sub(r"\s+", " ", tree))}
+    """For each name that a source brings in, its path; of a variant that of its type."""
+    paths = [path for tree in RUST_IMPORT.findall(text) for path in paths_of(re.sub(r"\s+", " ", tree))]
+    return {path[-1]: path[:-1] if len(path) > 1 and path[-2][0].isupper() else path for path in paths}
 
 
 def paths_of(tree):
@@ -219,6 +220,7 @@ class Library:
         """Notes the types of src/ that a text names, and those of their fields: functions take and return values of them."""
         for word in set(re.findall(r"\b[A-Z]\w*", re.sub(r"//.*|#\[.*|^ *ghost .*", "", text, flags=re.M))):
             home = self.used(file, word) if word in file.uses else file if file.of_source(word) else None
+            word = file.uses[word][-1] if word in file.uses else word
             if home and (home, word) not in self.values:
                 self.values.add((home, word))
                 self.take_values(home, home.seen(word, True).text)
@@ -232,6 +234,8 @@ class Library:
             if parts[-1] in ("TheVariants", "TheInside"):
                 return self.source(crate, parts[1:-2], parts[-2])
             return self.source(crate, parts[1:-1], name) or self.source(crate, parts[1:], name)
+        if parts[0] == "contracts" and name == "the_type":
+            return self.source(crate, parts[1:-1], parts[-1])
         file = self.file(crate, (CRATES / crate / "specs").joinpath(*parts).with_suffix(".antt"))
         return file.has(name) if file else None
 
@@ -274,7 +278,8 @@ class Library:
         elif name[0].isupper() and (name in file.uses or file.of_source(name)):
             if name not in file.uses or file.uses[name][0] not in ("std", "core"):
                 home = self.used(file, name) if name in file.uses else file
-                yield name, home and home.seen(name, (home, name) in self.values)
+                last = file.uses[name][-1] if name in file.uses else name
+                yield name, home and home.seen(last, (home, last) in self.values)
 
 
 def bound_in(text, own):

@@ -154,19 +154,18 @@ impl Chunk {
         self.write_pieces(&head, event, pairs)
     }
 
-    // Writes the entry of any other command ahead: kind, limit, path and text. Where memory is refused, a part may be written all the same.
+    // Writes the entry of a command with a text ahead: kind, no limit, path and text. Where memory is refused, a part may be written all the same.
     fn write_other(
         &mut self,
         ticket: u64,
         by: u32,
         kind: u8,
-        limit: u64,
         path: &[u8],
         text: &[u8],
     ) -> Result<(), AllocError>
         requires { self.old.ahead ≡ [] }
         ensures entries { self.new.entries ≡ self.old.entries }
-        ensures ahead { OnOk result (self.new.ahead ≡ to_le_bytes w64 ticket ++ to_le_bytes w32 by ++ other_bytes kind limit path.now text.now) }
+        ensures ahead { OnOk result (self.new.ahead ≡ to_le_bytes w64 ticket ++ to_le_bytes w32 by ++ other_bytes kind 0 path.now text.now) }
         ensures short { (length path.now < 2 ^ 64) × (length text.now < 2 ^ 64) }
     {
         // These do nothing, but that the proof knows how long both can be.
@@ -176,7 +175,7 @@ impl Chunk {
         self.write_number_of_eight(ticket)?;
         self.write_number_of_four(by)?;
         self.write_byte(kind)?;
-        self.write_number_of_eight(limit)?;
+        self.write_number_of_eight(0)?;
         self.write_text(path)?;
         self.write_text(text)
     }
@@ -252,12 +251,12 @@ impl Chunk {
                 path,
                 append: false,
                 text,
-            } => self.write_other(ticket, by, WRITE, 0, path.as_bytes(), text.as_bytes()),
+            } => self.write_other(ticket, by, WRITE, path.as_bytes(), text.as_bytes()),
             Command::Write {
                 path,
                 append: true,
                 text,
-            } => self.write_other(ticket, by, APPEND, 0, path.as_bytes(), text.as_bytes()),
+            } => self.write_other(ticket, by, APPEND, path.as_bytes(), text.as_bytes()),
             Command::Read { path, limit } => self.write_read(ticket, by, path.as_bytes(), *limit),
         }
     }

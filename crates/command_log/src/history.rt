@@ -10,7 +10,6 @@ use std::alloc::{AllocError, Global};
 use std::marker::Model;
 use std::mem;
 use trace_command::{BorrowedEmission, Command};
-use trace_format::BorrowedPair;
 
 /// The entries of a history, seen as their list, and what is written ahead. An entry is written ahead first, which may be refused memory, and then
 /// appended, which can't fail. One that is never appended makes way for the next.
@@ -52,13 +51,6 @@ impl History {
         }
     }
 
-    /// How many entries count.
-    pub fn len(&self) -> usize
-        ensures { result ≡ length self.now.entries }
-    {
-        self.count
-    }
-
     // Takes away what is written ahead, and sees to it that the last chunk has room.
     fn begin(&mut self) -> Result<(), AllocError>
         ensures { self.new ≡ record { entries = self.old.entries; ahead = [] } }
@@ -78,19 +70,15 @@ impl History {
         &mut self,
         ticket: u64,
         by: u32,
-        event: &[u8],
-        cpu: u32,
-        pid: i32,
-        pairs: &[BorrowedPair<'_>],
+        emission: &BorrowedEmission<'_>,
     ) -> Result<(), AllocError>
         ensures written { OnOk result (self.new.ahead
-            ≡ record { ticket = ticket; by = by; command = Command.Emit event.now cpu pid pairs.now } ∷ []) }
+            ≡ record { ticket = ticket; by = by; command = emission.now } ∷ []) }
         ensures refused { OnErr result (self.new.ahead ≡ []) }
         ensures entries { self.new.entries ≡ self.old.entries }
     {
         self.begin()?;
-        let emission = BorrowedEmission::new(event, cpu, pid, pairs);
-        if let Err(error) = self.last.write_emission(ticket, by, &emission) {
+        if let Err(error) = self.last.write_emission(ticket, by, emission) {
             self.last.discard();
             return Err(error);
         }

@@ -1,9 +1,16 @@
-//! The files that there are after the lines of a script (`tracectl --list`).
+//! The files that there are: a table of all of them, and those that there are after the lines of a script (`tracectl --list`).
 #![tactic(auto)]
 
 mod access;
+mod file;
+mod files;
+mod folder;
+pub mod laws;
 mod listing;
 mod names;
 
-pub use access::{Access, cpu_access, event_access, top_access};
+pub use access::Access;
+pub use file::{File, FileKind};
+pub use files::{FILES, FOLDERS, Item, ToolFile, TopTool};
+pub use folder::Folder;
 pub use names::Names;

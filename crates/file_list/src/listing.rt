@@ -2,72 +2,72 @@
 
 ghost use Rattle.std.specs.Prelude.{◌≡◌, ◌++◌, IfOk, OnOk, codes};
 ghost use Rattle.std.specs.List.{flat_map};
-ghost use Rattle.file_list.specs.Files.{top_access, cpu_folder, event_folder, files_of_all_events, files_of_cpu, files_of_cpus, files_of_event, files_of_instance, own_files};
-ghost use Rattle.file_list.specs.Listings.{instance_folder, line_of, lines_in, listing};
+ghost use Rattle.file_list.specs.FileKinds.{access_of_file};
+ghost use Rattle.file_list.specs.FileTable.{file_name};
+ghost use Rattle.file_list.specs.Files.{cpu_folder, event_folder, item_line, line_of, listed_below, lines_in, lines_of_cpu, lines_of_cpus, lines_of_event, lines_of_events, lines_of_instance};
+ghost use Rattle.file_list.specs.Listings.{instance_folder, listing};
 
-use crate::access::{Access, cpu_access, event_access, top_access};
+use crate::file::File;
+use crate::files::{CPU, EVENT, EVENTS, Item, OPTIONS, SYNTHETIC};
+use crate::folder::Folder;
 use crate::names::Names;
 use itoa::Buffer;
 use std::alloc::{AllocError, Global};
-use trace_command::{CpuFile, EventFile, TopFile};
 use trace_lex::Text;
 
-/// Appends the line of a file, whose path is this of its instance, that of its own folder in there, and its name.
-#[tactic(auto, unfolding(crate::specs::Listings::line_of))]
+/// Appends the line of a file in this folder of the instance with this folder.
+#[tactic(auto, unfolding(crate::specs::Files::line_of))]
 fn push_file(
     out: &mut Vec<u8>,
-    access: Access,
     instance: &[u8],
     folder: &[u8],
-    name: &str,
+    file: File,
 ) -> Result<(), AllocError>
-    ensures { OnOk result (out.new.items ≡ out.old.items ++ line_of access (instance.now ++ folder.now ++ name.now)) }
+    ensures { OnOk result (out.new.items ≡ out.old.items ++ line_of (access_of_file file) (instance.now ++ folder.now ++ file_name file)) }
 {
-    out.extend_from_slice(access.word().as_bytes())?;
+    out.extend_from_slice(file.access().word().as_bytes())?;
     out.push(b' ')?;
     out.extend_from_slice(instance)?;
     out.extend_from_slice(folder)?;
-    out.extend_from_slice(name.as_bytes())?;
+    out.extend_from_slice(file.name().as_bytes())?;
     out.push(b'\n')?;
     Ok(())
 }
 
-/// Appends the line of a file of an instance itself.
-fn push_top(out: &mut Vec<u8>, instance: &[u8], file: TopFile, path: &str) -> Result<(), AllocError>
-    ensures { OnOk result (out.new.items ≡ out.old.items ++ line_of (top_access file) (instance.now ++ path.now)) }
+/// Appends the line of what a folder has, if it is a file that commands know.
+fn push_item(
+    out: &mut Vec<u8>,
+    instance: &[u8],
+    folder: &[u8],
+    item: Item,
+) -> Result<(), AllocError>
+    ensures { OnOk result (out.new.items ≡ out.old.items ++ item_line instance.now folder.now item) }
 {
-    push_file(out, top_access(file), instance, b"".as_slice(), path)
+    match item {
+        Item::File(file) => {
+            if file.is_listed() {
+                push_file(out, instance, folder, file)
+            } else {
+                Ok(())
+            }
+        }
+        Item::Folder(_) => Ok(()),
+    }
 }
 
-/// Appends the lines of the files that an instance has of its own.
-fn push_own_files(out: &mut Vec<u8>, instance: &[u8]) -> Result<(), AllocError>
-    ensures { OnOk result (out.new.items ≡ out.old.items ++ lines_in own_files instance.now) }
+/// Appends the lines of the files that a folder has.
+fn push_items(
+    out: &mut Vec<u8>,
+    instance: &[u8],
+    folder: &[u8],
+    items: &[Item],
+) -> Result<(), AllocError>
+    ensures { OnOk result (out.new.items ≡ out.old.items ++ lines_in instance.now folder.now items.now) }
 {
-    push_top(out, instance, TopFile::Snapshot, "snapshot")?;
-    push_top(out, instance, TopFile::TracingOn, "tracing_on")?;
-    push_top(out, instance, TopFile::Trace, "trace")?;
-    push_top(out, instance, TopFile::TracePipe, "trace_pipe")?;
-    push_top(out, instance, TopFile::Overwrite, "options/overwrite")?;
-    push_top(out, instance, TopFile::TraceOptions, "trace_options")
-}
-
-/// Appends the lines of the files of all events.
-fn push_files_of_all_events(out: &mut Vec<u8>, instance: &[u8]) -> Result<(), AllocError>
-    ensures { OnOk result (out.new.items ≡ out.old.items ++ lines_in files_of_all_events instance.now) }
-{
-    push_top(out, instance, TopFile::EventsEnable, "events/enable")?;
-    push_top(
-        out,
-        instance,
-        TopFile::EventsEnable,
-        "events/synthetic/enable",
-    )?;
-    push_top(
-        out,
-        instance,
-        TopFile::EventsFilter,
-        "events/synthetic/filter",
-    )
+    for item in items {
+        push_item(out, instance, folder, *item)?;
+    }
+    Ok(())
 }
 
 /// A folder, as bytes: those before its name, the name and a slash.
@@ -95,54 +95,20 @@ fn push_event(
     instance: &[u8],
     event: &[u8],
 ) -> Result<(), AllocError>
-    ensures { OnOk result (out.new.items ≡ out.old.items ++ lines_in (files_of_event event.now) instance.now) }
+    ensures { OnOk result (out.new.items ≡ out.old.items ++ lines_of_event instance.now event.now) }
 {
     let folder = event_folder(alloc, event)?;
-    push_file(
-        out,
-        event_access(EventFile::Format),
-        instance,
-        &folder,
-        "format",
-    )?;
-    push_file(
-        out,
-        event_access(EventFile::Enable),
-        instance,
-        &folder,
-        "enable",
-    )?;
-    push_file(
-        out,
-        event_access(EventFile::Filter),
-        instance,
-        &folder,
-        "filter",
-    )?;
-    push_file(
-        out,
-        event_access(EventFile::Trigger),
-        instance,
-        &folder,
-        "trigger",
-    )?;
-    push_file(
-        out,
-        event_access(EventFile::Hist),
-        instance,
-        &folder,
-        "hist",
-    )
+    push_items(out, instance, &folder, &EVENT)
 }
 
 /// Appends the lines of the files of each event.
-fn push_events(
+fn push_each_event(
     alloc: Global,
     out: &mut Vec<u8>,
     instance: &[u8],
     events: &[Text],
 ) -> Result<(), AllocError>
-    ensures { OnOk result (out.new.items ≡ out.old.items ++ lines_in (flat_map files_of_event events.now) instance.now) }
+    ensures { OnOk result (out.new.items ≡ out.old.items ++ flat_map (lines_of_event instance.now) events.now) }
 {
     for event in events {
         push_event(alloc, out, instance, event.as_bytes())?;
@@ -165,23 +131,15 @@ fn cpu_folder(alloc: Global, cpu: u32) -> Result<Vec<u8>, AllocError>
 
 /// Appends the lines of the files of a CPU.
 fn push_cpu(alloc: Global, out: &mut Vec<u8>, instance: &[u8], cpu: u32) -> Result<(), AllocError>
-    ensures { OnOk result (out.new.items ≡ out.old.items ++ lines_in (files_of_cpu cpu) instance.now) }
+    ensures { OnOk result (out.new.items ≡ out.old.items ++ lines_of_cpu instance.now cpu) }
 {
     let folder = cpu_folder(alloc, cpu)?;
-    push_file(out, cpu_access(CpuFile::Stats), instance, &folder, "stats")?;
-    push_file(out, cpu_access(CpuFile::Trace), instance, &folder, "trace")?;
-    push_file(
-        out,
-        cpu_access(CpuFile::TracePipe),
-        instance,
-        &folder,
-        "trace_pipe",
-    )
+    push_items(out, instance, &folder, &CPU)
 }
 
 /// Appends the lines of the files of so many CPUs.
 fn push_cpus(alloc: Global, out: &mut Vec<u8>, instance: &[u8], cpus: u32) -> Result<(), AllocError>
-    ensures { OnOk result (out.new.items ≡ out.old.items ++ lines_in (files_of_cpus cpus) instance.now) }
+    ensures { OnOk result (out.new.items ≡ out.old.items ++ lines_of_cpus instance.now cpus) }
 {
     for cpu in 0..cpus {
         push_cpu(alloc, out, instance, cpu)?;
@@ -198,20 +156,49 @@ fn instance_folder(alloc: Global, instance: &[u8]) -> Result<Vec<u8>, AllocError
 }
 
 impl Names {
+    /// Appends the lines of the files of all events, and of each event.
+    fn push_events(&self, out: &mut Vec<u8>, instance: &[u8]) -> Result<(), AllocError>
+        ensures { OnOk result (out.new.items ≡ out.old.items ++ lines_of_events self.now.events instance.now) }
+    {
+        push_items(out, instance, b"events/".as_slice(), &EVENTS)?;
+        push_items(out, instance, b"events/synthetic/".as_slice(), &SYNTHETIC)?;
+        push_each_event(self.alloc, out, instance, &self.events)
+    }
+
+    /// Appends the lines of what an instance with this folder has in its own folder, and of the files below it.
+    fn push_below(
+        &self,
+        out: &mut Vec<u8>,
+        cpus: u32,
+        instance: &[u8],
+        item: Item,
+    ) -> Result<(), AllocError>
+        ensures { OnOk result (out.new.items ≡ out.old.items ++ listed_below cpus self.now.events instance.now item) }
+    {
+        match item {
+            Item::Folder(Folder::Options) => {
+                push_items(out, instance, b"options/".as_slice(), &OPTIONS)
+            }
+            Item::Folder(Folder::Events) => self.push_events(out, instance),
+            Item::Folder(Folder::PerCpu) => push_cpus(self.alloc, out, instance, cpus),
+            _ => push_item(out, instance, b"".as_slice(), item),
+        }
+    }
+
     /// Appends the lines of the files of an instance, whose folder this is.
     fn push_instance(&self, out: &mut Vec<u8>, cpus: u32, folder: &[u8]) -> Result<(), AllocError>
-        ensures { OnOk result (out.new.items ≡ out.old.items ++ lines_in (files_of_instance cpus self.now.events) folder.now) }
+        ensures { OnOk result (out.new.items ≡ out.old.items ++ lines_of_instance cpus self.now.events folder.now) }
     {
-        push_own_files(out, folder)?;
-        push_files_of_all_events(out, folder)?;
-        push_events(self.alloc, out, folder, &self.events)?;
-        push_cpus(self.alloc, out, folder, cpus)
+        for item in Folder::Root.items(false) {
+            self.push_below(out, cpus, folder, *item)?;
+        }
+        Ok(())
     }
 
     /// Appends the lines of the files of each instance but the top one.
     fn push_instances(&self, out: &mut Vec<u8>, cpus: u32) -> Result<(), AllocError>
         ensures { OnOk result (out.new.items ≡ out.old.items
-            ++ flat_map (λ instance. lines_in (files_of_instance cpus self.now.events) (instance_folder instance)) self.now.instances) }
+            ++ flat_map (λ instance. lines_of_instance cpus self.now.events (instance_folder instance)) self.now.instances) }
     {
         for instance in &self.instances {
             let folder = instance_folder(self.alloc, instance.as_bytes())?;
@@ -229,10 +216,9 @@ impl Names {
         let mut out = Vec::new(self.alloc);
         push_file(
             &mut out,
-            Access::Both,
             b"".as_slice(),
             b"".as_slice(),
-            "synthetic_events",
+            File::SyntheticEvents,
         )?;
         self.push_instance(&mut out, cpus, b"".as_slice())?;
         self.push_instances(&mut out, cpus)?;

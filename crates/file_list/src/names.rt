@@ -1,15 +1,12 @@
 //! The names of the events and instances that there are.
 
-ghost use Rattle.std.specs.Prelude.{◌≡◌, ◌++◌, ◌∷◌, [], IfOk, OnOk, OnErr};
-ghost use Rattle.trace_command.specs.Requests.{request_of};
-ghost use Rattle.file_list.specs.Names.{after_hearing, after_making, after_removing, after_request, declares, index_of, no_names, with_event, with_event_name, with_instance};
+ghost use Rattle.std.specs.Prelude.{◌≡◌, ◌++◌, ◌∷◌, [], OnOk, OnErr};
+ghost use Rattle.file_list.specs.Names.{after_hearing, after_making, after_removing, index_of, no_names, with_event_name, with_instance};
 
 use std::alloc::{AllocError, Global};
 use std::marker::Model;
-use trace_command::{Command, FileName, address_of, instance_of};
-use trace_format::{DefinitionFault, EventDef};
 use trace_lex::Text;
-use trace_script::{Line, LineError, Outcome, prepare};
+use trace_script::{Change, Outcome, change_of};
 
 /// The names of the events and instances that there are after the lines that were heard.
 #[derive(Drop)]
@@ -44,23 +41,6 @@ fn push_name(alloc: Global, names: &mut Vec<Text>, name: &[u8]) -> Result<(), Al
     let name = Text::from_slice(alloc, name)?;
     names.push(name)?;
     Ok(())
-}
-
-/// The event that a command declares, if it declares one.
-fn declared(alloc: Global, command: &Command) -> Result<Option<EventDef>, AllocError>
-    ensures { IfOk result (λ event. event ≡ declares (request_of command.now)) }
-{
-    let Command::Write { path, text, .. } = command else {
-        return Ok(None);
-    };
-    let Some(FileName::SyntheticEvents) = address_of(path.as_bytes()).file else {
-        return Ok(None);
-    };
-    match EventDef::parse(alloc, text.as_bytes()) {
-        Ok(event) => Ok(Some(event)),
-        Err(DefinitionFault::BadDefinition { .. }) => Ok(None),
-        Err(DefinitionFault::Memory) => Err(AllocError),
-    }
 }
 
 impl Names {
@@ -118,50 +98,17 @@ impl Names {
         }
     }
 
-    /// Notes the event that a command declares, if it declares one.
-    fn declare(&mut self, command: &Command) -> Result<(), AllocError>
-        ensures ok { OnOk result (self.new ≡ with_event (declares (request_of command.now)) self.old) }
-        ensures err { OnErr result (self.new ≡ self.old) }
-    {
-        match declared(self.alloc, command)? {
-            Some(event) => self.add_event(event.name()),
-            None => Ok(()),
-        }
-    }
-
-    /// Notes what a command changes that was done.
-    fn note(&mut self, command: &Command) -> Result<(), AllocError>
-        ensures ok { OnOk result (self.new ≡ after_request (request_of command.now) self.old) }
-        ensures err { OnErr result (self.new ≡ self.old) }
-    {
-        match command {
-            Command::Mkdir(path) => match instance_of(path.as_bytes()) {
-                Some(name) => self.make(name),
-                None => Ok(()),
-            },
-            Command::Rmdir(path) => match instance_of(path.as_bytes()) {
-                Some(name) => self.remove(name),
-                None => Ok(()),
-            },
-            Command::Write { .. } | Command::Emit { .. } | Command::Read { .. } => {
-                self.declare(command)
-            }
-        }
-    }
-
     /// Hears what became of a line. A line that was done may declare an event, or make or remove an instance; any other changes nothing. If memory
     /// is refused, the names are as before.
     pub fn hear(&mut self, line: &[u8], outcome: &Outcome) -> Result<(), AllocError>
         ensures ok { OnOk result (self.new ≡ after_hearing line.now outcome.now self.old) }
         ensures err { OnErr result (self.new ≡ self.old) }
     {
-        let Outcome::Replied(_) = outcome else {
-            return Ok(());
-        };
-        match prepare(self.alloc, line) {
-            Ok(Line::Ask(command)) => self.note(&command),
-            Err(LineError::Memory) => Err(AllocError),
-            _ => Ok(()),
+        match change_of(self.alloc, line, outcome)? {
+            Some(Change::Declares(event)) => self.add_event(event.name()),
+            Some(Change::Makes(name)) => self.make(name.as_bytes()),
+            Some(Change::Removes(name)) => self.remove(name.as_bytes()),
+            None => Ok(()),
         }
     }
 }

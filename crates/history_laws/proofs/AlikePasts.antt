@@ -11,9 +11,9 @@ use Rattle.trace_trigger.specs.HistSpecs.{SpecSeen}
 use Rattle.trace_trigger.specs.TriggerTexts.{said_of}
 use Rattle.trace_trigger.specs.declared.fault.TriggerFault.{TriggerFault}
 use Rattle.trace_trigger.specs.declared.spec.Action.{Action}
-use Rattle.trace_trigger.specs.declared.spec.Action.TheVariants.{Attach as AttachIt, Pause, Continue, Clear}
+use Rattle.trace_trigger.specs.declared.spec.Action.TheVariants.{Attach, Pause, Continue, Clear}
 use Rattle.trace_trigger.specs.declared.trigger.TriggerText.{TriggerText}
-use Rattle.trace_trigger.specs.declared.trigger.TriggerText.TheVariants.{Nothing, Attach, Remove, Hist, RemoveHist}
+use Rattle.trace_trigger.specs.declared.trigger.TriggerText.TheVariants.{Nothing, AttachSnapshot, RemoveSnapshot, Hist, RemoveHist}
 use Rattle.hist_entries.specs.Hits.{Hit}
 use Rattle.trace_hist.specs.Groups.{grouped}
 use Rattle.record_text.specs.BufferText.{trace_text, pipe_text}
@@ -34,7 +34,7 @@ use Rattle.tracer_specification.specs.History.{answer_with_room, declaration_ans
 use Rattle.tracer_specification.specs.Rings.{pipe_read, cpu_pipe_read, rings, spare_rings}
 use Rattle.tracer_specification.specs.Settings.{NumberedEvent, declared_events, event_named, event_named_in, filter_of, instance_names, is_enabled, is_there, is_tracing, now_of, overwrites}
 use Rattle.tracer_specification.specs.Snapshots.{written_snapshot}
-use Rattle.tracer_specification.specs.Triggers.{Trigger, times_left, trigger_of}
+use Rattle.tracer_specification.specs.Triggers.{Trigger, times_left, snapshot_trigger_of}
 use Rattle.tracer_specification.specs.Waiting.{waiting, waits_in}
 use Rattle.history_laws.proofs.Renumbered.{any-later, filter-later, find-later, later_hist, later_trigger, map-later, up, up-less}
 
@@ -49,7 +49,7 @@ pub record AreAlike (n : ℕ) (more less : List Request) : Type 0 where
   pub live : (g : Config) (instance : Option (List ℕ)) → rings g instance more ≡ rings g instance less
   pub spare : (g : Config) (instance : Option (List ℕ)) → spare_rings g instance more ≡ spare_rings g instance less
   pub trigger : (instance : Option (List ℕ)) (event : Definition)
-      → trigger_of instance event more ≡ option_map (later_trigger n) (trigger_of instance event less)
+      → snapshot_trigger_of instance event more ≡ option_map (later_trigger n) (snapshot_trigger_of instance event less)
   pub times : (event : Definition) (t : Trigger) → times_left event (later_trigger n t) more ≡ times_left event t less
   pub hists : (instance : Option (List ℕ)) → hist_triggers instance more ≡ map (later_hist n) (hist_triggers instance less)
   pub paused : (instance : Option (List ℕ)) (table : ℕ) → is_paused instance (up n table) more ≡ is_paused instance table less
@@ -94,7 +94,7 @@ new-later : (n : ℕ) (attached : Option Trigger) (hists : List HistTrigger) (fi
     → new_hist_answer (option_map (later_trigger n) attached) (map (later_hist n) hists) fits action ≡ new_hist_answer attached hists fits action
 new-later n attached hists fits Continue = refl
 new-later n attached hists fits Clear = refl
-new-later n attached hists fits AttachIt = ap (fitting_answer fits) (room-later n attached hists)
+new-later n attached hists fits Attach = ap (fitting_answer fits) (room-later n attached hists)
 new-later n attached hists fits Pause = ap (fitting_answer fits) (room-later n attached hists)
 
 hist-later : (n : ℕ) (attached : Option Trigger) (hists all : List HistTrigger) (spec : SpecSeen)
@@ -107,10 +107,10 @@ said-later : (n : ℕ) (append : Bool) (attached : Option Trigger) (hists all : 
     ≡ said_answer append attached hists all said
 said-later n append attached hists all (Err fault) = refl
 said-later n append attached hists all (Ok Nothing) = refl
-said-later n append None hists all (Ok (Attach spec)) = room-later n None hists
-said-later n append (Some t) hists all (Ok (Attach spec)) = refl
-said-later n append None hists all (Ok Remove) = refl
-said-later n append (Some t) hists all (Ok Remove) = refl
+said-later n append None hists all (Ok (AttachSnapshot spec)) = room-later n None hists
+said-later n append (Some t) hists all (Ok (AttachSnapshot spec)) = refl
+said-later n append None hists all (Ok RemoveSnapshot) = refl
+said-later n append (Some t) hists all (Ok RemoveSnapshot) = refl
 said-later n append attached hists all (Ok (Hist spec)) = hist-later n attached hists all spec
 said-later n append attached hists all (Ok (RemoveHist spec)) = rw (same-later n spec hists) refl
 
@@ -173,8 +173,8 @@ module _ (n : ℕ) (more less : List Request) (alike : AreAlike n more less) whe
   triggers-shown instance (Some k) =
       ap texts.trigger_text
       (ap (λ (t : Option Trigger). in_order instance more k.event t (hists_of instance k.event more)) (alike.trigger instance k.event)
-      ∙ ap (in_order instance more k.event (option_map (later_trigger n) (trigger_of instance k.event less))) (own-hists instance k.event)
-      ∙ order-shown instance k.event (trigger_of instance k.event less) (hists_of instance k.event less))
+      ∙ ap (in_order instance more k.event (option_map (later_trigger n) (snapshot_trigger_of instance k.event less))) (own-hists instance k.event)
+      ∙ order-shown instance k.event (snapshot_trigger_of instance k.event less) (hists_of instance k.event less))
 
   histograms-shown : (instance : Option (List ℕ)) (found : Option NumberedEvent) → hists_of_event instance more found ≡ hists_of_event instance less found
   histograms-shown instance None = refl
@@ -263,18 +263,18 @@ module _ (n : ℕ) (more less : List Request) (alike : AreAlike n more less) whe
       by (Err at) = refl
 
   has-trigger : (instance : Option (List ℕ)) (events : List Definition)
-      → list_any (λ event. is_some (trigger_of instance event more)) events ≡ list_any (λ event. is_some (trigger_of instance event less)) events
+      → list_any (λ event. is_some (snapshot_trigger_of instance event more)) events ≡ list_any (λ event. is_some (snapshot_trigger_of instance event less)) events
   has-trigger instance [] = refl
-  has-trigger instance (event ∷ events) = rw (some-later (trigger_of instance event less) (alike.trigger instance event), has-trigger instance events) refl
+  has-trigger instance (event ∷ events) = rw (some-later (snapshot_trigger_of instance event less) (alike.trigger instance event), has-trigger instance events) refl
     where
-      some-later : (t : Option Trigger) → trigger_of instance event more ≡ option_map (later_trigger n) t → is_some (trigger_of instance event more) ≡ is_some t
+      some-later : (t : Option Trigger) → snapshot_trigger_of instance event more ≡ option_map (later_trigger n) t → is_some (snapshot_trigger_of instance event more) ≡ is_some t
       some-later None is = ap is_some is
       some-later (Some t) is = ap is_some is
 
   spare-same : (instance : Option (List ℕ)) (text : List ℕ) → snapshot_answer instance more text ≡ snapshot_answer instance less text
   unfolding snapshot_answer
   spare-same instance text =
-      ap (λ (es : List Definition). spare_answer (list_any (λ event. is_some (trigger_of instance event more)) es) (written_snapshot text)) alike.events
+      ap (λ (es : List Definition). spare_answer (list_any (λ event. is_some (snapshot_trigger_of instance event more)) es) (written_snapshot text)) alike.events
       ∙ ap (λ (b : Bool). spare_answer b (written_snapshot text)) (has-trigger instance (declared_events less))
 
   trigger-same : (instance : Option (List ℕ)) (append : Bool) (text : List ℕ) (event : Definition)
@@ -284,14 +284,14 @@ module _ (n : ℕ) (more less : List Request) (alike : AreAlike n more less) whe
       let said = said_of event text in
       let older = hist_triggers instance less in
       let own = hists_of instance event less in
-      let t = option_map (later_trigger n) (trigger_of instance event less) in
+      let t = option_map (later_trigger n) (snapshot_trigger_of instance event less) in
       ap (λ (o : Option Trigger). said_answer append o (kept_by append (hists_of instance event more)) (left_by event append (hist_triggers instance more)) said)
       (alike.trigger instance event)
       ∙ ap (λ (ts : List HistTrigger). said_answer append t (kept_by append ts) (left_by event append (hist_triggers instance more)) said) (own-hists instance event)
       ∙ ap (λ (ts : List HistTrigger). said_answer append t ts (left_by event append (hist_triggers instance more)) said) (kept-later n append own)
       ∙ ap (λ (ts : List HistTrigger). said_answer append t (map (later_hist n) (kept_by append own)) (left_by event append ts) said) (alike.hists instance)
       ∙ ap (λ (ts : List HistTrigger). said_answer append t (map (later_hist n) (kept_by append own)) ts said) (left-later n event append older)
-      ∙ said-later n append (trigger_of instance event less) (kept_by append own) (left_by event append older) said
+      ∙ said-later n append (snapshot_trigger_of instance event less) (kept_by append own) (left_by event append older) said
 
   named-trigger-same : (instance : Option (List ℕ)) (append : Bool) (text : List ℕ) (found : Option NumberedEvent)
       → named_trigger_answer instance more append text found ≡ named_trigger_answer instance less append text found

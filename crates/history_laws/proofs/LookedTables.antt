@@ -9,7 +9,7 @@ use Rattle.trace_trigger.specs.TriggerTexts.{said_of}
 use Rattle.trace_trigger.specs.declared.fault.TriggerFault.{TriggerFault}
 use Rattle.trace_trigger.specs.declared.spec.Action.{Action}
 use Rattle.trace_trigger.specs.declared.trigger.TriggerText.{TriggerText}
-use Rattle.trace_trigger.specs.declared.trigger.TriggerText.TheVariants.{Nothing, Attach, Remove, Hist, RemoveHist}
+use Rattle.trace_trigger.specs.declared.trigger.TriggerText.TheVariants.{Nothing, AttachSnapshot, RemoveSnapshot, Hist, RemoveHist}
 use Rattle.hist_entries.specs.Hits.{Hit}
 use Rattle.page_ring.specs.Events as ring
 use Rattle.trace_command.specs.Paths.{File, OfInstance, OfCpu, OfEvent}
@@ -67,8 +67,8 @@ said-hists n number event hists (Ok (Hist spec)) =
     by false true is = cc
 said-hists n number event hists (Ok (RemoveHist spec)) =
     filter-later n (λ t. not (is_of event t && says_same spec t)) (λ t. not (is_of event t && says_same spec t)) (λ t. refl) hists
-said-hists n number event hists (Ok (Attach spec)) = refl
-said-hists n number event hists (Ok Remove) = refl
+said-hists n number event hists (Ok (AttachSnapshot spec)) = refl
+said-hists n number event hists (Ok RemoveSnapshot) = refl
 said-hists n number event hists (Ok Nothing) = refl
 said-hists n number event hists (Err fault) = refl
 
@@ -85,8 +85,8 @@ asked-of-later n table hists (Ok (Hist spec)) =
     ap (λ (b : Bool). if b then Some spec.action else None)
     (any-later n (speaks_of spec table) (speaks_of spec (up n table)) (λ t. ap (λ (b : Bool). says_same spec t && b) (up-same n t.table table)) hists)
 asked-of-later n table hists (Ok (RemoveHist spec)) = refl
-asked-of-later n table hists (Ok (Attach spec)) = refl
-asked-of-later n table hists (Ok Remove) = refl
+asked-of-later n table hists (Ok (AttachSnapshot spec)) = refl
+asked-of-later n table hists (Ok RemoveSnapshot) = refl
 asked-of-later n table hists (Ok Nothing) = refl
 asked-of-later n table hists (Err fault) = refl
 

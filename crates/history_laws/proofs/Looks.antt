@@ -10,7 +10,7 @@ use Rattle.trace_format.specs.Definitions.{Definition}
 use Rattle.trace_trigger.specs.TriggerTexts.{said_of}
 use Rattle.trace_trigger.specs.declared.fault.TriggerFault.{TriggerFault}
 use Rattle.trace_trigger.specs.declared.trigger.TriggerText.{TriggerText}
-use Rattle.trace_trigger.specs.declared.trigger.TriggerText.TheVariants.{Nothing, Attach, Remove, Hist, RemoveHist}
+use Rattle.trace_trigger.specs.declared.trigger.TriggerText.TheVariants.{Nothing, AttachSnapshot, RemoveSnapshot, Hist, RemoveHist}
 use Rattle.trace_command.specs.Paths.{File, OfInstance, OfEvent}
 use Rattle.trace_command.specs.Requests.{Request, Emission, MakeInstance, RemoveInstance, WriteFile, ReadFile}
 use Rattle.trace_command.specs.declared.command.Config.{Config}
@@ -21,7 +21,7 @@ use Rattle.tracer_specification.specs.HistTriggers.{hist_triggers, hits_of, is_p
 use Rattle.tracer_specification.specs.Rings.{rings, other_rings, rings_after, rings_of_side, spare_after, spare_rings, with_emitted}
 use Rattle.tracer_specification.specs.Settings.{NumberedEvent, declared_events, declares, event_named, event_named_in, filter_of, instance_names, is_enabled, is_same, is_there, is_tracing, made, makes, now_of, overwrites, removed, set_by, sets_filter, sets_overwrite, sets_tracing, setting, switches, ticks, without as names_without, written_flag, written_to_all}
 use Rattle.tracer_specification.specs.Snapshots.{exchange_count, exchanges, has_spare, is_exchanged_by, live_side, sets_spare, spare_armed_for}
-use Rattle.tracer_specification.specs.Triggers.{Trigger, acts, is_left, met, met_by, passes, sets_trigger, times_left, trigger_of, written_trigger}
+use Rattle.tracer_specification.specs.Triggers.{Trigger, acts, is_left, met, met_by, passes, sets_trigger, times_left, snapshot_trigger_of, written_trigger}
 use Rattle.tracer_specification.proofs.Triggered.{number-before}
 use Rattle.history_laws.proofs.Renumbered.{early-trigger, later_trigger, up, up-cases, up-late, up-less}
 
@@ -57,7 +57,7 @@ pub record IsOneMore (more less : List Request) : Type 0 where
   pub overwriting : (instance : Option (List ℕ)) → overwrites instance more ≡ overwrites instance less
   pub tracing : (instance : Option (List ℕ)) → is_tracing instance more ≡ is_tracing instance less
   pub spare : (instance : Option (List ℕ)) → has_spare instance more ≡ has_spare instance less
-  pub trigger : (instance : Option (List ℕ)) (event : Definition) → trigger_of instance event more ≡ trigger_of instance event less
+  pub trigger : (instance : Option (List ℕ)) (event : Definition) → snapshot_trigger_of instance event more ≡ snapshot_trigger_of instance event less
   pub meets : (event : Definition) (filter : Option Parsed) (n : ℕ) → met event filter n more ≡ met event filter n less
   pub count : (instance : Option (List ℕ)) → exchange_count instance more ≡ exchange_count instance less
   pub sides : (g : Config) (instance : Option (List ℕ)) (side : ℕ) → rings_of_side g instance side more ≡ rings_of_side g instance side less
@@ -203,20 +203,20 @@ module _ (more less : List Request) (one_more : IsOneMore more less) where
 
   later-written : (number : ℕ) (said : Result TriggerText TriggerFault)
       → written_trigger (up first number) said ≡ option_map (option_map (later_trigger first)) (written_trigger number said)
-  later-written number (Ok (Attach spec)) = refl
-  later-written number (Ok Remove) = refl
+  later-written number (Ok (AttachSnapshot spec)) = refl
+  later-written number (Ok RemoveSnapshot) = refl
   later-written number (Ok Nothing) = refl
   later-written number (Ok (Hist spec)) = refl
   later-written number (Ok (RemoveHist spec)) = refl
   later-written number (Err fault) = refl
 
   pub trigger-later : (instance : Option (List ℕ)) (event : Definition) (later : List Request)
-      → trigger_of instance event (with_look later) ≡ option_map (later_trigger first) (trigger_of instance event (without later))
+      → snapshot_trigger_of instance event (with_look later) ≡ option_map (later_trigger first) (snapshot_trigger_of instance event (without later))
   trigger-later instance event later =
       setting-changed instance (sets_trigger event) None (option_map (later_trigger first)) refl
-      (one_more.trigger instance event ∙ before (trigger_of instance event less) refl) sets later
+      (one_more.trigger instance event ∙ before (snapshot_trigger_of instance event less) refl) sets later
     where
-      before : (t : Option Trigger) → trigger_of instance event less ≡ t → t ≡ option_map (later_trigger first) t
+      before : (t : Option Trigger) → snapshot_trigger_of instance event less ≡ t → t ≡ option_map (later_trigger first) t
       before None is = refl
       before (Some t) is = ap Some (sym (early-trigger first t (number-before instance event less t is)))
 
@@ -265,7 +265,7 @@ module _ (more less : List Request) (one_more : IsOneMore more less) where
       → is_exchanged_by instance (with_look later) o ≡ is_exchanged_by instance (without later) o
   by-emission instance later None = refl
   by-emission instance later (Some e) =
-      ap (acts (with_look later) e) (trigger-later instance e.k.event later) ∙ acts-same e later (trigger_of instance e.k.event (without later))
+      ap (acts (with_look later) e) (trigger-later instance e.k.event later) ∙ acts-same e later (snapshot_trigger_of instance e.k.event (without later))
 
   exchanges-same : (instance : Option (List ℕ)) (later : List Request) (request : Request)
       → exchanges instance (with_look later) request ≡ exchanges instance (without later) request

@@ -13,14 +13,14 @@ use Rattle.trace_trigger.specs.Laws.{AttachIsWritten, HistIsRead}
 use Rattle.trace_trigger.specs.TriggerTexts.{said_of}
 use Rattle.trace_trigger.specs.declared.fault.TriggerFault.{TriggerFault}
 use Rattle.trace_trigger.specs.declared.trigger.TriggerText.{TriggerText}
-use Rattle.trace_trigger.specs.declared.trigger.TriggerText.TheVariants.{Nothing, Attach, Remove, Hist, RemoveHist}
+use Rattle.trace_trigger.specs.declared.trigger.TriggerText.TheVariants.{Nothing, AttachSnapshot, RemoveSnapshot, Hist, RemoveHist}
 use Rattle.trace_command.specs.Paths.{OfEvent}
 use Rattle.trace_command.specs.Requests.{Request, WriteFile}
 use Rattle.trace_command.specs.declared.file_name.EventFile.TheVariants as per_event
 use Rattle.tracer_specification.specs.HistTriggers.{HistTrigger, Written, hist_triggers, written_to}
 use Rattle.tracer_specification.specs.Laws.{HistTriggersAreThoseAttached, IsAttached}
 use Rattle.tracer_specification.specs.Settings.{NumberedEvent, declared_events, declares, event_named, is_same, makes, set_by}
-use Rattle.tracer_specification.specs.Triggers.{Trigger, passes, sets_trigger, trigger_of, written_trigger}
+use Rattle.tracer_specification.specs.Triggers.{Trigger, passes, sets_trigger, snapshot_trigger_of, written_trigger}
 use Rattle.tracer_specification.proofs.Events.{index_of_id}
 use Rattle.tracer_specification.proofs.LegalEvents.{named-is_definition, named-is_numbered, named_in-more}
 use Rattle.tracer_specification.proofs.Members.{contains-in, each-in}
@@ -68,7 +68,7 @@ emissions_have_their_rows past later request e k is named =
 record IsAttachedAs (instance : Option (List ℕ)) (event : Definition) (t : Trigger) (past : List Request) : Type 0 where
   text : List ℕ
   by : WasWritten instance event t.number text past
-  said : said_of event text ≡ Ok (Attach t.spec)
+  said : said_of event text ≡ Ok (AttachSnapshot t.spec)
 
 attached-later : (instance : Option (List ℕ)) (event : Definition) (t : Trigger) (past : List Request) (request : Request)
     → IsAttachedAs instance event t past → IsAttachedAs instance event t (request ∷ past)
@@ -86,17 +86,17 @@ attached-later instance event t past request was = record {
 
 record IsSaidBy (number : ℕ) (said : Result TriggerText TriggerFault) (t : Trigger) : Type 0 where
   then_number : t.number ≡ number
-  says : said ≡ Ok (Attach t.spec)
+  says : said ≡ Ok (AttachSnapshot t.spec)
 
 written-says : (number : ℕ) (said : Result TriggerText TriggerFault) (t : Trigger) → written_trigger number said ≡ Some (Some t) → IsSaidBy number said t
-written-says number (Ok (Attach spec)) t is =
+written-says number (Ok (AttachSnapshot spec)) t is =
     let made : Trigger = record { number = number; spec = spec } in
     let same : made ≡ t = same_Some _ _ (same_Some _ _ is) in
     record {
       then_number = ap (λ (u : Trigger). u.number) (sym same);
-      says = ap (λ (u : Trigger). let r : Result TriggerText TriggerFault = Ok (Attach u.spec) in r) same;
+      says = ap (λ (u : Trigger). let r : Result TriggerText TriggerFault = Ok (AttachSnapshot u.spec) in r) same;
     }
-written-says number (Ok Remove) t is = absurd (none-some t (same_Some _ _ is))
+written-says number (Ok RemoveSnapshot) t is = absurd (none-some t (same_Some _ _ is))
 written-says number (Ok Nothing) t is = absurd (none-some (Some t) is)
 written-says number (Ok (Hist spec)) t is = absurd (none-some (Some t) is)
 written-says number (Ok (RemoveHist spec)) t is = absurd (none-some (Some t) is)
@@ -135,15 +135,15 @@ attached-by instance event t past (WriteFile other (Some file) append text) is =
     by false h = absurd (none-some (Some t) h)
 attached-by instance event t past request is = absurd (none-some (Some t) is)
 
-was-attached : (instance : Option (List ℕ)) (event : Definition) (t : Trigger) (past : List Request) → trigger_of instance event past ≡ Some t
+was-attached : (instance : Option (List ℕ)) (event : Definition) (t : Trigger) (past : List Request) → snapshot_trigger_of instance event past ≡ Some t
     → IsAttachedAs instance event t past
 was-attached instance event t [] is = absurd (none-some t is)
 was-attached instance event t (request ∷ past) is =
     by (makes instance request) (set_by instance (sets_trigger event past) request) refl (was-attached instance event t past) is
   where
     by : (new : Bool) (set : Option (Option Trigger)) → set_by instance (sets_trigger event past) request ≡ set
-        → (trigger_of instance event past ≡ Some t → IsAttachedAs instance event t past)
-        → (if new then None else unwrap_or set (trigger_of instance event past)) ≡ Some t → IsAttachedAs instance event t (request ∷ past)
+        → (snapshot_trigger_of instance event past ≡ Some t → IsAttachedAs instance event t past)
+        → (if new then None else unwrap_or set (snapshot_trigger_of instance event past)) ≡ Some t → IsAttachedAs instance event t (request ∷ past)
     by true set was older h = absurd (none-some t h)
     by false None was older h = attached-later instance event t past request (older h)
     by false (Some set) was older h = attached-by instance event t past request (was ∙ ap Some h)

@@ -15,7 +15,7 @@ use Rattle.tracer_specification.specs.Emissions.{Emitted, emitted}
 use Rattle.tracer_specification.specs.HistTriggers.{HistTrigger, hist_triggers}
 use Rattle.tracer_specification.specs.Pasts.{AreDone}
 use Rattle.tracer_specification.specs.Settings.{NumberedEvent, event_named}
-use Rattle.tracer_specification.specs.Triggers.{Trigger, passes, trigger_of}
+use Rattle.tracer_specification.specs.Triggers.{Trigger, passes, snapshot_trigger_of}
 
 -- the condition of a trigger, if one is written, holds of an emission: some tree that it spells does
 abbrev pub HoldsOf : Definition → Option (List ℕ) → Emitted → Type 0
@@ -51,7 +51,7 @@ pub record SnapshotMeets (instance : Option (List ℕ)) (event : Definition) (t 
 abbrev pub SnapshotTriggersMeetAsTheirTrees : Type 0
 SnapshotTriggersMeetAsTheirTrees =
     (g : Config) (past : List Request) (instance : Option (List ℕ)) (name : List ℕ) (k : NumberedEvent) (t : Trigger)
-    → AreDone g past → event_named name past ≡ Some k → trigger_of instance k.event past ≡ Some t
+    → AreDone g past → event_named name past ≡ Some k → snapshot_trigger_of instance k.event past ≡ Some t
     → SnapshotMeets instance k.event t past
 
 -- and such a string attached a hist trigger

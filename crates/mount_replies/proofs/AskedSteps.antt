@@ -18,15 +18,15 @@ use Rattle.error_log.specs.Errors.{ErrorSeen, begun}
 use Rattle.error_log.specs.Logs.{log_text}
 use Rattle.mount_tree.proofs.ThereLemmas.{found_there}
 use Rattle.mount_tree.specs.Children.{file_is_there, is_there, owner_is_there}
-use Rattle.mount_tree.specs.FileKinds.{access_of_file, kind_of_file, takes_lines}
+use Rattle.file_list.specs.FileKinds.{access_of_file, kind_of_file, takes_lines}
 use Rattle.mount_tree.specs.NodePaths.{path_of}
 use Rattle.mount_tree.specs.Nodes.{number_of}
 use Rattle.mount_tree.specs.Scenes.{SceneSeen, most_made}
-use Rattle.mount_tree.specs.declared.file.File.{File}
-use Rattle.mount_tree.specs.declared.file.File.TheVariants as files
-use Rattle.mount_tree.specs.declared.file.FileKind.{FileKind}
-use Rattle.mount_tree.specs.declared.file.FileKind.TheVariants as kinds
-use Rattle.mount_tree.specs.declared.folder.Folder.TheVariants as folders
+use Rattle.file_list.specs.declared.file.File.{File}
+use Rattle.file_list.specs.declared.file.File.TheVariants as files
+use Rattle.file_list.specs.declared.file.FileKind.{FileKind}
+use Rattle.file_list.specs.declared.file.FileKind.TheVariants as kinds
+use Rattle.file_list.specs.declared.folder.Folder.TheVariants as folders
 use Rattle.mount_tree.specs.declared.node.Node.{Node}
 use Rattle.mount_tree.specs.declared.node.Node.TheVariants as nodes
 use Rattle.mount_tree.specs.declared.node.Owner.{Owner}

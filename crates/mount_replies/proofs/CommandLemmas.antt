@@ -6,8 +6,8 @@ use Rattle.std.proofs.lemmas.List.Quantifiers.{position-Some}
 use Rattle.std.proofs.lemmas.List.Splits.{slice_split_first, slice_split_none}
 use Rattle.std.proofs.lemmas.List.Sums.{fails_before_first, position_or_len_is}
 use Rattle.trace_command.specs.Requests.{Request}
-use Rattle.mount_tree.specs.FileKinds.{takes_lines}
-use Rattle.mount_tree.specs.declared.file.File.{File}
+use Rattle.file_list.specs.FileKinds.{takes_lines}
+use Rattle.file_list.specs.declared.file.File.{File}
 use Rattle.mount_replies.specs.Lines.{command_lines, has_newline, is_blank_line, is_newline, lines_of, one_command, pieces_of, without_newline}
 use Rattle.mount_replies.specs.Mounted.{HasLedTo, IsRun, MountSeen, all_done, stopped_at, terms_of}
 use Rattle.mount_replies.specs.Services.{Terms}

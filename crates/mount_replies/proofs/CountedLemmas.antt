@@ -25,14 +25,15 @@ use Rattle.mount_tree.proofs.ListLemmas.{all-unmapped, found_one, found_passes}
 use Rattle.mount_tree.proofs.NumberLemmas.{one_owner, place-below, same_number, unpacked}
 use Rattle.mount_tree.proofs.SoundLemmas.{indexes-below}
 use Rattle.mount_tree.specs.Children.{file_is_there, is_there, owner_is_there}
-use Rattle.mount_tree.specs.FileKinds.{kind_of_file}
-use Rattle.mount_tree.specs.Nodes.{FitsItsTypes, file_index, file_place, number_from, number_of, owner_number}
+use Rattle.file_list.specs.FileKinds.{kind_of_file}
+use Rattle.file_list.specs.FileTable.{file_index}
+use Rattle.mount_tree.specs.Nodes.{FitsItsTypes, file_place, number_from, number_of, owner_number}
 use Rattle.mount_tree.specs.Scenes.{event_at}
 use Rattle.mount_tree.specs.ScenesAfter.{events_after, scene_after}
-use Rattle.mount_tree.specs.declared.file.File.{File}
-use Rattle.mount_tree.specs.declared.file.File.TheVariants.{CpuSize, EventId, Inject, OfCpu, OfEvent}
-use Rattle.mount_tree.specs.declared.file.FileKind.{FileKind}
-use Rattle.mount_tree.specs.declared.file.FileKind.TheVariants as kinds
+use Rattle.file_list.specs.declared.file.File.{File}
+use Rattle.file_list.specs.declared.file.File.TheVariants.{CpuSize, EventId, Inject, OfCpu, OfEvent}
+use Rattle.file_list.specs.declared.file.FileKind.{FileKind}
+use Rattle.file_list.specs.declared.file.FileKind.TheVariants as kinds
 use Rattle.mount_tree.specs.declared.node.Node.{Node}
 use Rattle.mount_tree.specs.declared.node.Node.TheVariants as nodes
 use Rattle.mount_tree.specs.declared.node.Owner.{Owner}

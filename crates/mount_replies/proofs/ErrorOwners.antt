@@ -23,7 +23,7 @@ use Rattle.mount_tree.proofs.SoundLemmas.{instances-sound}
 use Rattle.mount_tree.specs.Children.{owner_is_there}
 use Rattle.mount_tree.specs.Scenes.{instance_at, without_named}
 use Rattle.mount_tree.specs.ScenesAfter.{instances_after, left_instances, made_after, made_instance, scene_after}
-use Rattle.mount_tree.specs.declared.folder.Folder.TheVariants as folders
+use Rattle.file_list.specs.declared.folder.Folder.TheVariants as folders
 use Rattle.mount_tree.specs.declared.node.Node.{Node}
 use Rattle.mount_tree.specs.declared.node.Node.TheVariants as nodes
 use Rattle.mount_tree.specs.declared.node.Owner.{Owner}

@@ -7,8 +7,8 @@ use Rattle.std.specs.List.{before_first, join_with_byte, onto_first, position_or
 use Rattle.trace_command.specs.Requests.{Request}
 use Rattle.trace_command.specs.declared.refusal.Refusal.{Refusal}
 use Rattle.trace_command.specs.declared.refusal.Refusal.TheVariants.{Memory}
-use Rattle.mount_tree.specs.FileKinds.{takes_lines}
-use Rattle.mount_tree.specs.declared.file.File.{File}
+use Rattle.file_list.specs.FileKinds.{takes_lines}
+use Rattle.file_list.specs.declared.file.File.{File}
 use Rattle.mount_replies.proofs.KeptLines.{neither}
 use Rattle.mount_replies.proofs.KeptTexts.{either}
 use Rattle.mount_replies.specs.Lines.{command_lines, has_newline, is_blank_line, is_newline, line_at_once, lines_of, most_kept, one_command, pieces_of, stream_lines, without_newline}

@@ -1,9 +1,8 @@
 -- What open files keep of what was written to them: no newline, and nothing where no newline was ever written.
-use Rattle.std.proofs.Common.{◌≡◌, inl, inr, ℕ, ◌==◌, zero, suc, Bool, true, false, not, ◌&&◌, ◌||◌, if◌then◌else◌, cond, nat_lt, List, [], ◌∷◌, ◌++◌, length, set, Option, Some, None, unwrap_or, option_map, Result, Ok, Err, refl, sym, ap, subst, ◌∙◌, slice_get}
+use Rattle.std.proofs.Common.{◌≡◌, inl, inr, ℕ, ◌==◌, zero, suc, Bool, true, false, not, ◌&&◌, ◌||◌, if◌then◌else◌, cond, nat_lt, List, [], ◌∷◌, ◌++◌, length, set, Option, Some, None, option_map, Result, Ok, Err, refl, sym, ap, subst, ◌∙◌, slice_get}
 use Rattle.std.proofs.Math.Dec.{eqb-suc-zero}
 use Rattle.std.proofs.lemmas.Bool.{false≢true}
 use Rattle.std.specs.List.{list_any, onto_first}
-use Rattle.fuse_wire.specs.declared.errno.Errno.TheVariants.{EACCES, EAGAIN, EINTR, EINVAL, ENOENT}
 use Rattle.fuse_wire.specs.declared.reply.Reply.{Reply}
 use Rattle.fuse_wire.specs.declared.reply.Reply.TheVariants as replies
 use Rattle.fuse_wire.specs.declared.request.Operation.{Operation}
@@ -14,14 +13,14 @@ use Rattle.trace_format.specs.Definitions.{Definition}
 use Rattle.tracer_specification.specs.Settings.{declared_events, now_of}
 use Rattle.error_log.specs.Logs.{log_text}
 use Rattle.mount_tree.specs.Children.{is_there}
-use Rattle.mount_tree.specs.FileKinds.{access_of_file, kind_of_file}
+use Rattle.file_list.specs.FileKinds.{access_of_file, kind_of_file}
 use Rattle.mount_tree.specs.Nodes.{number_of}
-use Rattle.mount_tree.specs.Scenes.{SceneSeen, most_made}
-use Rattle.mount_tree.specs.declared.file.File.{File}
-use Rattle.mount_tree.specs.declared.file.File.TheVariants as files
-use Rattle.mount_tree.specs.declared.file.FileKind.{FileKind}
-use Rattle.mount_tree.specs.declared.file.FileKind.TheVariants as kinds
-use Rattle.mount_tree.specs.declared.folder.Folder.TheVariants as folders
+use Rattle.mount_tree.specs.Scenes.{most_made}
+use Rattle.file_list.specs.declared.file.File.{File}
+use Rattle.file_list.specs.declared.file.File.TheVariants as files
+use Rattle.file_list.specs.declared.file.FileKind.{FileKind}
+use Rattle.file_list.specs.declared.file.FileKind.TheVariants as kinds
+use Rattle.file_list.specs.declared.folder.Folder.TheVariants as folders
 use Rattle.mount_tree.specs.declared.node.Node.{Node}
 use Rattle.mount_tree.specs.declared.node.Node.TheVariants as nodes
 use Rattle.mount_tree.specs.declared.node.Owner.{Owner}
@@ -32,16 +31,17 @@ use Rattle.mount_stub_files.specs.declared.write.ToolWrite.{ToolWrite}
 use Rattle.mount_stub_files.specs.declared.write.ToolWrite.TheVariants as writes
 use Rattle.mount_replies.proofs.FileLemmas.{none-more, none-set}
 use Rattle.mount_replies.proofs.KeptTexts.{either}
-use Rattle.mount_replies.specs.FileWrites.{event_of_file, flush_file, flush_line, has_rest, inject, inject_at_once, inject_stream, release, release_line, switched, write_file, write_kind, write_other, write_text, write_tool}
+use Rattle.mount_replies.specs.FileWrites.{event_of_file, flush_file, flush_line, has_rest, inject, release, release_line, switched, write_file, write_kind, write_other, write_tool}
 use Rattle.mount_replies.specs.Lines.{flushed, goes_on, has_newline, injected, injected_at_once, is_memory, is_newline, last_piece, pieces_of, released, stream_after, written}
 use Rattle.mount_replies.specs.Mounted.{AreServed, Does, IsExchanged, Right, Serves, TellsOwed, Unframed, Wrong}
 use Rattle.mount_replies.specs.Owed.{Owed, ReplyAt, WakeupAt, owed, step_of_parked}
 use Rattle.mount_replies.specs.PastLaws.{just_mounted}
 use Rattle.mount_replies.specs.Pipes.{ends, is_dry, is_used_up, would_wait}
-use Rattle.mount_replies.specs.Served.{AsksNone, AsksToWrite, Emptying, clears, emptied_first, emptying_of, given_counted, given_records, given_text, given_tool, goes_on_in, handed_out, is_cached, is_nonblocking, made_folder, make_folder, makes_text, opened, opened_file, opened_unless_emptied, poll_file, poll_kind, read_anew, read_dry, read_file, read_kind, read_log, read_new, read_pipe, read_pipe_directly, read_records, read_shown, read_text, read_tool, remove_folder, removed_folder, step_of, taken_records, text_counted, unless_counted, wants_wakeup, with_going_on}
-use Rattle.mount_replies.specs.Services.{OpenSeen, Service, Terms, after_reading, armed, count_of, drop_rest, file_at, free_handle, is_read_out, just_opened, most_data, node_of, polled_by, read_of_pipe, scene_of, with_change, with_dry_read, with_file, with_poll, with_reading, with_records, with_stream, with_write, without_file, without_read, without_rest, without_wakeup}
+use Rattle.mount_replies.specs.Served.{AsksNone, AsksToWrite, Emptying, clears, emptied_first, emptying_of, given_counted, given_text, given_tool, handed_out, is_cached, is_nonblocking, made_folder, make_folder, makes_text, opened, opened_unless_emptied, poll_file, poll_kind, read_dry, read_file, read_kind, read_log, read_new, read_pipe, read_pipe_directly, read_shown, read_text, read_tool, remove_folder, removed_folder, step_of, taken_records, text_counted, unless_counted, wants_wakeup, with_going_on}
+use Rattle.mount_replies.specs.ServedErrors.{KeepsLine, OpenFilesKeepLines}
+use Rattle.mount_replies.specs.Services.{OpenSeen, Service, Terms, after_reading, armed, count_of, drop_rest, file_at, free_handle, is_read_out, just_opened, node_of, polled_by, read_of_pipe, scene_of, with_change, with_dry_read, with_file, with_poll, with_reading, with_records, with_stream, with_write, without_file, without_read, without_rest, without_wakeup}
 use Rattle.mount_replies.specs.Sizes.{Telling, is_recent, set_attributes, size_by_kind, size_of_text, tell_attributes, tell_entry, tell_size}
-use Rattle.mount_replies.specs.Steps.{Asks, AsksLines, AsksNoting, Counts, Interrupts, LineRefused, Outcome, Parks, Plain, Ran, Step, Takes, Tells, failed, plain}
+use Rattle.mount_replies.specs.Steps.{Asks, AsksLines, AsksNoting, Counts, Interrupts, LineRefused, Outcome, Parks, Plain, Ran, Step, Takes, Tells}
 use Rattle.mount_replies.specs.Told.{attributes_of, empties, found_in, known, may, sets_size, wants_read, wants_write}
 use Rattle.mount_replies.specs.declared.counted.Counted.{Counted}
 use Rattle.mount_replies.specs.declared.parked.Parked.{Parked}
@@ -54,7 +54,7 @@ abbrev keeps_more : Option OpenSeen → Bool
 keeps_more None = false
 keeps_more (Some file) = has_newline file.stream.rest || (not file.stream.is_stream && has_rest file)
 
-abbrev pub NoneKeepsMore : List (Option OpenSeen) → Type 0
+abbrev NoneKeepsMore : List (Option OpenSeen) → Type 0
 NoneKeepsMore files = list_any keeps_more files ≡ false
 
 pub neither : (a b : Bool) → (a || b) ≡ false → (a ≡ false) × (b ≡ false)
@@ -72,16 +72,11 @@ at-handle (None ∷ files) zero none = refl
 at-handle (Some file ∷ files) zero none = (neither (keeps_more (Some file)) (list_any keeps_more files) none).0
 at-handle (first ∷ files) (suc handle) none = at-handle files handle (neither (keeps_more first) (list_any keeps_more files) none).1
 
--- what an open file keeps, of those of a service
-pub record KeepsLine (file : OpenSeen) : Type 0 where
-  pub unended : has_newline file.stream.rest ≡ false
-  pub streamed : file.stream.is_stream ≡ false → file.stream.rest ≡ []
-
 none-there : (text : List ℕ) → not (length text == 0) ≡ false → text ≡ []
 none-there [] h = refl
 none-there (b ∷ bs) h = absurd (false≢true (sym h ∙ ap not (eqb-suc-zero (length bs))))
 
-pub kept-line : (files : List (Option OpenSeen)) (handle : ℕ) (file : OpenSeen) → NoneKeepsMore files → file_at handle files ≡ Some file → KeepsLine file
+kept-line : (files : List (Option OpenSeen)) (handle : ℕ) (file : OpenSeen) → NoneKeepsMore files → file_at handle files ≡ Some file → KeepsLine file
 kept-line files handle file none opened =
     let both = neither (has_newline file.stream.rest) (not file.stream.is_stream && has_rest file) (ap keeps_more (sym opened) ∙ at-handle files handle none) in
     record { unended = both.0; streamed = λ is. none-there file.stream.rest (by file.stream.is_stream is both.1) }
@@ -479,5 +474,6 @@ all-none g before (asked ∷ requests) [] after none is = absurd is
 all-none g before (asked ∷ requests) (bytes ∷ messages) after none (next, one, more) =
     all-none g next requests messages after (exchange-none g before asked bytes next none one) more
 
-pub none-keeps-more : (g : Terms) (requests messages : List (List ℕ)) (after : Service) → Serves g just_mounted requests messages after → NoneKeepsMore after.files
-none-keeps-more g requests messages after is = all-none g just_mounted requests messages after refl is
+pub open_files_keep_lines : OpenFilesKeepLines
+open_files_keep_lines g requests messages after is handle file opened =
+    kept-line after.files handle file (all-none g just_mounted requests messages after refl is) opened

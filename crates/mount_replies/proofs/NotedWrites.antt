@@ -1,5 +1,6 @@
 -- What is noted is a write that was refused, and whose refusal was told.
-use Rattle.std.proofs.Common.{◌≡◌, inl, inr, ℕ, ◌==◌, nat_lt, Bool, true, false, not, ◌&&◌, if◌then◌else◌, List, [], ◌∷◌, length, Option, Some, None, unwrap_or, Result, Ok, Err, refl, sym, ap, subst, ◌∙◌, slice_get, ◌⊎◌, ◌++◌, ◌%◌, ◌^◌, append-nil}
+use Rattle.std.proofs.Common.{◌≡◌, inl, inr, ℕ, ◌==◌, nat_lt, Bool, true, false, not, ◌&&◌, if◌then◌else◌, List, [], ◌∷◌, length, Option, Some, None, Result, Ok, Err, refl, sym, ap, subst, ◌∙◌, slice_get, ◌⊎◌, ◌++◌, ◌%◌, ◌^◌, append-nil}
+use Rattle.std.proofs.lemmas.Bool.{false≢true}
 use Rattle.std.specs.List.{before_first}
 use Rattle.fuse_wire.specs.declared.errno.Errno.{Errno}
 use Rattle.fuse_wire.specs.declared.errno.Errno.TheVariants.{EACCES, EINVAL, ENOENT, ENOSPC}
@@ -19,16 +20,16 @@ use Rattle.trace_format.specs.declared.pair.Pair.{Pair}
 use Rattle.tracer_specification.specs.Settings.{declared_events, now_of}
 use Rattle.error_log.proofs.LineLemmas.{caret_stands_under}
 use Rattle.error_log.specs.Errors.{ErrorSeen, refused}
-use Rattle.mount_tree.specs.FileKinds.{access_of_file, kind_of_file}
+use Rattle.file_list.specs.FileKinds.{access_of_file, kind_of_file}
 use Rattle.mount_tree.specs.Children.{is_there}
 use Rattle.mount_tree.specs.NodePaths.{path_of}
 use Rattle.mount_tree.specs.Nodes.{number_of}
 use Rattle.mount_tree.specs.Scenes.{most_made}
-use Rattle.mount_tree.specs.declared.file.File.{File}
-use Rattle.mount_tree.specs.declared.file.File.TheVariants as files
-use Rattle.mount_tree.specs.declared.file.FileKind.{FileKind}
-use Rattle.mount_tree.specs.declared.file.FileKind.TheVariants as kinds
-use Rattle.mount_tree.specs.declared.folder.Folder.TheVariants as folders
+use Rattle.file_list.specs.declared.file.File.{File}
+use Rattle.file_list.specs.declared.file.File.TheVariants as files
+use Rattle.file_list.specs.declared.file.FileKind.{FileKind}
+use Rattle.file_list.specs.declared.file.FileKind.TheVariants as kinds
+use Rattle.file_list.specs.declared.folder.Folder.TheVariants as folders
 use Rattle.mount_tree.specs.declared.node.Node.{Node}
 use Rattle.mount_tree.specs.declared.node.Node.TheVariants as nodes
 use Rattle.mount_tree.specs.declared.node.Owner.{Owner}
@@ -38,7 +39,7 @@ use Rattle.mount_stub_files.specs.declared.write.ToolWrite.{ToolWrite}
 use Rattle.mount_stub_files.specs.declared.write.ToolWrite.TheVariants as writes
 use Rattle.mount_replies.proofs.AnsweredOnce.{IsReadStep, parked-step, read-step}
 use Rattle.mount_replies.proofs.FirstLines.{EndLater, FirstStops, IsStreamRefused, NoneIsTooLong, all-first, first-refused, lines-end, once-refused, stream-ends, stream-refused}
-use Rattle.mount_replies.proofs.KeptLines.{KeepsLine, NoneKeepsMore, kept-line, neither, none-keeps-more}
+use Rattle.mount_replies.proofs.KeptLines.{neither}
 use Rattle.mount_replies.proofs.KeptTexts.{either}
 use Rattle.mount_replies.specs.Errnos.{errno_of}
 use Rattle.mount_replies.specs.FileWrites.{begun_now, end_line, event_of_file, flush_file, flush_line, has_rest, inject, inject_at_once, inject_stream, noted_first_injection, release, release_line, write_file, write_kind, write_other, write_switch, write_text, write_tool}
@@ -47,7 +48,7 @@ use Rattle.mount_replies.specs.Lines.{asked_by_line, asked_by_pairs, errno_of_fa
 use Rattle.mount_replies.specs.Mounted.{AreServed, Does, IsAnswered, MayRun, Right, TellsOwed, Unframed, Wrong, bytes_of_reply, past_after}
 use Rattle.mount_replies.specs.Owed.{Owed, ReplyAt, WakeupAt, owed, step_of_parked}
 use Rattle.mount_replies.specs.Served.{AsksNone, AsksToWrite, Emptying, clears, emptied, emptying_of, forgotten, forgotten_if_done, handed_out, instance_path, is_cached, make_folder, made_folder, opened, opened_file, opened_unless_emptied, poll_file, poll_kind, remove_folder, removed_folder, step_of}
-use Rattle.mount_replies.specs.ServedErrors.{EndsLines, IsBlamed, IsFileOf, IsFirstRefused, IsNoted, IsRefusedWrite, NotedWritesWereRefused, OfCommand, OfEvent, OfLongLine, OfNothing, OfSwitch, OfWord, Opens, Writes, bytes_written, event_injected, first_not_done, not_done, noting_asked, noting_by, noting_told, writer_of}
+use Rattle.mount_replies.specs.ServedErrors.{EndsLines, IsBlamed, IsFileOf, IsFirstRefused, IsNoted, IsRefusedWrite, KeepLines, KeepsLine, NotedWritesWereRefused, OfCommand, OfEvent, OfLongLine, OfNothing, OfSwitch, OfWord, Opens, Writes, bytes_written, event_injected, first_not_done, not_done, noting_asked, noting_by, noting_told, writer_of}
 use Rattle.mount_replies.specs.Services.{OpenSeen, Service, Terms, count_of, drop_rest, file_at, just_opened, node_of, read_of_pipe, scene_of, with_stream, with_write, without_file, without_read, without_rest}
 use Rattle.mount_replies.specs.Sizes.{Telling, count_text, is_recent, set_attributes, get_attributes, size_by_kind, size_counted, size_of_text, tell_attributes, tell_entry, tell_size}
 use Rattle.mount_replies.specs.Steps.{Asking, Asks, AsksFor, AsksLines, AsksNothing, AsksNoting, Counts, Forgets, Interrupts, IsTooLong, IsWrongLine, Keeps, LineAsked, LineRefused, Notes, Noting, Outcome, Parks, Plain, Ran, Step, Takes, Tells, failed, plain, told}
@@ -84,14 +85,14 @@ none-too-long cpus pid event line is = by (is_blank_line line) (pairs_of_line li
 
 -- F says of which file
 module _ (g : Terms) (s : Service) (pid : ℕ) (operation : Operation) (F : OpenSeen → Type 0) where
-  -- a write to such a file that was refused, and told so; no command was done
+  -- a write to such a file that was refused, and told so; no command was done where open files keep lines
   record IsWell (past : List Request) (error : ErrorSeen) (reply : Option Reply) : Type 0 where
     file : OpenSeen
     by : F file
     errno : Errno
-    write : IsRefusedWrite g s pid operation file errno error
+    write : IsRefusedWrite g s pid operation past file errno error
     told : reply ≡ Some (replies.Error errno)
-    undone : past ≡ s.past
+    undone : KeepLines s → past ≡ s.past
 
   abbrev NotesWell : List Request → Noting → Option Reply → Type 0
   NotesWell past Keeps reply = Unit {0}
@@ -144,21 +145,27 @@ module _ (g : Terms) (s : Service) (pid : ℕ) (operation : Operation) (F : Open
   -- ---- writes that are refused
 
   -- such a write to this file
-  refused-write : (file : OpenSeen) (text sentence : List ℕ) (offset : ℕ) (errno : Errno) → IsBlamed g s pid operation file text offset errno
-      → IsRefusedWrite g s pid operation file errno (refused (begun_now g s file) text sentence offset)
-  refused-write file text sentence offset errno blamed = record {
+  refused-write : (past : List Request) (file : OpenSeen) (text sentence : List ℕ) (offset : ℕ) (errno : Errno) → IsBlamed g s pid operation file text offset errno
+      → IsRefusedWrite g s pid operation past file errno (refused (begun_now g (record s { past = past }) file) text sentence offset)
+  refused-write past file text sentence offset errno blamed = record {
     text = text;
     sentence = sentence;
     offset = offset;
     is = refl;
     blamed = blamed;
-    stands = caret_stands_under file.owner (now_of s.past) (path_of (scene_of g s) (node_of file)) text sentence offset;
+    stands = caret_stands_under file.owner (now_of past) (path_of (scene_of g (record s { past = past })) (node_of file)) text sentence offset;
   }
 
+  well-after : (past : List Request) (file : OpenSeen) (text sentence : List ℕ) (offset : ℕ) (errno : Errno) → F file
+      → IsBlamed g s pid operation file text offset errno → (KeepLines s → past ≡ s.past)
+      → IsWell past (refused (begun_now g (record s { past = past }) file) text sentence offset) (Some (replies.Error errno))
+  well-after past file text sentence offset errno by blamed undone =
+      record { file = file; by = by; errno = errno; write = refused-write past file text sentence offset errno blamed; told = refl; undone = undone }
+
+  -- where nothing was done before
   well : (file : OpenSeen) (text sentence : List ℕ) (offset : ℕ) (errno : Errno) → F file → IsBlamed g s pid operation file text offset errno
       → IsWell s.past (refused (begun_now g s file) text sentence offset) (Some (replies.Error errno))
-  well file text sentence offset errno by blamed =
-      record { file = file; by = by; errno = errno; write = refused-write file text sentence offset errno blamed; told = refl; undone = refl }
+  well file text sentence offset errno by blamed = well-after s.past file text sentence offset errno by blamed (λ keeps. refl)
 
   -- of a line of the tracer's own files
   command-notes : (file : OpenSeen) (own text : List ℕ) (fault : LineFault) → F file → Writes operation own
@@ -189,32 +196,33 @@ module _ (g : Terms) (s : Service) (pid : ℕ) (operation : Operation) (F : Open
   Refuses file event text fault =
       IsStreamRefused g s.past (asked_by_line g.config.cpus (writer_of file operation pid) event) (not_done file operation) text fault
 
-  own-notes : (file : OpenSeen) (event : Definition) (text : List ℕ) (fault : LineFault) → F file → Injects file event → Refuses file event text fault
-      → NotesWell s.past (noted_line event (begun_now g s file) text fault) (Some (replies.Error (errno_of_fault fault)))
-  own-notes file event text (Refused Memory) by ends own = tt
-  own-notes file event text (Refused refusal) by ends own =
-      well file text _ _ (errno_of refusal) by (OfEvent event (Refused refusal) ends.0 ends.1 own.0 own.1 refl refl)
-  own-notes file event text NoCommand by ends own = well file text _ _ EINVAL by (OfEvent event NoCommand ends.0 ends.1 own.0 own.1 refl refl)
-  own-notes file event text TooLong by ends own = well file text _ _ EINVAL by (OfLongLine ends.0 own.0 own.1 own.2 refl refl)
+  -- or memory was; nothing was done before it
+  abbrev StopsFirst : List Request → OpenSeen → Definition → List ℕ → LineFault → Type 0
+  StopsFirst past file event text fault = (past ≡ s.past) × ((fault ≡ Refused Memory) ⊎ Refuses file event text fault)
 
-  stops-notes : (file : OpenSeen) (event : Definition) (text : List ℕ) (fault : LineFault) → F file → Injects file event
-      → (fault ≡ Refused Memory) ⊎ Refuses file event text fault
-      → NotesWell s.past (noted_line event (begun_now g s file) text fault) (Some (replies.Error (errno_of_fault fault)))
-  stops-notes file event text fault by ends (inl memory) =
-      subst (λ (f : LineFault). NotesWell s.past (noted_line event (begun_now g s file) text f) (Some (replies.Error (errno_of_fault f)))) (sym memory) tt
-  stops-notes file event text fault by ends (inr own) = own-notes file event text fault by ends own
+  unless-memory : {A : Type 0} (fault : LineFault) → is_memory fault ≡ false → (fault ≡ Refused Memory) ⊎ A → A
+  unless-memory fault is (inl memory) = absurd (false≢true (sym is ∙ ap is_memory memory))
+  unless-memory fault is (inr own) = own
 
-  -- nothing was done before it
-  line-notes : (past : List Request) (file : OpenSeen) (event : Definition) (lines : List LineAsked) (text : List ℕ) (fault : LineFault) → F file → Injects file event
-      → (IsFirstRefused g s.past lines text fault → Refuses file event text fault) → (past ≡ s.past) × FirstStops g s.past lines text fault
+  line-notes : (past : List Request) (file : OpenSeen) (event : Definition) (text : List ℕ) (fault : LineFault) → F file → Injects file event
+      → (KeepLines s → StopsFirst past file event text fault)
       → NotesWell past (noted_line event (begun_now g (record s { past = past }) file) text fault) (Some (replies.Error (errno_of_fault fault)))
-  line-notes past file event lines text fault by ends refuses (undone, stops) =
-      subst (λ (p : List Request). NotesWell p (noted_line event (begun_now g (record s { past = p }) file) text fault) (Some (replies.Error (errno_of_fault fault))))
-      (sym undone) (stops-notes file event text fault by ends (found stops))
-    where
-      found : FirstStops g s.past lines text fault → (fault ≡ Refused Memory) ⊎ Refuses file event text fault
-      found (inl memory) = inl memory
-      found (inr first) = inr (refuses first)
+  line-notes past file event text (Refused Memory) by ends stops = tt
+  line-notes past file event text (Refused refusal) by ends stops =
+      well-after past file text _ _ (errno_of refusal) by
+      (OfEvent event (Refused refusal) ends.0 ends.1 (λ keeps. unless-memory (Refused refusal) refl (stops keeps).1) refl refl) (λ keeps. (stops keeps).0)
+  line-notes past file event text NoCommand by ends stops =
+      well-after past file text _ _ EINVAL by (OfEvent event NoCommand ends.0 ends.1 (λ keeps. unless-memory NoCommand refl (stops keeps).1) refl refl)
+      (λ keeps. (stops keeps).0)
+  line-notes past file event text TooLong by ends stops =
+      well-after past file text _ _ EINVAL by (OfLongLine ends.0 (λ keeps. unless-memory TooLong refl (stops keeps).1) refl refl) (λ keeps. (stops keeps).0)
+
+  -- the first of these lines is that of what was not done
+  stops-first : (past : List Request) (file : OpenSeen) (event : Definition) (lines : List LineAsked) (text : List ℕ) (fault : LineFault)
+      → (IsFirstRefused g s.past lines text fault → Refuses file event text fault) → (past ≡ s.past) × FirstStops g s.past lines text fault
+      → StopsFirst past file event text fault
+  stops-first past file event lines text fault refuses (undone, inl memory) = (undone, inl memory)
+  stops-first past file event lines text fault refuses (undone, inr first) = (undone, inr (refuses first))
 
   -- the first line was not done
   first-notes : (past : List Request) (noting : List ℕ → LineFault → Noting) (done : ℕ) (line : LineRefused) (one other : Outcome)
@@ -290,10 +298,15 @@ module _ (g : Terms) (s : Service) (pid : ℕ) (operation : Operation) (F : Open
   other-notes handle file bytes kinds.Pipe by written = text-notes handle file bytes by written
   other-notes handle file bytes kinds.Inject by written = text-notes handle file bytes by written
 
-  stream-notes : (handle lock_owner : ℕ) (bytes : List ℕ) (file : OpenSeen) (event : Definition) → F file → Injects file event → KeepsLine file → Writes operation bytes
+  -- what its open file keeps, where open files keep lines
+  abbrev Kept : OpenSeen → Type 0
+  Kept file = KeepLines s → KeepsLine file
+
+  stream-notes : (handle lock_owner : ℕ) (bytes : List ℕ) (file : OpenSeen) (event : Definition) → F file → Injects file event → Kept file → Writes operation bytes
       → StepNotes (inject_stream g s handle lock_owner pid bytes file event)
   stream-notes handle lock_owner bytes file event by ends keeps written ran runs =
-      lines ran.done ran.refused (λ line refused none. first-refused g s.past asked ran line (stream-ends asking (length bytes) file.stream.rest bytes keeps.unended) runs refused none)
+      lines ran.done ran.refused (λ line refused none all. stops-first ran.past file event asked line.text line.fault (refuses line.text line.fault)
+      (first-refused g s.past asked ran line (stream-ends asking (length bytes) file.stream.rest bytes (keeps all).unended) runs refused none))
     where
       asking : List ℕ → Asking
       asking = asked_by_line g.config.cpus pid event
@@ -314,23 +327,24 @@ module _ (g : Terms) (s : Service) (pid : ℕ) (operation : Operation) (F : Open
           (stream-refused g s.past asking (length file.stream.rest) (length bytes) (file.stream.rest ++ bytes) text fault (none-too-long g.config.cpus pid event) first))
 
       lines : (done : ℕ) (refused : Option LineRefused)
-          → ((line : LineRefused) → refused ≡ Some line → (done == 0) ≡ true → (ran.past ≡ s.past) × FirstStops g s.past asked line.text line.fault)
+          → ((line : LineRefused) → refused ≡ Some line → (done == 0) ≡ true → KeepLines s → StopsFirst ran.past file event line.text line.fault)
           → NotesWell ran.past (noted_if_first noting done refused) (injected handle after (length bytes) s.files done refused).reply
       lines done None first = tt
       lines done (Some line) first =
           first-notes ran.past noting done line
           (told (replies.Error (errno_of_fault line.fault)) (if is_memory line.fault then s.files else drop_rest handle s.files))
           (told (replies.Written done) (with_stream (without_rest after) handle s.files))
-          (λ none. line-notes ran.past file event asked line.text line.fault by ends (refuses line.text line.fault) (first line refl none))
+          (λ none. line-notes ran.past file event line.text line.fault by ends (first line refl none))
 
-  -- one line, of the process and the bytes that are the first not done
+  -- one line, of the process whose it is, and of bytes that are the first not done where open files keep lines
   single-notes : (own : List ℕ) (whose : ℕ) (file : OpenSeen) (event : Definition) (outcome : Option LineRefused → Outcome) → F file → Injects file event
-      → writer_of file operation pid ≡ whose → own ≡ first_not_done file operation
+      → writer_of file operation pid ≡ whose → (KeepLines s → own ≡ first_not_done file operation)
       → ((line : LineRefused) → (outcome (Some line)).reply ≡ Some (replies.Error (errno_of_fault line.fault)))
       → (ran : Ran) → MayRun g s.past (line_at_once (asked_by_line g.config.cpus whose event) own) ran
       → NotesWell ran.past (noted_first_injection g s file event ran) (outcome ran.refused).reply
   single-notes own whose file event outcome by ends same is says ran runs =
-      lines ran.refused (λ line refused none. first-refused g s.past asked ran line (inr refl, tt) runs refused none)
+      lines ran.refused (λ line refused none all. stops-first ran.past file event asked line.text line.fault (refuses line.text line.fault all)
+      (first-refused g s.past asked ran line (inr refl, tt) runs refused none))
     where
       asking : List ℕ → Asking
       asking = asked_by_line g.config.cpus whose event
@@ -341,21 +355,21 @@ module _ (g : Terms) (s : Service) (pid : ℕ) (operation : Operation) (F : Open
       noting : List ℕ → LineFault → Noting
       noting = noted_line event (begun_now g (record s { past = ran.past }) file)
 
-      refuses : (text : List ℕ) (fault : LineFault) → IsFirstRefused g s.past asked text fault → Refuses file event text fault
-      refuses text fault first =
+      refuses : (text : List ℕ) (fault : LineFault) → KeepLines s → IsFirstRefused g s.past asked text fault → Refuses file event text fault
+      refuses text fault all first =
           subst (λ (n : ℕ). IsStreamRefused g s.past (asked_by_line g.config.cpus n event) (not_done file operation) text fault) (sym same)
-          (once-refused g s.past asking own (not_done file operation) text fault (none-too-long g.config.cpus whose event) is first)
+          (once-refused g s.past asking own (not_done file operation) text fault (none-too-long g.config.cpus whose event) (is all) first)
 
       lines : (refused : Option LineRefused)
-          → ((line : LineRefused) → refused ≡ Some line → (ran.done == 0) ≡ true → (ran.past ≡ s.past) × FirstStops g s.past asked line.text line.fault)
+          → ((line : LineRefused) → refused ≡ Some line → (ran.done == 0) ≡ true → KeepLines s → StopsFirst ran.past file event line.text line.fault)
           → NotesWell ran.past (noted_if_first noting ran.done refused) (outcome refused).reply
       lines None first = tt
       lines (Some line) first =
           any-notes ran.past noting ran.done line (outcome (Some line)).reply
           (λ none. subst (λ (r : Option Reply). NotesWell ran.past (noting line.text line.fault) r) (sym (says line))
-          (line-notes ran.past file event asked line.text line.fault by ends (refuses line.text line.fault) (first line refl none)))
+          (line-notes ran.past file event line.text line.fault by ends (first line refl none)))
 
-  once-notes : (bytes : List ℕ) (file : OpenSeen) (event : Definition) → F file → Injects file event → KeepsLine file → Writes operation bytes
+  once-notes : (bytes : List ℕ) (file : OpenSeen) (event : Definition) → F file → Injects file event → Kept file → Writes operation bytes
       → goes_on file.stream bytes ≡ false → StepNotes (inject_at_once g s pid bytes file event)
   once-notes bytes file event by ends keeps written apart =
       single-notes bytes pid file event (injected_at_once (length bytes) s.files) by ends (writes-whose operation bytes file pid written) own (λ line. refl)
@@ -363,12 +377,12 @@ module _ (g : Terms) (s : Service) (pid : ℕ) (operation : Operation) (F : Open
       both : (file.stream.is_stream ≡ false) × (has_newline bytes ≡ false)
       both = neither file.stream.is_stream (has_newline bytes) apart
 
-      own : bytes ≡ first_not_done file operation
-      own =
-          sym (ap (λ (rest : List ℕ). before_first is_newline (rest ++ bytes_written operation)) (keeps.streamed both.0)
+      own : KeepLines s → bytes ≡ first_not_done file operation
+      own all =
+          sym (ap (λ (rest : List ℕ). before_first is_newline (rest ++ bytes_written operation)) ((keeps all).streamed both.0)
           ∙ ap (before_first is_newline) (writes-are operation bytes written) ∙ all-first bytes both.1)
 
-  inject-notes : (handle lock_owner : ℕ) (bytes : List ℕ) (file : OpenSeen) (event : Option Definition) → F file → KeepsLine file → Writes operation bytes
+  inject-notes : (handle lock_owner : ℕ) (bytes : List ℕ) (file : OpenSeen) (event : Option Definition) → F file → Kept file → Writes operation bytes
       → event_injected s file.file ≡ event → StepNotes (inject g s handle lock_owner pid bytes file event)
   inject-notes handle lock_owner bytes file None by keeps written is = tt
   inject-notes handle lock_owner bytes file (Some event) by keeps written is = by_kind (goes_on file.stream bytes) refl
@@ -381,14 +395,14 @@ module _ (g : Terms) (s : Service) (pid : ℕ) (operation : Operation) (F : Open
       by_kind true at = stream-notes handle lock_owner bytes file event by ends keeps written
       by_kind false at = once-notes bytes file event by ends keeps written at
 
-  kind-notes : (handle lock_owner : ℕ) (bytes : List ℕ) (own : OpenSeen) (file : File) → F own → KeepsLine own → Writes operation bytes → own.file ≡ file
+  kind-notes : (handle lock_owner : ℕ) (bytes : List ℕ) (own : OpenSeen) (file : File) → F own → Kept own → Writes operation bytes → own.file ≡ file
       → StepNotes (write_kind g s handle lock_owner pid bytes own file)
   kind-notes handle lock_owner bytes own (files.Inject event) by keeps written same =
       inject-notes handle lock_owner bytes own (slice_get (declared_events s.past) event) by keeps written (ap (λ (f : File). event_injected s f) same)
   kind-notes handle lock_owner bytes own _ by keeps written same = other-notes handle own bytes (kind_of_file own.file) by written
 
   write-notes : (handle lock_owner : ℕ) (bytes : List ℕ) (slot : Option OpenSeen) → ((file : OpenSeen) → slot ≡ Some file → F file)
-      → ((file : OpenSeen) → slot ≡ Some file → KeepsLine file) → Writes operation bytes → StepNotes (write_file g s handle lock_owner pid bytes slot)
+      → ((file : OpenSeen) → slot ≡ Some file → Kept file) → Writes operation bytes → StepNotes (write_file g s handle lock_owner pid bytes slot)
   write-notes handle lock_owner bytes None by keeps written = tt
   write-notes handle lock_owner bytes (Some own) by keeps written =
       either StepNotes (is_there (scene_of g s) (node_of own)) (write_kind g s handle lock_owner pid bytes own own.file) (failed ENOENT s.files)
@@ -400,37 +414,37 @@ module _ (g : Terms) (s : Service) (pid : ℕ) (operation : Operation) (F : Open
   abbrev EndsKept : Type 0
   EndsKept = EndsLines operation × (bytes_written operation ≡ []) × ((file : OpenSeen) → writer_of file operation pid ≡ file.stream.pid)
 
-  end-notes : (file : OpenSeen) (outcome : Option LineRefused → Outcome) (event : Definition) → F file → KeepsLine file → EndsKept → event_injected s file.file ≡ Some event
+  end-notes : (file : OpenSeen) (outcome : Option LineRefused → Outcome) (event : Definition) → F file → Kept file → EndsKept → event_injected s file.file ≡ Some event
       → ((line : LineRefused) → (outcome (Some line)).reply ≡ Some (replies.Error (errno_of_fault line.fault))) → StepNotes (end_line g s file outcome event)
   end-notes file outcome event by keeps ends is says =
       single-notes file.stream.rest file.stream.pid file event outcome by (ends.0, is) (ends.2 file) own says
     where
-      own : file.stream.rest ≡ first_not_done file operation
-      own =
+      own : KeepLines s → file.stream.rest ≡ first_not_done file operation
+      own all =
           sym (ap (λ (more : List ℕ). before_first is_newline (file.stream.rest ++ more)) ends.1
-          ∙ ap (before_first is_newline) (append-nil file.stream.rest) ∙ all-first file.stream.rest keeps.unended)
+          ∙ ap (before_first is_newline) (append-nil file.stream.rest) ∙ all-first file.stream.rest (keeps all).unended)
 
-  flush-line-notes : (handle : ℕ) (file : OpenSeen) (event : Option Definition) → F file → KeepsLine file → EndsKept → event_of_file g s file file.file ≡ event
+  flush-line-notes : (handle : ℕ) (file : OpenSeen) (event : Option Definition) → F file → Kept file → EndsKept → event_of_file g s file file.file ≡ event
       → StepNotes (flush_line g s handle file event)
   flush-line-notes handle file None by keeps ends is = tt
   flush-line-notes handle file (Some event) by keeps ends is =
       end-notes file (flushed handle s.files) event by keeps ends (event-there file file.file event is) (λ line. refl)
 
   flush-notes : (handle lock_owner : ℕ) (slot : Option OpenSeen) → ((file : OpenSeen) → slot ≡ Some file → F file)
-      → ((file : OpenSeen) → slot ≡ Some file → KeepsLine file) → EndsKept → StepNotes (flush_file g s handle lock_owner slot)
+      → ((file : OpenSeen) → slot ≡ Some file → Kept file) → EndsKept → StepNotes (flush_file g s handle lock_owner slot)
   flush-notes handle lock_owner None by keeps ends = tt
   flush-notes handle lock_owner (Some file) by keeps ends =
       either StepNotes (has_rest file && file.stream.lock_owner == lock_owner) (flush_line g s handle file (event_of_file g s file file.file)) (plain replies.Done s.files)
       (flush-line-notes handle file (event_of_file g s file file.file) (by file refl) (keeps file refl) ends refl) tt
 
-  release-line-notes : (handle : ℕ) (file : OpenSeen) (event : Option Definition) → F file → KeepsLine file → EndsKept → event_of_file g s file file.file ≡ event
+  release-line-notes : (handle : ℕ) (file : OpenSeen) (event : Option Definition) → F file → Kept file → EndsKept → event_of_file g s file file.file ≡ event
       → StepNotes (release_line g s handle file event)
   release-line-notes handle file None by keeps ends is = tt
   release-line-notes handle file (Some event) by keeps ends is =
       end-notes file (released handle s.files) event by keeps ends (event-there file file.file event is) (λ line. refl)
 
   release-notes : (handle : ℕ) (slot : Option OpenSeen) → ((file : OpenSeen) → slot ≡ Some file → F file)
-      → ((file : OpenSeen) → slot ≡ Some file → KeepsLine file) → EndsKept → StepNotes (release g s handle slot)
+      → ((file : OpenSeen) → slot ≡ Some file → Kept file) → EndsKept → StepNotes (release g s handle slot)
   release-notes handle None by keeps ends = tt
   release-notes handle (Some file) by keeps ends =
       either StepNotes (has_rest file) (release_line g s handle file (event_of_file g s file file.file)) (plain replies.Done (without_file handle s.files))
@@ -524,30 +538,30 @@ module _ (g : Terms) (s : Service) (pid : ℕ) (operation : Operation) (F : Open
 
 -- ---- all requests
 
-request-notes : (g : Terms) (s : Service) (unique pid : ℕ) (target : Option Node) (operation : Operation) → NoneKeepsMore s.files
+request-notes : (g : Terms) (s : Service) (unique pid : ℕ) (target : Option Node) (operation : Operation)
     → StepNotes g s pid operation (IsFileOf g s target operation) (step_of g s unique pid target operation)
-request-notes g s unique pid target (operations.Lookup name) none = entry-notes g s pid (operations.Lookup name) (λ file. ⊥) (found_in (scene_of g s) name target)
-request-notes g s unique pid target operations.GetAttr none = attributes-notes g s pid operations.GetAttr (λ file. ⊥) (known (scene_of g s) target)
-request-notes g s unique pid target (operations.SetAttr valid size) none = set-notes g s pid (operations.SetAttr valid size) (λ file. ⊥) target valid size
-request-notes g s unique pid target (operations.MkDir name) none = made-notes g s pid (operations.MkDir name) (λ file. ⊥) name (known (scene_of g s) target)
-request-notes g s unique pid target (operations.RmDir name) none = removed-notes g s pid (operations.RmDir name) (λ file. ⊥) name (known (scene_of g s) target)
-request-notes g s unique pid target (operations.Open flags) none =
+request-notes g s unique pid target (operations.Lookup name) = entry-notes g s pid (operations.Lookup name) (λ file. ⊥) (found_in (scene_of g s) name target)
+request-notes g s unique pid target operations.GetAttr = attributes-notes g s pid operations.GetAttr (λ file. ⊥) (known (scene_of g s) target)
+request-notes g s unique pid target (operations.SetAttr valid size) = set-notes g s pid (operations.SetAttr valid size) (λ file. ⊥) target valid size
+request-notes g s unique pid target (operations.MkDir name) = made-notes g s pid (operations.MkDir name) (λ file. ⊥) name (known (scene_of g s) target)
+request-notes g s unique pid target (operations.RmDir name) = removed-notes g s pid (operations.RmDir name) (λ file. ⊥) name (known (scene_of g s) target)
+request-notes g s unique pid target (operations.Open flags) =
     open-notes g s pid (operations.Open flags) (λ file. known (scene_of g s) target ≡ Some (node_of file)) flags (known (scene_of g s) target) (λ file is. is) refl
-request-notes g s unique pid target (operations.Read handle offset size read_flags flags) none =
+request-notes g s unique pid target (operations.Read handle offset size read_flags flags) =
     read-notes g s pid (operations.Read handle offset size read_flags flags) (λ file. ⊥) unique (step_of g s unique pid target (operations.Read handle offset size read_flags flags))
     (read-step g s (read_of_pipe unique handle size) offset (is_cached read_flags) flags (file_at handle s.files))
-request-notes g s unique pid target (operations.Write handle offset lock_owner bytes) none =
+request-notes g s unique pid target (operations.Write handle offset lock_owner bytes) =
     write-notes g s pid (operations.Write handle offset lock_owner bytes) (λ file. file_at handle s.files ≡ Some file) handle lock_owner bytes (file_at handle s.files)
-    (λ file is. is) (λ file is. kept-line s.files handle file none is) refl
-request-notes g s unique pid target (operations.Flush handle lock_owner) none =
+    (λ file is. is) (λ file is all. all handle file is) refl
+request-notes g s unique pid target (operations.Flush handle lock_owner) =
     flush-notes g s pid (operations.Flush handle lock_owner) (λ file. file_at handle s.files ≡ Some file) handle lock_owner (file_at handle s.files)
-    (λ file is. is) (λ file is. kept-line s.files handle file none is) (tt, refl, λ file. refl)
-request-notes g s unique pid target (operations.Release handle) none =
+    (λ file is. is) (λ file is all. all handle file is) (tt, refl, λ file. refl)
+request-notes g s unique pid target (operations.Release handle) =
     release-notes g s pid (operations.Release handle) (λ file. file_at handle s.files ≡ Some file) handle (file_at handle s.files)
-    (λ file is. is) (λ file is. kept-line s.files handle file none is) (tt, refl, λ file. refl)
-request-notes g s unique pid target (operations.Poll handle wakeup flags events) none =
+    (λ file is. is) (λ file is all. all handle file is) (tt, refl, λ file. refl)
+request-notes g s unique pid target (operations.Poll handle wakeup flags events) =
     poll-notes g s pid (operations.Poll handle wakeup flags events) (λ file. ⊥) handle wakeup flags (file_at handle s.files)
-request-notes g s unique pid target _ none = tt
+request-notes g s unique pid target _ = tt
 
 -- what is told of a parked read notes nothing
 telling-notes : (g : Terms) (before : Service) (what : Option Owed) (bytes : List ℕ) (after : Service) (error : ErrorSeen) (told : TellsOwed g before what bytes after)
@@ -560,11 +574,11 @@ telling-notes g before (Some (ReplyAt index)) bytes after error told is =
 telling-notes g before (Some (WakeupAt handle)) bytes after error told is = absurd (let no : Keeps ≡ Notes error = is in cc)
 
 asking-notes : (g : Terms) (before : Service) (asked bytes : List ℕ) (after : Service) (error : ErrorSeen) (served : AreServed g before asked bytes after)
-    → NoneKeepsMore before.files → noting_asked g before asked bytes after served ≡ Notes error → (request : Asked) × IsRequest asked request × IsNoted g before request bytes after error
-asking-notes g before asked bytes after error (Right request is served) none notes =
+    → noting_asked g before asked bytes after served ≡ Notes error → (request : Asked) × IsRequest asked request × IsNoted g before request bytes after error
+asking-notes g before asked bytes after error (Right request is served) notes =
     let well = noted-well g before request.pid request.operation (IsFileOf g before served.node request.operation) before
     (step_of g before request.unique request.pid served.node request.operation) served.reply after error served.does refl
-    (request-notes g before request.unique request.pid served.node request.operation none) notes in (
+    (request-notes g before request.unique request.pid served.node request.operation) notes in (
       request,
       is,
       record {
@@ -578,10 +592,10 @@ asking-notes g before asked bytes after error (Right request is served) none not
         undone = well.undone;
       },
     )
-asking-notes g before asked bytes after error (Wrong opcode unique framed other told same) none notes = absurd (let no : Keeps ≡ Notes error = notes in cc)
-asking-notes g before asked bytes after error (Unframed other told same) none notes = absurd (let no : Keeps ≡ Notes error = notes in cc)
+asking-notes g before asked bytes after error (Wrong opcode unique framed other told same) notes = absurd (let no : Keeps ≡ Notes error = notes in cc)
+asking-notes g before asked bytes after error (Unframed other told same) notes = absurd (let no : Keeps ≡ Notes error = notes in cc)
 
 pub noted_writes_were_refused : NotedWritesWereRefused
-noted_writes_were_refused g requests messages before [] bytes after told error served notes = absurd (telling-notes g before (owed g before) bytes after error told notes)
-noted_writes_were_refused g requests messages before (byte ∷ asked) bytes after (quiet, exchanged) error served notes =
-    asking-notes g before (byte ∷ asked) bytes after error exchanged (none-keeps-more g requests messages before served) notes
+noted_writes_were_refused g before [] bytes after told error notes = absurd (telling-notes g before (owed g before) bytes after error told notes)
+noted_writes_were_refused g before (byte ∷ asked) bytes after (quiet, exchanged) error notes =
+    asking-notes g before (byte ∷ asked) bytes after error exchanged notes

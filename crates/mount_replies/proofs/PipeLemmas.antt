@@ -19,8 +19,8 @@ use Rattle.trace_instance.specs.declared.file.File.TheVariants as opened
 use Rattle.mount_tree.specs.Children.{file_is_there, is_there, owner_is_there}
 use Rattle.mount_tree.specs.NodePaths.{file_meant, owner_name}
 use Rattle.mount_tree.specs.Scenes.{event_name}
-use Rattle.mount_tree.specs.declared.file.File.{File}
-use Rattle.mount_tree.specs.declared.file.File.TheVariants as files
+use Rattle.file_list.specs.declared.file.File.{File}
+use Rattle.file_list.specs.declared.file.File.TheVariants as files
 use Rattle.mount_tree.specs.declared.node.Node.TheVariants as nodes
 use Rattle.mount_tree.specs.declared.node.Owner.{Owner}
 use Rattle.mount_tree.specs.Scenes.{SceneSeen}

@@ -10,9 +10,9 @@ use Rattle.trace_command.specs.declared.command.Reply.{Reply as Answer}
 use Rattle.trace_command.specs.declared.refusal.Refusal.{Refusal}
 use Rattle.error_log.specs.Logs.{log_text}
 use Rattle.mount_tree.specs.Children.{is_there}
-use Rattle.mount_tree.specs.FileKinds.{kind_of_file}
-use Rattle.mount_tree.specs.declared.file.FileKind.{FileKind}
-use Rattle.mount_tree.specs.declared.file.FileKind.TheVariants as kinds
+use Rattle.file_list.specs.FileKinds.{kind_of_file}
+use Rattle.file_list.specs.declared.file.FileKind.{FileKind}
+use Rattle.file_list.specs.declared.file.FileKind.TheVariants as kinds
 use Rattle.mount_tree.specs.declared.node.Node.{Node}
 use Rattle.mount_stub_files.specs.ToolTexts.{tool_text}
 use Rattle.mount_replies.specs.Mounted.{AreServed, Does, Right, TellsOwed, Unframed, Wrong}

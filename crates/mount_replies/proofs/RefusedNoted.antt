@@ -35,20 +35,20 @@ use Rattle.error_log.specs.Errors.{ErrorSeen, begun}
 use Rattle.mount_tree.proofs.ListLemmas.{all-unmapped, found_one, found_passes}
 use Rattle.mount_tree.proofs.SoundLemmas.{indexes-below}
 use Rattle.mount_tree.specs.Children.{is_there, owner_is_there}
-use Rattle.mount_tree.specs.FileKinds.{access_of_file, kind_of_file, takes_lines}
+use Rattle.file_list.specs.FileKinds.{access_of_file, kind_of_file, takes_lines}
 use Rattle.mount_tree.specs.NodePaths.{path_of}
 use Rattle.mount_tree.specs.Scenes.{SceneSeen, event_at}
 use Rattle.mount_tree.specs.ScenesAfter.{events_after}
-use Rattle.mount_tree.specs.declared.file.File.{File}
-use Rattle.mount_tree.specs.declared.file.File.TheVariants as files
-use Rattle.mount_tree.specs.declared.file.FileKind.{FileKind}
-use Rattle.mount_tree.specs.declared.file.FileKind.TheVariants as kinds
+use Rattle.file_list.specs.declared.file.File.{File}
+use Rattle.file_list.specs.declared.file.File.TheVariants as files
+use Rattle.file_list.specs.declared.file.FileKind.{FileKind}
+use Rattle.file_list.specs.declared.file.FileKind.TheVariants as kinds
 use Rattle.mount_tree.specs.declared.node.Node.{Node}
 use Rattle.mount_tree.specs.declared.node.Node.TheVariants as nodes
 use Rattle.mount_tree.specs.declared.scene.Event.{Event}
-use Rattle.mount_tree.specs.declared.tool.ToolFile.{ToolFile}
-use Rattle.mount_tree.specs.declared.tool.ToolFile.TheVariants as tools
-use Rattle.mount_tree.specs.declared.tool.TopTool.TheVariants as top_tools
+use Rattle.file_list.specs.declared.files.ToolFile.{ToolFile}
+use Rattle.file_list.specs.declared.files.ToolFile.TheVariants as tools
+use Rattle.file_list.specs.declared.files.TopTool.TheVariants as top_tools
 use Rattle.mount_stub_files.specs.EventWords.{is_off, named, switch_of}
 use Rattle.mount_stub_files.specs.ToolTexts.{cpu_mask, ring_kilobytes}
 use Rattle.mount_stub_files.specs.ToolWrites.{events_write, is_number, switched, tool_file_write, tool_write}

@@ -7,7 +7,7 @@ use Rattle.error_log.specs.Errors.{ErrorSeen, error_text}
 use Rattle.error_log.specs.LogLaws.{Change}
 use Rattle.error_log.specs.LogLaws.{errors_after as logs_after}
 use Rattle.error_log.specs.Logs.{cleared, errors_of, is_of, log_text, noted}
-use Rattle.mount_tree.specs.declared.file.FileKind.TheVariants as kinds
+use Rattle.file_list.specs.declared.file.FileKind.TheVariants as kinds
 use Rattle.mount_tree.specs.declared.node.Owner.{Owner}
 use Rattle.mount_replies.proofs.ToolReads.{log-step, shows-now, there-step}
 use Rattle.mount_replies.specs.Mounted.{AreServed, Does, IsExchanged, Right, Serves, TellsOwed, Unframed, Wrong}

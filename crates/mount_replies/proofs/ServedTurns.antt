@@ -7,8 +7,9 @@ use Rattle.fuse_wire.specs.Replies.{reply_bytes, wakeup_bytes}
 use Rattle.fuse_wire.specs.Requests.{HasOwnOpcode, IsRequest, body, in_header, opcode_of}
 use Rattle.fuse_wire.specs.declared.reply.Reply.{Reply}
 use Rattle.fuse_wire.specs.declared.request.Operation.{Operation}
-use Rattle.mount_tree.specs.Nodes.{FitsItsTypes, file_index, number_of}
-use Rattle.mount_tree.specs.declared.file.File.{File}
+use Rattle.file_list.specs.FileTable.{file_index}
+use Rattle.mount_tree.specs.Nodes.{FitsItsTypes, number_of}
+use Rattle.file_list.specs.declared.file.File.{File}
 use Rattle.mount_tree.specs.declared.node.Node.TheVariants as nodes
 use Rattle.mount_tree.specs.declared.node.Owner.TheVariants.{Top}
 use Rattle.mount_replies.proofs.ComputedSteps.{steps_are_computed}

@@ -10,17 +10,17 @@ use Rattle.tracer_specification.specs.Settings.{is_enabled, is_same, written_fla
 use Rattle.mount_tree.proofs.AddressLaws.{path-address}
 use Rattle.mount_tree.proofs.AfterRequests.{leaving}
 use Rattle.mount_tree.specs.Children.{file_is_there, is_there, owner_is_there}
-use Rattle.mount_tree.specs.FileKinds.{kind_of_file}
+use Rattle.file_list.specs.FileKinds.{kind_of_file}
 use Rattle.mount_tree.specs.NodePaths.{owner_name}
 use Rattle.mount_tree.specs.Scenes.{SceneSeen, event_at}
 use Rattle.mount_tree.specs.ScenesAfter.{scene_after}
 use Rattle.mount_tree.specs.TreeLaws.{IsSound}
-use Rattle.mount_tree.specs.declared.file.File.{File}
-use Rattle.mount_tree.specs.declared.file.File.TheVariants.{OfEvent, Tool}
+use Rattle.file_list.specs.declared.file.File.{File}
+use Rattle.file_list.specs.declared.file.File.TheVariants.{OfEvent, Tool}
 use Rattle.mount_tree.specs.declared.node.Node.TheVariants as nodes
 use Rattle.mount_tree.specs.declared.node.Owner.{Owner}
 use Rattle.mount_tree.specs.declared.scene.Event.{Event}
-use Rattle.mount_tree.specs.declared.tool.ToolFile.TheVariants as tools
+use Rattle.file_list.specs.declared.files.ToolFile.TheVariants as tools
 use Rattle.mount_stub_files.specs.ToolTexts.{enabled_line, event_line, tool_text}
 use Rattle.mount_stub_files.specs.ToolWrites.{tool_write}
 use Rattle.mount_stub_files.specs.declared.write.ToolWrite.{ToolWrite}

@@ -20,13 +20,13 @@ use Rattle.tracer_specification.specs.Settings.{is_there as instance_is_there}
 use Rattle.mount_tree.proofs.AddressLaws.{path-address}
 use Rattle.mount_tree.proofs.SoundLemmas.{scene-sound}
 use Rattle.mount_tree.specs.Children.{is_there}
-use Rattle.mount_tree.specs.FileKinds.{kind_of_file, takes_lines}
+use Rattle.file_list.specs.FileKinds.{kind_of_file, takes_lines}
 use Rattle.mount_tree.specs.NodePaths.{file_meant, path_of}
 use Rattle.mount_tree.specs.Scenes.{SceneSeen, event_name}
-use Rattle.mount_tree.specs.declared.file.File.{File}
-use Rattle.mount_tree.specs.declared.file.File.TheVariants as files
-use Rattle.mount_tree.specs.declared.file.FileKind.{FileKind}
-use Rattle.mount_tree.specs.declared.file.FileKind.TheVariants as kinds
+use Rattle.file_list.specs.declared.file.File.{File}
+use Rattle.file_list.specs.declared.file.File.TheVariants as files
+use Rattle.file_list.specs.declared.file.FileKind.{FileKind}
+use Rattle.file_list.specs.declared.file.FileKind.TheVariants as kinds
 use Rattle.mount_replies.proofs.DoneLemmas.{events-are, had-room, pasts_are_done}
 use Rattle.mount_replies.proofs.PartLaws.{reading-kept}
 use Rattle.mount_replies.specs.Errnos.{errno_of}

@@ -6,9 +6,9 @@ use Rattle.fuse_wire.specs.declared.reply.Reply.TheVariants as replies
 use Rattle.error_log.specs.Logs.{log_text}
 use Rattle.mount_tree.proofs.SoundLemmas.{scene-sound}
 use Rattle.mount_tree.specs.Children.{is_there}
-use Rattle.mount_tree.specs.FileKinds.{kind_of_file}
-use Rattle.mount_tree.specs.declared.file.FileKind.{FileKind}
-use Rattle.mount_tree.specs.declared.file.FileKind.TheVariants as kinds
+use Rattle.file_list.specs.FileKinds.{kind_of_file}
+use Rattle.file_list.specs.declared.file.FileKind.{FileKind}
+use Rattle.file_list.specs.declared.file.FileKind.TheVariants as kinds
 use Rattle.mount_stub_files.specs.ToolTexts.{tool_text}
 use Rattle.mount_replies.proofs.DoneLemmas.{events-are, pasts_are_done}
 use Rattle.mount_replies.proofs.PartLaws.{drop-nil}

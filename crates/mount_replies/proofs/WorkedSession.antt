@@ -14,7 +14,7 @@ use Rattle.record_text.specs.FieldText.{field_text}
 use Rattle.record_text.specs.RecordText.{cell_text, line_start, record_line, row_line}
 use Rattle.record_text.specs.TraceText.{lost_line}
 use Rattle.trace_command.specs.Paths.{address_of, below_mount_point, cpu_file, event_file, events_file, instance_of, mount_point, option_file, system_file, top_file}
-use Rattle.trace_trigger.specs.TriggerTexts.{count_of, said_of, snapshot_said, trigger_of}
+use Rattle.trace_trigger.specs.TriggerTexts.{count_of, said_of, snapshot_said, snapshot_trigger_of}
 use Rattle.trace_script.specs.Lines.{asked_of, emission_of, line_of, named_command, named_line, pair_of, pairs_of, process_id, spoken}
 use Rattle.trace_script.specs.Tokens.{tokens_of}
 use Rattle.tracer_specification.specs.Emissions.{filter_holds, record_bytes}
@@ -34,8 +34,8 @@ use Rattle.refusal_explanations.specs.Wording.{refusal_words, value_words}
 use Rattle.trace_command.specs.declared.file_name.EventFile.TheVariants as per_event
 use Rattle.trace_command.specs.declared.file_name.TopFile.TheVariants as top_files
 use Rattle.mount_tree.specs.Nodes.{number_of}
-use Rattle.mount_tree.specs.declared.file.File.{File}
-use Rattle.mount_tree.specs.declared.file.File.TheVariants.{ErrorLog, Inject, OfEvent, OfInstance, SyntheticEvents}
+use Rattle.file_list.specs.declared.file.File.{File}
+use Rattle.file_list.specs.declared.file.File.TheVariants.{ErrorLog, Inject, OfEvent, OfInstance, SyntheticEvents}
 use Rattle.mount_tree.specs.declared.node.Node.TheVariants as nodes
 use Rattle.mount_tree.specs.declared.node.Owner.TheVariants.{Top}
 use Rattle.mount_replies.proofs.ServedTurns.{AreAskedBy, come, is_asked, message_bytes, turns_are_served}
@@ -157,7 +157,7 @@ unfolding digits head_bytes head_of timestamp account has_waiting readings_of st
     asked_of emission_of line_of named_command named_line pair_of pairs_of process_id spoken tokens_of
     filter_holds record_bytes shown_pipe declaration_answer emission_answer switch_answer written_flag waiting limited_answer
     event_folder left_out pairs_of_line command_lines stream_lines
-    number_bytes trigger_answer said_of snapshot_said trigger_of count_of refusal_words value_words trigger_due
+    number_bytes trigger_answer said_of snapshot_said snapshot_trigger_of count_of refusal_words value_words trigger_due
 are_computed = record {
   sessions = record {
     events = refl;

@@ -9,12 +9,12 @@ use Rattle.trace_format.specs.Definitions.{Definition}
 use Rattle.tracer_specification.specs.Settings.{declared_events, now_of}
 use Rattle.error_log.specs.Errors.{ErrorSeen, begun, refused}
 use Rattle.mount_tree.specs.Children.{is_there}
-use Rattle.mount_tree.specs.FileKinds.{kind_of_file}
+use Rattle.file_list.specs.FileKinds.{kind_of_file}
 use Rattle.mount_tree.specs.NodePaths.{path_of}
-use Rattle.mount_tree.specs.declared.file.File.{File}
-use Rattle.mount_tree.specs.declared.file.File.TheVariants as files
-use Rattle.mount_tree.specs.declared.file.FileKind.{FileKind}
-use Rattle.mount_tree.specs.declared.file.FileKind.TheVariants as kinds
+use Rattle.file_list.specs.declared.file.File.{File}
+use Rattle.file_list.specs.declared.file.File.TheVariants as files
+use Rattle.file_list.specs.declared.file.FileKind.{FileKind}
+use Rattle.file_list.specs.declared.file.FileKind.TheVariants as kinds
 use Rattle.mount_tree.specs.declared.node.Node.TheVariants as nodes
 use Rattle.mount_stub_files.specs.ToolWrites.{tool_write}
 use Rattle.mount_stub_files.specs.WrongWords.{wrong_offset, wrong_words}

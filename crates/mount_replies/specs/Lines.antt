@@ -17,10 +17,10 @@ use Rattle.trace_format.specs.declared.pair.Pair.{Pair}
 use Rattle.refusal_explanations.specs.InjectionWords.{injection_offset, injection_words}
 use Rattle.refusal_explanations.specs.Writes.{write_offset, write_words}
 use Rattle.error_log.specs.Errors.{ErrorSeen, refused}
-use Rattle.mount_tree.specs.FileKinds.{takes_lines}
+use Rattle.file_list.specs.FileKinds.{takes_lines}
 use Rattle.mount_tree.specs.Scenes.{SceneSeen}
-use Rattle.mount_tree.specs.declared.file.File.{File}
-use Rattle.mount_tree.specs.declared.file.File.TheVariants as files
+use Rattle.file_list.specs.declared.file.File.{File}
+use Rattle.file_list.specs.declared.file.File.TheVariants as files
 use Rattle.mount_tree.specs.declared.node.Node.{Node}
 use Rattle.mount_tree.specs.declared.node.Node.TheVariants as nodes
 use Rattle.mount_tree.specs.declared.node.Owner.{Owner}

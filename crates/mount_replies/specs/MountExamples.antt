@@ -6,11 +6,11 @@ use Rattle.fuse_wire.specs.declared.reply.Reply.TheVariants.{Data, Done, Error, 
 use Rattle.fuse_wire.specs.declared.request.Operation.{Operation}
 use Rattle.fuse_wire.specs.declared.request.Operation.TheVariants.{Interrupt, Open, Read, Release, Write}
 use Rattle.trace_command.specs.declared.file_name.TopFile.TheVariants as top_files
-use Rattle.mount_tree.specs.declared.file.File.{File}
-use Rattle.mount_tree.specs.declared.file.File.TheVariants.{ErrorLog, Inject, OfInstance, SyntheticEvents, Tool}
+use Rattle.file_list.specs.declared.file.File.{File}
+use Rattle.file_list.specs.declared.file.File.TheVariants.{ErrorLog, Inject, OfInstance, SyntheticEvents, Tool}
 use Rattle.mount_tree.specs.declared.node.Node.TheVariants as nodes
 use Rattle.mount_tree.specs.declared.node.Owner.TheVariants.{Top}
-use Rattle.mount_tree.specs.declared.tool.ToolFile.TheVariants as tools
+use Rattle.file_list.specs.declared.files.ToolFile.TheVariants as tools
 use Rattle.mount_replies.specs.ComputedSteps.{Asked, Message, Replied, Silence, Turn, Waited, messages}
 use Rattle.mount_replies.specs.PastLaws.{just_mounted}
 use Rattle.mount_replies.specs.Services.{Terms}

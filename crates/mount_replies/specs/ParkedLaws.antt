@@ -10,9 +10,9 @@ use Rattle.fuse_wire.specs.declared.request.Request.{Request as Asked}
 use Rattle.trace_command.specs.Requests.{Request}
 use Rattle.tracer_specification.specs.Waiting.{waiting}
 use Rattle.mount_tree.specs.Children.{is_there}
-use Rattle.mount_tree.specs.FileKinds.{kind_of_file}
+use Rattle.file_list.specs.FileKinds.{kind_of_file}
 use Rattle.mount_tree.specs.NodePaths.{file_meant, owner_name}
-use Rattle.mount_tree.specs.declared.file.FileKind.TheVariants as kinds
+use Rattle.file_list.specs.declared.file.FileKind.TheVariants as kinds
 use Rattle.mount_replies.specs.Mounted.{AreServed, Does, IsExchanged, IsReplied, IsServed, Right, Serves, TellsOwed, Unframed, Wrong}
 use Rattle.mount_replies.specs.Owed.{Owed, ReplyAt, WakeupAt, is_due, owed, step_of_parked}
 use Rattle.mount_replies.specs.Pipes.{ends, is_dry, is_used_up}

@@ -18,16 +18,16 @@ use Rattle.tracer_specification.specs.Pasts.{AreDone}
 use Rattle.tracer.specs.Lives.{live_answer, most_done}
 use Rattle.error_log.specs.Errors.{ErrorSeen}
 use Rattle.mount_tree.specs.Children.{is_there, owner_is_there}
-use Rattle.mount_tree.specs.FileKinds.{kind_of_file}
+use Rattle.file_list.specs.FileKinds.{kind_of_file}
 use Rattle.mount_tree.specs.NodePaths.{file_meant, owner_name, path_of}
 use Rattle.mount_tree.specs.TreeLaws.{IsSound}
-use Rattle.mount_tree.specs.declared.file.File.{File}
-use Rattle.mount_tree.specs.declared.file.File.TheVariants as files
+use Rattle.file_list.specs.declared.file.File.{File}
+use Rattle.file_list.specs.declared.file.File.TheVariants as files
 use Rattle.mount_tree.specs.declared.node.Node.{Node}
 use Rattle.mount_tree.specs.declared.node.Node.TheVariants as nodes
 use Rattle.mount_tree.specs.declared.node.Owner.{Owner}
-use Rattle.mount_tree.specs.declared.file.FileKind.{FileKind}
-use Rattle.mount_tree.specs.declared.file.FileKind.TheVariants as kinds
+use Rattle.file_list.specs.declared.file.FileKind.{FileKind}
+use Rattle.file_list.specs.declared.file.FileKind.TheVariants as kinds
 use Rattle.mount_stub_files.specs.ToolTexts.{tool_text}
 use Rattle.mount_replies.specs.Errnos.{errno_of}
 use Rattle.mount_replies.specs.FileWrites.{begun_now}

@@ -6,7 +6,7 @@ use Rattle.tracer_specification.specs.Settings.{is_tracing}
 use Rattle.tracer_specification.specs.Waiting.{waiting}
 use Rattle.mount_tree.specs.Children.{is_there}
 use Rattle.mount_tree.specs.NodePaths.{file_meant, owner_name}
-use Rattle.mount_tree.specs.declared.file.File.{File}
+use Rattle.file_list.specs.declared.file.File.{File}
 use Rattle.mount_tree.specs.declared.node.Node.TheVariants as nodes
 use Rattle.mount_tree.specs.declared.node.Owner.{Owner}
 use Rattle.mount_replies.specs.Services.{OpenSeen, Service, Terms, scene_of}

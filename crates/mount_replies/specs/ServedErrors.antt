@@ -23,11 +23,11 @@ use Rattle.error_log.specs.Errors.{ErrorSeen, error_text, refused}
 use Rattle.error_log.specs.LogLaws.{Change, Cleared, Noted, StandsUnder, last_eight, noted_since}
 use Rattle.error_log.specs.Logs.{errors_of}
 use Rattle.mount_tree.specs.Children.{is_there}
-use Rattle.mount_tree.specs.FileKinds.{access_of_file, kind_of_file}
+use Rattle.file_list.specs.FileKinds.{access_of_file, kind_of_file}
 use Rattle.mount_tree.specs.NodePaths.{path_of}
-use Rattle.mount_tree.specs.declared.file.File.{File}
-use Rattle.mount_tree.specs.declared.file.File.TheVariants as files
-use Rattle.mount_tree.specs.declared.file.FileKind.TheVariants as kinds
+use Rattle.file_list.specs.declared.file.File.{File}
+use Rattle.file_list.specs.declared.file.File.TheVariants as files
+use Rattle.file_list.specs.declared.file.FileKind.TheVariants as kinds
 use Rattle.mount_tree.specs.declared.node.Node.{Node}
 use Rattle.mount_tree.specs.declared.node.Node.TheVariants as nodes
 use Rattle.mount_tree.specs.declared.node.Owner.{Owner}
@@ -36,7 +36,7 @@ use Rattle.mount_stub_files.specs.WrongWords.{wrong_offset}
 use Rattle.mount_stub_files.specs.declared.write.ToolWrite.TheVariants as writes
 use Rattle.mount_replies.specs.Errnos.{errno_of}
 use Rattle.mount_replies.specs.FileWrites.{begun_now, switch_text}
-use Rattle.mount_replies.specs.Lines.{asked_by_line, command_text, errno_of_fault, is_newline, most_kept, refusal_in, written_lines}
+use Rattle.mount_replies.specs.Lines.{asked_by_line, command_text, errno_of_fault, has_newline, is_newline, most_kept, refusal_in, written_lines}
 use Rattle.mount_replies.specs.Mounted.{AreServed, Does, IsExchanged, IsNamed, IsServed, Right, Serves, TellsOwed, Unframed, Wrong}
 use Rattle.mount_replies.specs.Owed.{Owed, ReplyAt, WakeupAt, owed, step_of_parked}
 use Rattle.mount_replies.specs.PastLaws.{ShowsNow, just_mounted}
@@ -174,19 +174,37 @@ pub record IsFirstRefused (g : Terms) (past : List Request) (lines : List LineAs
   pub text_is : text ≡ first.text
   pub refused : IsRefusedFor g past fault first.asking
 
+-- what an open file keeps of what was written to it: a line that has not ended, and nothing before a newline was written
+pub record KeepsLine (file : OpenSeen) : Type 0 where
+  pub unended : has_newline file.stream.rest ≡ false
+  pub streamed : file.stream.is_stream ≡ false → file.stream.rest ≡ []
+
+-- so it is of each open file, whatever was served (`OpenFilesKeepLines`)
+abbrev pub KeepLines : Service → Type 0
+KeepLines s = (handle : ℕ) (file : OpenSeen) → file_at handle s.files ≡ Some file → KeepsLine file
+
+-- this line of `inject` is the first that was not done, and is refused for this
+abbrev pub IsFirstNotDone : Terms → Service → ℕ → Operation → OpenSeen → Definition → List ℕ → LineFault → Type 0
+IsFirstNotDone g s pid operation file event text fault =
+    (text ≡ first_not_done file operation) × IsRefusedFor g s.past fault (asked_by_line g.config.cpus (writer_of file operation pid) event text)
+
+-- or it is the first and all that was not done, and is too long
+abbrev pub IsAllNotDone : Operation → OpenSeen → List ℕ → Type 0
+IsAllNotDone operation file text = (text ≡ first_not_done file operation) × (text ≡ not_done file operation) × (most_kept < length text)
+
 -- which byte of a text is to blame that a request of this process was to write to a file, where this error was told
 pub data IsBlamed (g : Terms) (s : Service) (pid : ℕ) (operation : Operation) (file : OpenSeen) (text : List ℕ) (offset : ℕ) (errno : Errno) : Type 0 where
   -- of a command, which is the first line that was written and is not blank, the one that its refusal says
   OfCommand : (own : List ℕ) (refusal : Refusal) → Writes operation own
       → IsFirstRefused g s.past (written_lines (scene_of g s) file.owner file.file (not file.starts_over) own) text (Refused refusal) → errno ≡ errno_of refusal
       → offset ≡ write_offset (path_of (scene_of g s) (node_of file)) (command_text file.file text) refusal → IsBlamed g s pid operation file text offset errno
-  -- of a line of `inject`, which is the first that was not done, the one that its fault says
-  OfEvent : (event : Definition) (fault : LineFault) → EndsLines operation → event_injected s file.file ≡ Some event → text ≡ first_not_done file operation
-      → IsRefusedFor g s.past fault (asked_by_line g.config.cpus (writer_of file operation pid) event text) → errno ≡ errno_of_fault fault
+  -- of a line of `inject`, the one that its fault says; where open files keep lines, it is the first line that was not done
+  OfEvent : (event : Definition) (fault : LineFault) → EndsLines operation → event_injected s file.file ≡ Some event
+      → (KeepLines s → IsFirstNotDone g s pid operation file event text fault) → errno ≡ errno_of_fault fault
       → offset ≡ injection_offset event text (refusal_in fault) → IsBlamed g s pid operation file text offset errno
   -- of one that has not ended and is too long, the first that has no room
-  OfLongLine : EndsLines operation → text ≡ first_not_done file operation → text ≡ not_done file operation → most_kept < length text → errno ≡ EINVAL
-      → offset ≡ most_kept → IsBlamed g s pid operation file text offset errno
+  OfLongLine : EndsLines operation → (KeepLines s → IsAllNotDone operation file text) → errno ≡ EINVAL → offset ≡ most_kept
+      → IsBlamed g s pid operation file text offset errno
   -- of what was written to a file that tools ask for, where its first word begins, if no byte of it can be taken
   OfWord : Writes operation text → tool_write g.config (scene_of g s) file.owner file.file text ≡ writes.Wrong → errno ≡ EINVAL → offset ≡ wrong_offset text
       → IsBlamed g s pid operation file text offset errno
@@ -199,34 +217,37 @@ pub data IsBlamed (g : Terms) (s : Service) (pid : ℕ) (operation : Operation) 
       → emptying_of file.file (empties flags) ≡ AsksToWrite asked emptying → IsNotWritten g s file asked emptying refusal
       → errno ≡ errno_of refusal → text ≡ [] → offset ≡ 0 → IsBlamed g s pid operation file text offset errno
 
--- A write to this file that this request was to do and that was refused by this error: what is kept is the line of the byte to blame, with the caret
--- under it.
-pub record IsRefusedWrite (g : Terms) (s : Service) (pid : ℕ) (operation : Operation) (file : OpenSeen) (errno : Errno) (error : ErrorSeen) : Type 0 where
+-- A write to this file that this request was to do and that was refused by this error, when these requests were done: what is kept is the line of the byte
+-- to blame, with the caret under it.
+pub record IsRefusedWrite (g : Terms) (s : Service) (pid : ℕ) (operation : Operation) (past : List Request) (file : OpenSeen) (errno : Errno) (error : ErrorSeen) : Type 0 where
   pub text : List ℕ
   pub sentence : List ℕ
   pub offset : ℕ
-  pub is : error ≡ refused (begun_now g s file) text sentence offset
+  pub is : error ≡ refused (begun_now g (record s { past = past }) file) text sentence offset
   pub blamed : IsBlamed g s pid operation file text offset errno
   pub stands : StandsUnder text offset error
 
--- What is noted is a write to the file that was written, opened or closed, and its refusal was told. No command was done.
+-- What is noted is a write to the file that was written, opened or closed, and its refusal was told. All that the request does is done by then, which is
+-- no command where each open file keeps a line.
 pub record IsNoted (g : Terms) (before : Service) (request : Asked) (bytes : List ℕ) (after : Service) (error : ErrorSeen) : Type 0 where
   pub node : Option Node
   pub named : IsNamed request.node node
   pub file : OpenSeen
   pub by : IsFileOf g before node request.operation file
   pub errno : Errno
-  pub write : IsRefusedWrite g before request.pid request.operation file errno error
+  pub write : IsRefusedWrite g before request.pid request.operation after.past file errno error
   pub told : bytes ≡ reply_bytes request.unique (replies.Error errno)
-  pub undone : after.past ≡ before.past
+  pub undone : KeepLines before → after.past ≡ before.past
 
--- of whatever was served
+-- of every state
 abbrev pub NotedWritesWereRefused : Type 0
 NotedWritesWereRefused =
-    (g : Terms) (requests messages : List (List ℕ)) (before : Service) (asked bytes : List ℕ) (after : Service) (exchanged : IsExchanged g before asked bytes after)
-    (error : ErrorSeen)
-    → Serves g just_mounted requests messages before → noting_of g before asked bytes after exchanged ≡ Notes error
-    → (request : Asked) × IsRequest asked request × IsNoted g before request bytes after error
+    (g : Terms) (before : Service) (asked bytes : List ℕ) (after : Service) (exchanged : IsExchanged g before asked bytes after) (error : ErrorSeen)
+    → noting_of g before asked bytes after exchanged ≡ Notes error → (request : Asked) × IsRequest asked request × IsNoted g before request bytes after error
+
+-- whatever was served, each open file keeps a line, so that what is noted of `inject` is the first line that was not done
+abbrev pub OpenFilesKeepLines : Type 0
+OpenFilesKeepLines = (g : Terms) (requests messages : List (List ℕ)) (after : Service) → Serves g just_mounted requests messages after → KeepLines after
 
 -- ---- all that are refused are noted
 

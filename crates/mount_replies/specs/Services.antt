@@ -7,7 +7,7 @@ use Rattle.trace_command.specs.declared.command.Config.{Config}
 use Rattle.error_log.specs.Errors.{ErrorSeen}
 use Rattle.mount_tree.specs.Scenes.{SceneSeen}
 use Rattle.mount_tree.specs.ScenesAfter.{scene_after}
-use Rattle.mount_tree.specs.declared.file.File.{File}
+use Rattle.file_list.specs.declared.file.File.{File}
 use Rattle.mount_tree.specs.declared.node.Node.{Node}
 use Rattle.mount_tree.specs.declared.node.Node.TheVariants as nodes
 use Rattle.mount_tree.specs.declared.node.Owner.{Owner}

@@ -12,9 +12,9 @@ use Rattle.trace_command.specs.Requests.{Request}
 use Rattle.trace_command.specs.declared.file_name.EventFile.TheVariants as per_event
 use Rattle.mount_tree.specs.Children.{is_there}
 use Rattle.mount_tree.specs.Scenes.{event_at}
-use Rattle.mount_tree.specs.declared.file.File.TheVariants.{OfEvent, Tool}
+use Rattle.file_list.specs.declared.file.File.TheVariants.{OfEvent, Tool}
 use Rattle.mount_tree.specs.declared.scene.Event.{Event}
-use Rattle.mount_tree.specs.declared.tool.ToolFile.TheVariants as tools
+use Rattle.file_list.specs.declared.files.ToolFile.TheVariants as tools
 use Rattle.mount_stub_files.specs.ToolTexts.{enabled_line, event_line, tool_text}
 use Rattle.mount_stub_files.specs.ToolWrites.{tool_write}
 use Rattle.mount_stub_files.specs.declared.write.ToolWrite.TheVariants.{Switch}

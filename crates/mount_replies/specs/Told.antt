@@ -11,7 +11,7 @@ use Rattle.fuse_wire.specs.declared.reply.Reply.TheVariants as replies
 use Rattle.file_list.specs.declared.access.Access.{Access}
 use Rattle.file_list.specs.declared.access.Access.TheVariants as access
 use Rattle.mount_tree.specs.Children.{Child, children, is_there, node_named}
-use Rattle.mount_tree.specs.FileKinds.{access_of_file}
+use Rattle.file_list.specs.FileKinds.{access_of_file}
 use Rattle.mount_tree.specs.FolderLists.{folder_list}
 use Rattle.mount_tree.specs.Nodes.{number_of}
 use Rattle.mount_tree.specs.Scenes.{SceneSeen}

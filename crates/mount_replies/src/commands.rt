@@ -3,7 +3,7 @@
 ghost use Rattle.std.specs.Prelude.{◌≡◌, ◌<◌, ◌≤◌, ◌+◌, ◌&&◌, ◌∷◌, [], List, drop, length};
 ghost use Rattle.std.specs.List.{position};
 ghost use Rattle.trace_command.specs.Requests.{Request};
-ghost use Rattle.mount_tree.specs.FileKinds.{takes_lines};
+ghost use Rattle.file_list.specs.FileKinds.{takes_lines};
 ghost use Rattle.mount_replies.specs.Lines as lines;
 ghost use Rattle.mount_replies.specs.Mounted.{HasLedTo};
 ghost use Rattle.mount_replies.specs.private.LineRuns.{DoesLine, RunsFrom, RunsTo, path_command};

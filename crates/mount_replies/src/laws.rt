@@ -5,7 +5,7 @@ ghost use Rattle.mount_replies.specs.MountExamples.{SessionsAreServed};
 ghost use Rattle.mount_replies.specs.MountLaws.{CutsDontMatter, LinesEndAtNewlines, NothingLeftIsAll, OthersFlushNothing, ReadsGoOn, StepsDoCommands, StreamsLoseNothing};
 ghost use Rattle.mount_replies.specs.ParkedLaws.{ClosedReadsTakeNothing, InterruptedReadsTakeNothing, NoPollWaitsForWhatIsThere, NoReadWaitsForWhatIsThere, NoRecordIsLostOrToldTwice, OldestIsAnsweredFirst, ParkedReadsArmPolls, ReadsAreAnsweredOnce, ReadsArmPolls, TakenTextIsGivenOrKept, TellingDoesOneCommandAtMost};
 ghost use Rattle.mount_replies.specs.PastLaws.{ErrorsAreOfInstances, LaterReadsGoOn, PastsAreDone, PastsFitTheirTypes, ReadsEndWithTheText, ReadsShowThePast, RemovedFilesAreMissing, ServedScenesAreSound, SizesAreLengths, StatsShowThePast, ToolReadsShowThePast, WritesAreCommands};
-ghost use Rattle.mount_replies.specs.ServedErrors.{LastEightAreKept, LogReadsShowTheLastEight, NotedWritesWereRefused, RefusedWritesAreNoted};
+ghost use Rattle.mount_replies.specs.ServedErrors.{LastEightAreKept, LogReadsShowTheLastEight, NotedWritesWereRefused, OpenFilesKeepLines, RefusedWritesAreNoted};
 ghost use Rattle.mount_replies.specs.SessionBytes.{SessionIsServed};
 ghost use Rattle.mount_replies.specs.SetEvents.{SetEventsAreShown};
 
@@ -108,14 +108,16 @@ pub fn removed_instances_are_gone()
     ensures errors { ErrorsAreOfInstances }
 {}
 
-/// Whatever was served, the log of an instance has its last eight refused writes since it was cleared (`kept`). What is noted is a write to a file that was
-/// written, opened or closed, and its refusal was told; of `inject` it is the first line that was not done; the caret stands under the byte that is to
-/// blame by the refusal (`noted`). And each write that was refused is noted, but where memory was refused (`all`): of a file that was written, of an
-/// `inject` that was flushed or closed, and of one that was opened to be emptied. What fails before anything is written is none: a handle that is not
-/// known, an instance that was removed, a file that can't be opened so.
+/// Whatever was served, the log of an instance has its last eight refused writes since it was cleared (`kept`). What is noted, in any state, is a write to a
+/// file that was written, opened or closed, and its refusal was told; the caret stands under the byte that is to blame by the refusal. Where each open file
+/// keeps a line that has not ended, no command was done, and of `inject` it is the first line that was not (`noted`); so it is whatever was served
+/// (`lines`). And each write that was refused is noted, but where memory was refused (`all`): of a file that was written, of an `inject` that was flushed or
+/// closed, and of one that was opened to be emptied. What fails before anything is written is none: a handle that is not known, an instance that was
+/// removed, a file that can't be opened so.
 pub fn logs_have_the_last_eight()
     ensures kept { LastEightAreKept }
     ensures noted { NotedWritesWereRefused }
+    ensures lines { OpenFilesKeepLines }
     ensures all { RefusedWritesAreNoted }
 {}
 

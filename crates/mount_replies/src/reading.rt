@@ -4,7 +4,7 @@ ghost use Rattle.std.specs.Prelude.{◌≡◌, ◌≤◌, ℕ, [], List, Some, v
 ghost use Rattle.fuse_wire.specs.Replies.{reply_bytes};
 ghost use Rattle.fuse_wire.specs.declared.reply.Reply.TheVariants as replies;
 ghost use Rattle.trace_command.specs.Requests.{Request};
-ghost use Rattle.mount_tree.specs.FileKinds.{kind_of_file};
+ghost use Rattle.file_list.specs.FileKinds.{kind_of_file};
 ghost use Rattle.mount_tree.specs.declared.node.Node.TheVariants as nodes;
 ghost use Rattle.error_log.specs.Logs.{log_text};
 ghost use Rattle.mount_stub_files.specs.ToolTexts.{tool_text};

@@ -2,7 +2,7 @@
 
 ghost use Rattle.std.specs.Prelude.{◌≡◌, List, Some, IfOk, length};
 ghost use Rattle.trace_command.specs.Requests.{Request};
-ghost use Rattle.mount_tree.specs.FileKinds.{kind_of_file};
+ghost use Rattle.file_list.specs.FileKinds.{kind_of_file};
 ghost use Rattle.mount_tree.specs.declared.node.Node.TheVariants as nodes;
 ghost use Rattle.mount_replies.specs.Mounted.{HasLedTo, IsStep, service_of, terms_of};
 ghost use Rattle.mount_replies.specs.Services.{count_of};

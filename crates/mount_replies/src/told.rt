@@ -3,7 +3,7 @@
 ghost use Rattle.std.specs.Prelude.{◌≡◌};
 ghost use Rattle.mount_replies.specs.Mounted.{terms_of};
 ghost use Rattle.mount_replies.specs.private.ShortReplies.{IsShort};
-ghost use Rattle.mount_tree.specs.FileKinds.{access_of_file};
+ghost use Rattle.file_list.specs.FileKinds.{access_of_file};
 ghost use Rattle.mount_replies.specs.Told as told;
 
 use crate::mount::Mount;

@@ -3,7 +3,7 @@
 ghost use Rattle.std.specs.Prelude.{◌≡◌, ◌<◌, ◌^◌, ◌++◌, ◌∷◌, [], List, Some, length};
 ghost use Rattle.trace_command.specs.Requests.{Request};
 ghost use Rattle.tracer_specification.specs.Settings.{now_of};
-ghost use Rattle.mount_tree.specs.FileKinds.{kind_of_file};
+ghost use Rattle.file_list.specs.FileKinds.{kind_of_file};
 ghost use Rattle.mount_stub_files.specs.ToolWrites.{tool_write};
 ghost use Rattle.mount_replies.specs.FileWrites.{switch_text as text_of_switch, write_file, write_log as log_step, write_other as other_step, write_same, write_switch as switch_step, write_text as text_step, write_tool as tool_step};
 ghost use Rattle.mount_replies.specs.Mounted.{HasLedTo, IsStep, StepsBy, service_of, terms_of};

@@ -10,8 +10,8 @@ use Rattle.tracer_specification.specs.Settings.{now_of}
 use Rattle.tracer_specification.specs.Snapshots.{live_side}
 use Rattle.record_text.specs.StatsText.{stats_text}
 use Rattle.mount_tree.specs.Children.{is_there, owner_is_there}
-use Rattle.mount_tree.specs.declared.file.File.{File}
-use Rattle.mount_tree.specs.declared.file.File.TheVariants as files
+use Rattle.file_list.specs.declared.file.File.{File}
+use Rattle.file_list.specs.declared.file.File.TheVariants as files
 use Rattle.mount_tree.specs.declared.node.Node.TheVariants as nodes
 use Rattle.mount_service.specs.RecordLaws.{ServicesAreAccountedFor, StatsTellAllRecords, live_stats}
 use Rattle.mount_replies.specs.PastLaws.{PastsAreDone, ReadsAnew, StatsShowThePast, instance_of, read_whole}

@@ -9,9 +9,9 @@ use Rattle.trace_command.specs.declared.command.Reply.{Reply as Answer}
 use Rattle.tracer_specification.specs.History.{answer_with_room}
 use Rattle.history_laws.specs.ReadOnce.{read_records}
 use Rattle.history_laws.specs.ReadsInParts.{is_pipe}
-use Rattle.mount_tree.specs.FileKinds.{kind_of_file}
+use Rattle.file_list.specs.FileKinds.{kind_of_file}
 use Rattle.mount_tree.specs.NodePaths.{file_meant}
-use Rattle.mount_tree.specs.declared.file.FileKind.TheVariants as kinds
+use Rattle.file_list.specs.declared.file.FileKind.TheVariants as kinds
 use Rattle.mount_replies.specs.Mounted.{IsExchanged, Serves}
 use Rattle.mount_replies.specs.ParkedLaws.{taken_for}
 use Rattle.mount_replies.specs.PastLaws.{instance_of, just_mounted}

@@ -16,7 +16,7 @@ use Rattle.tracer_specification.specs.Settings.{now_of}
 use Rattle.tracer_specification.specs.Snapshots.{exchange_count, live_side}
 use Rattle.record_text.specs.StatsText.{stats_text}
 use Rattle.mount_tree.specs.Children.{is_there}
-use Rattle.mount_tree.specs.declared.file.File.TheVariants as files
+use Rattle.file_list.specs.declared.file.File.TheVariants as files
 use Rattle.mount_replies.specs.Mounted.{IsServed, Serves}
 use Rattle.mount_replies.specs.PastLaws.{ReadsAnew, instance_of, just_mounted, read_whole}
 use Rattle.mount_replies.specs.Served.{is_cached}

@@ -12,7 +12,7 @@ use Rattle.mount_tree.specs.Children.{is_there as files_there}
 use Rattle.mount_tree.specs.NodePaths.{owner_name}
 use Rattle.mount_tree.specs.Scenes.{SceneSeen, instance_at}
 use Rattle.mount_tree.specs.ScenesAfter.{instances_after, scene_after}
-use Rattle.mount_tree.specs.declared.file.File.{File}
+use Rattle.file_list.specs.declared.file.File.{File}
 use Rattle.mount_tree.specs.declared.node.Node.TheVariants as nodes
 use Rattle.mount_tree.specs.declared.node.Owner.{Owner}
 use Rattle.mount_tree.specs.declared.node.Owner.TheVariants.{Top, Made}

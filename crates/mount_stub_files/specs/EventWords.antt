@@ -7,8 +7,8 @@ use Rattle.std.specs.Str.{bytes_eq}
 use Rattle.trace_command.specs.declared.file_name.EventFile.TheVariants as per_event
 use Rattle.trace_command.specs.declared.file_name.TopFile.TheVariants as top
 use Rattle.mount_tree.specs.Scenes.{SceneSeen}
-use Rattle.mount_tree.specs.declared.file.File.{File}
-use Rattle.mount_tree.specs.declared.file.File.TheVariants.{OfInstance, OfEvent}
+use Rattle.file_list.specs.declared.file.File.{File}
+use Rattle.file_list.specs.declared.file.File.TheVariants.{OfInstance, OfEvent}
 use Rattle.mount_tree.specs.declared.scene.Event.{Event}
 
 -- a `!` is 33

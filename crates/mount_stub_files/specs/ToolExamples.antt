@@ -6,12 +6,12 @@ use Rattle.trace_command.specs.declared.command.Config.{Config}
 use Rattle.trace_command.specs.declared.file_name.EventFile.TheVariants as per_event
 use Rattle.trace_command.specs.declared.file_name.TopFile.TheVariants as top_files
 use Rattle.mount_tree.specs.ScenesAfter.{scene_after}
-use Rattle.mount_tree.specs.declared.file.File.{File}
-use Rattle.mount_tree.specs.declared.file.File.TheVariants.{OfInstance, OfEvent, Tool, OfTop, CpuSize, EventId}
+use Rattle.file_list.specs.declared.file.File.{File}
+use Rattle.file_list.specs.declared.file.File.TheVariants.{OfInstance, OfEvent, Tool, OfTop, CpuSize, EventId}
 use Rattle.mount_tree.specs.declared.node.Owner.{Owner}
 use Rattle.mount_tree.specs.declared.node.Owner.TheVariants.{Top, Made}
-use Rattle.mount_tree.specs.declared.tool.ToolFile.TheVariants as tools
-use Rattle.mount_tree.specs.declared.tool.TopTool.TheVariants as top_tools
+use Rattle.file_list.specs.declared.files.ToolFile.TheVariants as tools
+use Rattle.file_list.specs.declared.files.TopTool.TheVariants as top_tools
 use Rattle.mount_stub_files.specs.ToolTexts.{tool_text}
 use Rattle.mount_stub_files.specs.ToolWrites.{tool_write}
 use Rattle.mount_stub_files.specs.WrongWords.{wrong_offset, wrong_words}

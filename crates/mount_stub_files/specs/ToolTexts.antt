@@ -8,15 +8,15 @@ use Rattle.tracer_specification.specs.Settings.{is_enabled}
 use Rattle.mount_tree.specs.Children.{is_there}
 use Rattle.mount_tree.specs.NodePaths.{owner_name}
 use Rattle.mount_tree.specs.ScenesAfter.{events_after, scene_after}
-use Rattle.mount_tree.specs.declared.file.File.{File}
-use Rattle.mount_tree.specs.declared.file.File.TheVariants.{Tool, OfTop, CpuSize, EventId}
+use Rattle.file_list.specs.declared.file.File.{File}
+use Rattle.file_list.specs.declared.file.File.TheVariants.{Tool, OfTop, CpuSize, EventId}
 use Rattle.mount_tree.specs.declared.node.Node.TheVariants as nodes
 use Rattle.mount_tree.specs.declared.node.Owner.{Owner}
 use Rattle.mount_tree.specs.declared.scene.Event.{Event}
-use Rattle.mount_tree.specs.declared.tool.ToolFile.{ToolFile}
-use Rattle.mount_tree.specs.declared.tool.ToolFile.TheVariants as tools
-use Rattle.mount_tree.specs.declared.tool.TopTool.{TopTool}
-use Rattle.mount_tree.specs.declared.tool.TopTool.TheVariants as top_tools
+use Rattle.file_list.specs.declared.files.ToolFile.{ToolFile}
+use Rattle.file_list.specs.declared.files.ToolFile.TheVariants as tools
+use Rattle.file_list.specs.declared.files.TopTool.{TopTool}
+use Rattle.file_list.specs.declared.files.TopTool.TheVariants as top_tools
 
 abbrev pub line : List ℕ → List ℕ
 line text = text ++ codes "\n"

@@ -6,13 +6,13 @@ use Rattle.trace_lex.specs.Decimals.{written_number}
 use Rattle.trace_command.specs.declared.command.Config.{Config}
 use Rattle.mount_tree.specs.Children.{is_there}
 use Rattle.mount_tree.specs.Scenes.{SceneSeen}
-use Rattle.mount_tree.specs.declared.file.File.{File}
-use Rattle.mount_tree.specs.declared.file.File.TheVariants.{Tool, OfTop, CpuSize}
+use Rattle.file_list.specs.declared.file.File.{File}
+use Rattle.file_list.specs.declared.file.File.TheVariants.{Tool, OfTop, CpuSize}
 use Rattle.mount_tree.specs.declared.node.Node.TheVariants as nodes
 use Rattle.mount_tree.specs.declared.node.Owner.{Owner}
-use Rattle.mount_tree.specs.declared.tool.ToolFile.{ToolFile}
-use Rattle.mount_tree.specs.declared.tool.ToolFile.TheVariants as tools
-use Rattle.mount_tree.specs.declared.tool.TopTool.TheVariants as top_tools
+use Rattle.file_list.specs.declared.files.ToolFile.{ToolFile}
+use Rattle.file_list.specs.declared.files.ToolFile.TheVariants as tools
+use Rattle.file_list.specs.declared.files.TopTool.TheVariants as top_tools
 use Rattle.mount_stub_files.specs.EventWords.{is_off, named, switch_of}
 use Rattle.mount_stub_files.specs.ToolTexts.{cpu_mask, ring_kilobytes}
 use Rattle.mount_stub_files.specs.Words.{first_word, only_word, word_size}

@@ -21,19 +21,19 @@ use Rattle.mount_tree.specs.Children.{cpu_name, file_is_there, is_there}
 use Rattle.mount_tree.specs.NodePaths.{address_meant, file_meant, folder_path, path_of}
 use Rattle.mount_tree.specs.Scenes.{SceneSeen, event_at, event_name, instance_at}
 use Rattle.mount_tree.specs.TreeLaws.{IsSound}
-use Rattle.mount_tree.specs.TreeNames.{cpu_file_name, event_file_name, file_name, file_parent}
-use Rattle.mount_tree.specs.declared.file.File.{File}
-use Rattle.mount_tree.specs.declared.file.File.TheVariants.{SyntheticEvents, OfInstance, SystemEnable, OfCpu, OfEvent, Inject, Tool, OfTop, CpuSize, EventId, ErrorLog}
+use Rattle.file_list.specs.FileTable.{file_name, file_parent}
+use Rattle.file_list.specs.declared.file.File.{File}
+use Rattle.file_list.specs.declared.file.File.TheVariants.{SyntheticEvents, OfInstance, SystemEnable, OfCpu, OfEvent, Inject, Tool, OfTop, CpuSize, EventId, ErrorLog}
 use Rattle.mount_tree.specs.declared.node.Node.TheVariants as nodes
 use Rattle.mount_tree.specs.declared.node.Owner.{Owner}
 use Rattle.mount_tree.specs.declared.node.Owner.TheVariants.{Top, Made}
 use Rattle.mount_tree.specs.declared.scene.Event.{Event}
 use Rattle.mount_tree.specs.declared.scene.Instance.{Instance}
 use Rattle.mount_tree.proofs.ListLemmas.{found_one}
-use Rattle.mount_tree.specs.declared.tool.ToolFile.{ToolFile}
-use Rattle.mount_tree.specs.declared.tool.ToolFile.TheVariants as tools
-use Rattle.mount_tree.specs.declared.tool.TopTool.{TopTool}
-use Rattle.mount_tree.specs.declared.tool.TopTool.TheVariants as top_tools
+use Rattle.file_list.specs.declared.files.ToolFile.{ToolFile}
+use Rattle.file_list.specs.declared.files.ToolFile.TheVariants as tools
+use Rattle.file_list.specs.declared.files.TopTool.{TopTool}
+use Rattle.file_list.specs.declared.files.TopTool.TheVariants as top_tools
 
 -- ---- names have no slash
 
@@ -181,7 +181,7 @@ event-below : (name rest : List ℕ) → below_mount_point (event_folder name ++
 unfolding event_folder below_mount_point mount_point
 event-below name rest = refl
 
-cpu_file-named : (file : CpuFile) → (cpu_file (cpu_file_name file) ≡ Some file) × (parts (cpu_file_name file) ≡ cpu_file_name file ∷ [])
+cpu_file-named : (file : CpuFile) → (cpu_file (file_name (OfCpu 0 file)) ≡ Some file) × (parts (file_name (OfCpu 0 file)) ≡ file_name (OfCpu 0 file) ∷ [])
 unfolding cpu_file
 cpu_file-named per_cpu.Trace = (refl, refl)
 cpu_file-named per_cpu.TracePipe = (refl, refl)
@@ -191,10 +191,10 @@ cpu-names : (scene : SceneSeen) (cpu : ℕ) (file : CpuFile) → cpu < 8 → Nam
 cpu-names scene cpu file few =
     let named = cpu_file-named file in record {
       first = codes "per_cpu";
-      rest = cpu_name cpu ∷ cpu_file_name file ∷ [];
-      split = cpu-parts cpu (cpu_file_name file) few ∙ ap (λ (l : List (List ℕ)). codes "per_cpu" ∷ cpu_name cpu ∷ l) named.1;
+      rest = cpu_name cpu ∷ file_name (OfCpu 0 file) ∷ [];
+      split = cpu-parts cpu (file_name (OfCpu 0 file)) few ∙ ap (λ (l : List (List ℕ)). codes "per_cpu" ∷ cpu_name cpu ∷ l) named.1;
       plain = refl;
-      below = cpu-below cpu (cpu_file_name file);
+      below = cpu-below cpu (file_name (OfCpu 0 file));
       means = rw (cpu-numbered cpu few, named.0) refl;
     }
 
@@ -212,7 +212,7 @@ size-names scene cpu few = record {
   means = rw (cpu-numbered cpu few, size-named) refl;
 }
 
-event_file-named : (file : EventFile) → (event_file (event_file_name file) ≡ Some file) × (parts (event_file_name file) ≡ event_file_name file ∷ [])
+event_file-named : (file : EventFile) → (event_file (file_name (OfEvent 0 file)) ≡ Some file) × (parts (file_name (OfEvent 0 file)) ≡ file_name (OfEvent 0 file) ∷ [])
 unfolding event_file
 event_file-named per_event.Enable = (refl, refl)
 event_file-named per_event.Filter = (refl, refl)
@@ -269,7 +269,7 @@ item-names scene owner (OfCpu cpu file) sound there =
 item-names scene owner (OfEvent event file) sound there =
     let called = event-called scene event sound there in
     let named = event_file-named file in
-    rw called.is (event-named called.name (event_file_name file) (Some file) called.good named.0 named.1)
+    rw called.is (event-named called.name (file_name (OfEvent 0 file)) (Some file) called.good named.0 named.1)
 item-names scene owner (Inject event) sound there =
     let called = event-called scene event sound there in
     rw called.is (event-named called.name (codes "inject") None called.good inject-named.0 refl)

@@ -11,8 +11,8 @@ use Rattle.mount_tree.specs.Children.{Child, children, cpu_children, cpu_name, e
 use Rattle.mount_tree.specs.FolderLists.{dots, folder_list}
 use Rattle.mount_tree.specs.Scenes.{SceneSeen, has_folder}
 use Rattle.mount_tree.specs.TreeLaws.{IsSound}
-use Rattle.mount_tree.specs.declared.folder.Folder.{Folder}
-use Rattle.mount_tree.specs.declared.folder.Folder.TheVariants as folders
+use Rattle.file_list.specs.declared.folder.Folder.{Folder}
+use Rattle.file_list.specs.declared.folder.Folder.TheVariants as folders
 use Rattle.mount_tree.specs.declared.node.Node.{Node}
 use Rattle.mount_tree.specs.declared.node.Node.TheVariants as nodes
 use Rattle.mount_tree.specs.declared.node.Owner.{Owner}

@@ -6,8 +6,8 @@ use Rattle.std.specs.Str.{bytes_eq}
 use Rattle.std.proofs.lemmas.List.Folds.{find-append}
 use Rattle.std.proofs.lemmas.Bool.{ltb-false, ltb-true}
 use Rattle.std.proofs.lemmas.Option.{slice_get_past}
-use Rattle.mount_tree.specs.Children.{Child, cpu_child, cpu_children, event_child, instance_child, last_children, node_named, own_children, root_children}
-use Rattle.mount_tree.specs.declared.folder.Folder.TheVariants as folders
+use Rattle.mount_tree.specs.Children.{Child, cpu_child, cpu_children, event_child, instance_child, node_named}
+use Rattle.file_list.specs.declared.folder.Folder.TheVariants as folders
 use Rattle.mount_tree.specs.declared.node.Node.{Node}
 use Rattle.mount_tree.specs.declared.node.Node.TheVariants as nodes
 use Rattle.mount_tree.specs.declared.node.Owner.{Owner}
@@ -56,23 +56,6 @@ cpu_at owner (suc cpu) index within = by (ltb index cpu) refl (cpu_at owner cpu 
         let above : cpu ≤ index = ltb-false index cpu is in
         let same : index ≡ cpu = omega arith in
         rw same (ap (λ (k : ℕ). slice_get (cpu_children owner cpu ++ cpu_child owner cpu ∷ []) k) (sym (length-cpus owner cpu)) ∙ last_one (cpu_children owner cpu) (cpu_child owner cpu))
-
-pub made_root : (owner : Owner) (serial : ℕ) → owner ≡ Made serial → own_children owner ≡ root_children owner
-made_root owner serial is = rw is refl
-
--- after the first entry of the mounted folder come those that every instance has, up to the last ones
-pub top_at : (index : ℕ) → index ≢ 0 → (18 ≤ index → 24 ≤ index) → slice_get (root_children Top) index ≡ slice_get (own_children Top) (index - 1)
-top_at zero some other = absurd (some refl)
-top_at (suc i) some other =
-    let before : suc i - 1 ≡ i = omega arith in
-    rw before (by (slice_get (own_children Top) i) refl)
-  where
-    by : (o : Option Child) → slice_get (own_children Top) i ≡ o → slice_get (own_children Top ++ last_children) i ≡ slice_get (own_children Top) i
-    by (Some c) at = append-first (own_children Top) last_children i c at ∙ sym at
-    by None at =
-        let past : 17 ≤ i = none-past (own_children Top) i at in
-        let far : 24 ≤ suc i = other (omega (arith, past)) in
-        append-second (own_children Top) last_children i at ∙ slice_get_past last_children (i - 17) (omega (arith, far)) ∙ sym at
 
 -- ---- by name
 

@@ -8,8 +8,8 @@ use Rattle.mount_tree.specs.Children.{Child, children, cpu_child, cpu_children, 
 use Rattle.mount_tree.specs.NodePaths.{owner_path, path_of}
 use Rattle.mount_tree.specs.Scenes.{SceneSeen}
 use Rattle.mount_tree.specs.TreeLaws.{IsSound, slash_of}
-use Rattle.mount_tree.specs.declared.folder.Folder.{Folder}
-use Rattle.mount_tree.specs.declared.folder.Folder.TheVariants as folders
+use Rattle.file_list.specs.declared.folder.Folder.{Folder}
+use Rattle.file_list.specs.declared.folder.Folder.TheVariants as folders
 use Rattle.mount_tree.specs.declared.node.Node.{Node}
 use Rattle.mount_tree.specs.declared.node.Node.TheVariants as nodes
 use Rattle.mount_tree.specs.declared.node.Owner.{Owner}

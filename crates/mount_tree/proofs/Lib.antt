@@ -6,6 +6,7 @@ pub mod SerialLemmas
 pub mod JoinLemmas
 pub mod EntryLaws
 pub mod AddressLaws
+pub mod FileLemmas
 pub mod EntryLemmas
 pub mod SoundLemmas
 pub mod TreeExamples

@@ -1,19 +1,25 @@
 -- Numbers of nodes, unpacked.
-use Rattle.std.proofs.Common.{◌≡◌, ℕ, ◌-◌, ◌/◌, ◌%◌, ◌<◌, ◌≤◌, ◌^◌, Option, Some, None, IfNone, slice_get, refl, sym, ap, ◌∙◌, subst, arith, lit<}
+use Rattle.std.proofs.Common.{◌≡◌, ℕ, zero, suc, Bool, true, false, map, ◌-◌, ◌/◌, ◌%◌, ◌<◌, ◌≤◌, ◌^◌, List, [], ◌∷◌, length, Option, Some, None, option_map, IfNone, slice_get, refl, sym, ap, ◌∙◌, subst, arith}
+use Rattle.std.proofs.lemmas.Bool.{ltb-true}
+use Rattle.std.specs.Prelude.{nat_lt, if◌then◌else◌}
 use Rattle.std.proofs.lemmas.Option.{none-some, same_Some}
 use Rattle.trace_command.specs.declared.file_name.CpuFile.TheVariants as per_cpu
 use Rattle.trace_command.specs.declared.file_name.EventFile.TheVariants as per_event
 use Rattle.trace_command.specs.declared.file_name.TopFile.TheVariants as top
 use Rattle.mount_tree.specs.Nodes.{FitsItsTypes, index_of, number_from, number_of, owner_number, owner_of, place_of}
-use Rattle.mount_tree.specs.declared.file.File.TheVariants.{SyntheticEvents, OfInstance, SystemEnable, OfCpu, OfEvent, Inject, Tool, OfTop, CpuSize, EventId, ErrorLog}
-use Rattle.mount_tree.specs.declared.folder.Folder.TheVariants.{Root, Instances, Options, PerCpu, Cpu, Events, Synthetic, Event}
+use Rattle.file_list.specs.FileTable.{file_at, file_of, folder_at, folder_of}
+use Rattle.file_list.specs.declared.file.File.{File}
+use Rattle.file_list.specs.declared.files.TheConstants.{FILES}
+use Rattle.file_list.specs.declared.folder.Folder.{Folder}
+use Rattle.file_list.specs.declared.file.File.TheVariants.{SyntheticEvents, OfInstance, SystemEnable, OfCpu, OfEvent, Inject, Tool, OfTop, CpuSize, EventId, ErrorLog}
+use Rattle.file_list.specs.declared.folder.Folder.TheVariants.{Root, Instances, Options, PerCpu, Cpu, Events, Synthetic, Event}
 use Rattle.mount_tree.specs.declared.node.Node.{Node}
 use Rattle.mount_tree.specs.declared.node.Node.TheVariants as nodes
 use Rattle.mount_tree.specs.declared.node.Owner.{Owner}
 use Rattle.mount_tree.specs.declared.node.Owner.TheVariants.{Top, Made}
-use Rattle.mount_tree.specs.private.KindPlaces.{nodes_of}
-use Rattle.mount_tree.specs.declared.tool.ToolFile.TheVariants as tools
-use Rattle.mount_tree.specs.declared.tool.TopTool.TheVariants as top_tools
+use Rattle.mount_tree.specs.private.KindPlaces.{node_at}
+use Rattle.file_list.specs.declared.files.ToolFile.TheVariants as tools
+use Rattle.file_list.specs.declared.files.TopTool.TheVariants as top_tools
 
 -- the three numbers that are packed in one
 pub record AreIn (number owner index place : ℕ) : Type 0 where
@@ -24,53 +30,8 @@ pub record AreIn (number owner index place : ℕ) : Type 0 where
 pub unpacked : (owner index place : ℕ) → index < 256 → place < 64 → AreIn (number_from owner index place) owner index place
 unpacked owner index place few small = record { whose = omega arith; which = omega arith; kind = omega arith }
 
--- a kind's number is small, and the node is at it among those of its owner and index
-pub place-below : (node : Node) → place_of node < 64
-place-below (nodes.Folder o Root) = lit< tt
-place-below (nodes.Folder o Instances) = lit< tt
-place-below (nodes.Folder o Options) = lit< tt
-place-below (nodes.Folder o PerCpu) = lit< tt
-place-below (nodes.Folder o (Cpu k)) = lit< tt
-place-below (nodes.Folder o Events) = lit< tt
-place-below (nodes.Folder o Synthetic) = lit< tt
-place-below (nodes.Folder o (Event k)) = lit< tt
-place-below (nodes.File o SyntheticEvents) = lit< tt
-place-below (nodes.File o (OfInstance top.Trace)) = lit< tt
-place-below (nodes.File o (OfInstance top.TracePipe)) = lit< tt
-place-below (nodes.File o (OfInstance top.Overwrite)) = lit< tt
-place-below (nodes.File o (OfInstance top.TraceOptions)) = lit< tt
-place-below (nodes.File o (OfInstance top.TracingOn)) = lit< tt
-place-below (nodes.File o (OfInstance top.Snapshot)) = lit< tt
-place-below (nodes.File o (OfInstance top.EventsEnable)) = lit< tt
-place-below (nodes.File o (OfInstance top.EventsFilter)) = lit< tt
-place-below (nodes.File o SystemEnable) = lit< tt
-place-below (nodes.File o (OfCpu k per_cpu.Trace)) = lit< tt
-place-below (nodes.File o (OfCpu k per_cpu.TracePipe)) = lit< tt
-place-below (nodes.File o (OfCpu k per_cpu.Stats)) = lit< tt
-place-below (nodes.File o (OfEvent k per_event.Enable)) = lit< tt
-place-below (nodes.File o (OfEvent k per_event.Filter)) = lit< tt
-place-below (nodes.File o (OfEvent k per_event.Trigger)) = lit< tt
-place-below (nodes.File o (OfEvent k per_event.Hist)) = lit< tt
-place-below (nodes.File o (OfEvent k per_event.Format)) = lit< tt
-place-below (nodes.File o (Inject k)) = lit< tt
-place-below (nodes.File o (Tool tools.AvailableTracers)) = lit< tt
-place-below (nodes.File o (Tool tools.CurrentTracer)) = lit< tt
-place-below (nodes.File o (Tool tools.SetEvent)) = lit< tt
-place-below (nodes.File o (Tool tools.TraceClock)) = lit< tt
-place-below (nodes.File o (Tool tools.TimestampMode)) = lit< tt
-place-below (nodes.File o (Tool tools.BufferSizeKb)) = lit< tt
-place-below (nodes.File o (Tool tools.BufferTotalSizeKb)) = lit< tt
-place-below (nodes.File o (Tool tools.TracingCpumask)) = lit< tt
-place-below (nodes.File o (OfTop top_tools.AvailableEvents)) = lit< tt
-place-below (nodes.File o (OfTop top_tools.Readme)) = lit< tt
-place-below (nodes.File o (OfTop top_tools.SavedCmdlines)) = lit< tt
-place-below (nodes.File o (OfTop top_tools.PrintkFormats)) = lit< tt
-place-below (nodes.File o (OfTop top_tools.TracingThresh)) = lit< tt
-place-below (nodes.File o (CpuSize k)) = lit< tt
-place-below (nodes.File o (EventId k)) = lit< tt
-place-below (nodes.File o ErrorLog) = lit< tt
-
-pub at_place : (node : Node) → slice_get (nodes_of (owner_of node) (index_of node)) (place_of node) ≡ Some node
+-- each node has its row in the tables
+pub at_place : (node : Node) → node_at (owner_of node) (index_of node) (place_of node) ≡ Some node
 at_place (nodes.Folder o Root) = refl
 at_place (nodes.Folder o Instances) = refl
 at_place (nodes.Folder o Options) = refl
@@ -115,6 +76,22 @@ at_place (nodes.File o (CpuSize k)) = refl
 at_place (nodes.File o (EventId k)) = refl
 at_place (nodes.File o ErrorLog) = refl
 
+-- so a kind's number is small
+row-below : {X : Type 0} (xs : List X) (i : ℕ) (x : X) → slice_get xs i ≡ Some x → i < length xs
+row-below [] i x at = absurd (cc)
+row-below (y ∷ xs) zero x at = omega arith
+row-below (y ∷ xs) (suc i) x at = let rest = row-below xs i x at in omega arith
+
+pub place-below : (node : Node) → place_of node < 64
+place-below node = by (nat_lt (place_of node) 8) refl (file_at (place_of node - 8)) refl (at_place node)
+  where
+    by : (early : Bool) → nat_lt (place_of node) 8 ≡ early → (file : Option File) → file_at (place_of node - 8) ≡ file
+        → (if early then option_map (λ (folder : Folder). nodes.Folder (owner_of node) (folder_of (index_of node) folder)) (folder_at (place_of node))
+        else option_map (λ (f : File). nodes.File (owner_of node) (file_of (index_of node) f)) file) ≡ Some node → place_of node < 64
+    by true is file also at = let below = ltb-true (place_of node) 8 is in omega arith
+    by false is (Some f) also at = let below = row-below (map (λ r. r.0) FILES) (place_of node - 8) f also in omega arith
+    by false is None also at = absurd (cc)
+
 -- the owner of a number is one
 pub one_owner : (a b : Owner) → owner_number a ≡ owner_number b → a ≡ b
 one_owner Top Top same = refl
@@ -130,7 +107,7 @@ packed node number fits is =
 
 -- a node is the one that its number, unpacked, says
 pub found_again : (node : Node) (number : ℕ) (owner : Owner) → FitsItsTypes node → number_of node ≡ number → owner_number owner ≡ (number - 1) / 16384
-    → slice_get (nodes_of owner ((number - 1) / 64 % 256)) ((number - 1) % 64) ≡ Some node
+    → node_at owner ((number - 1) / 64 % 256) ((number - 1) % 64) ≡ Some node
 found_again node number owner fits is whose =
     let are = packed node number fits is in
     let same : owner ≡ owner_of node = one_owner owner (owner_of node) (whose ∙ sym are.whose) in
@@ -148,20 +125,20 @@ same_number a b first second same =
 
 pub not_zero : (number : ℕ) → number < 1 → (node : Node) → FitsItsTypes node → number_of node ≡ number → ⊥
 unfolding number_of
-not_zero number zero node fits is = absurd (omega (arith, is, zero))
+not_zero number none node fits is = absurd (omega (arith, is, none))
 
 pub no_owner : (number : ℕ) → ((owner : Owner) → owner_number owner ≤ 2 ^ 32 → owner_number owner ≡ (number - 1) / 16384 → ⊥)
     → (node : Node) → FitsItsTypes node → number_of node ≡ number → ⊥
 no_owner number none node fits is = none (owner_of node) fits.owner (packed node number fits is).whose
 
 pub no_node : (number : ℕ) (owner : Owner) → owner_number owner ≡ (number - 1) / 16384
-    → None ≡ slice_get (nodes_of owner ((number - 1) / 64 % 256)) ((number - 1) % 64)
+    → None ≡ node_at owner ((number - 1) / 64 % 256) ((number - 1) % 64)
     → (node : Node) → FitsItsTypes node → number_of node ≡ number → ⊥
 no_node number owner whose none node fits is =
     none-some node (none ∙ found_again node number owner fits is whose)
 
 pub other_number : (number : ℕ) (owner : Owner) (found : Node) → owner_number owner ≡ (number - 1) / 16384
-    → Some found ≡ slice_get (nodes_of owner ((number - 1) / 64 % 256)) ((number - 1) % 64) → (number_of found ≡ number → ⊥)
+    → Some found ≡ node_at owner ((number - 1) / 64 % 256) ((number - 1) % 64) → (number_of found ≡ number → ⊥)
     → (node : Node) → FitsItsTypes node → number_of node ≡ number → ⊥
 other_number number owner found whose at differs node fits is =
     let same : found ≡ node = same_Some found node (at ∙ found_again node number owner fits is whose) in

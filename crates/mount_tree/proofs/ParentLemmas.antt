@@ -7,9 +7,10 @@ use Rattle.mount_tree.specs.FolderLists.{dots, folder_list}
 use Rattle.mount_tree.specs.Nodes.{top}
 use Rattle.mount_tree.specs.Scenes.{SceneSeen}
 use Rattle.mount_tree.specs.TreeLaws.{above}
-use Rattle.mount_tree.specs.TreeNames.{file_parent, node_parent}
-use Rattle.mount_tree.specs.declared.folder.Folder.{Folder}
-use Rattle.mount_tree.specs.declared.folder.Folder.TheVariants as folders
+use Rattle.file_list.specs.FileTable.{file_parent}
+use Rattle.mount_tree.specs.TreeNames.{node_parent}
+use Rattle.file_list.specs.declared.folder.Folder.{Folder}
+use Rattle.file_list.specs.declared.folder.Folder.TheVariants as folders
 use Rattle.mount_tree.specs.declared.node.Node.{Node}
 use Rattle.mount_tree.specs.declared.node.Node.TheVariants as nodes
 use Rattle.mount_tree.specs.declared.node.Owner.{Owner}

@@ -1,19 +1,21 @@
 -- What is there is found in the folder that it is in.
-use Rattle.std.proofs.Common.{◌≡◌, ℕ, zero, suc, ◌<◌, ◌≤◌, eqb, ltb, Bool, true, false, ◌&&◌, nat_lt, List, [], ◌∷◌, ◌++◌, Option, Some, None, is_some, codes, refl, subst, arith}
+use Rattle.std.proofs.Common.{◌≡◌, ℕ, zero, suc, ◌<◌, ◌≤◌, eqb, ltb, Bool, true, false, ◌&&◌, nat_lt, List, [], ◌∷◌, ◌++◌, map, Option, Some, None, is_some, codes, refl, subst, arith}
 use Rattle.std.specs.List.{AllByRecursion}
 use Rattle.std.proofs.lemmas.Bool.{and_parts, and_from, eqb-true, false≢true, ltb-false, ltb-true}
 use Rattle.trace_command.specs.declared.file_name.CpuFile.TheVariants as per_cpu
 use Rattle.trace_command.specs.declared.file_name.EventFile.TheVariants as per_event
 use Rattle.trace_command.specs.declared.file_name.TopFile.TheVariants as top_files
-use Rattle.mount_tree.specs.Children.{Child, children, cpu_child, cpu_children, cpu_name, event_child, file_is_there, fixed_children, folder_is_there, instance_child, is_there, made_children, node_named, owner_is_there}
+use Rattle.mount_tree.specs.Children.{Child, children, cpu_child, cpu_children, cpu_name, event_child, file_is_there, fixed_children, folder_is_there, instance_child, is_there, item_child, made_children, node_named, owner_is_there}
 use Rattle.mount_tree.specs.Nodes.{top}
 use Rattle.mount_tree.specs.Scenes.{SceneSeen, event_at, instance_at}
 use Rattle.mount_tree.specs.TreeLaws.{IsFoundIn, IsSound}
-use Rattle.mount_tree.specs.TreeNames.{file_name, file_parent, node_parent}
-use Rattle.mount_tree.specs.declared.file.File.{File}
-use Rattle.mount_tree.specs.declared.file.File.TheVariants.{SyntheticEvents, OfInstance, SystemEnable, OfCpu, OfEvent, Inject, Tool, OfTop, CpuSize, EventId, ErrorLog}
-use Rattle.mount_tree.specs.declared.folder.Folder.{Folder}
-use Rattle.mount_tree.specs.declared.folder.Folder.TheVariants as folders
+use Rattle.file_list.specs.FileTable.{file_name, file_parent, own_items}
+use Rattle.file_list.specs.declared.files.TheConstants.{ROOT}
+use Rattle.mount_tree.specs.TreeNames.{node_parent}
+use Rattle.file_list.specs.declared.file.File.{File}
+use Rattle.file_list.specs.declared.file.File.TheVariants.{SyntheticEvents, OfInstance, SystemEnable, OfCpu, OfEvent, Inject, Tool, OfTop, CpuSize, EventId, ErrorLog}
+use Rattle.file_list.specs.declared.folder.Folder.{Folder}
+use Rattle.file_list.specs.declared.folder.Folder.TheVariants as folders
 use Rattle.mount_tree.specs.declared.node.Node.{Node}
 use Rattle.mount_tree.specs.declared.node.Node.TheVariants as nodes
 use Rattle.mount_tree.specs.declared.node.Owner.{Owner}
@@ -23,8 +25,8 @@ use Rattle.mount_tree.specs.declared.scene.Instance.{Instance}
 use Rattle.mount_tree.proofs.EntryLaws.{children_found}
 use Rattle.mount_tree.proofs.EntryLemmas.{named_first}
 use Rattle.mount_tree.proofs.ListLemmas.{all-unmapped, found_one, found_passes}
-use Rattle.mount_tree.specs.declared.tool.ToolFile.TheVariants as tools
-use Rattle.mount_tree.specs.declared.tool.TopTool.TheVariants as top_tools
+use Rattle.file_list.specs.declared.files.ToolFile.TheVariants as tools
+use Rattle.file_list.specs.declared.files.TopTool.TheVariants as top_tools
 
 -- ---- what a folder always has
 
@@ -36,20 +38,22 @@ found_always scene owner folder name node there is = record {
   found = rw there (named_first name (fixed_children owner folder) (made_children scene owner folder) node is);
 }
 
+-- an instance's own folder lists it, the mounted one and that of another instance
+own_found : (owner : Owner) (file : File) → node_named (file_name file) (map (item_child owner 0) ROOT) ≡ Some (nodes.File owner file)
+    → node_named (file_name file) (map (item_child owner 0) own_items) ≡ Some (nodes.File owner file)
+    → node_named (file_name file) (fixed_children owner folders.Root) ≡ Some (nodes.File owner file)
+own_found Top file mounted other = mounted
+own_found (Made serial) file mounted other = other
+
 file_found : (owner : Owner) (file : File) (scene : SceneSeen) → file_is_there scene owner file ≡ true
     → node_named (file_name file) (fixed_children owner (file_parent file)) ≡ Some (nodes.File owner file)
 file_found Top SyntheticEvents scene there = refl
 file_found (Made serial) SyntheticEvents scene there = absurd (false≢true there)
-file_found Top (OfInstance top_files.Trace) scene there = refl
-file_found Top (OfInstance top_files.TracePipe) scene there = refl
-file_found Top (OfInstance top_files.TraceOptions) scene there = refl
-file_found Top (OfInstance top_files.TracingOn) scene there = refl
-file_found Top (OfInstance top_files.Snapshot) scene there = refl
-file_found (Made serial) (OfInstance top_files.Trace) scene there = refl
-file_found (Made serial) (OfInstance top_files.TracePipe) scene there = refl
-file_found (Made serial) (OfInstance top_files.TraceOptions) scene there = refl
-file_found (Made serial) (OfInstance top_files.TracingOn) scene there = refl
-file_found (Made serial) (OfInstance top_files.Snapshot) scene there = refl
+file_found owner (OfInstance top_files.Trace) scene there = own_found owner (OfInstance top_files.Trace) refl refl
+file_found owner (OfInstance top_files.TracePipe) scene there = own_found owner (OfInstance top_files.TracePipe) refl refl
+file_found owner (OfInstance top_files.TraceOptions) scene there = own_found owner (OfInstance top_files.TraceOptions) refl refl
+file_found owner (OfInstance top_files.TracingOn) scene there = own_found owner (OfInstance top_files.TracingOn) refl refl
+file_found owner (OfInstance top_files.Snapshot) scene there = own_found owner (OfInstance top_files.Snapshot) refl refl
 file_found owner (OfInstance top_files.Overwrite) scene there = refl
 file_found owner (OfInstance top_files.EventsEnable) scene there = refl
 file_found owner (OfInstance top_files.EventsFilter) scene there = refl
@@ -63,22 +67,14 @@ file_found owner (OfEvent event per_event.Trigger) scene there = refl
 file_found owner (OfEvent event per_event.Hist) scene there = refl
 file_found owner (OfEvent event per_event.Format) scene there = refl
 file_found owner (Inject event) scene there = refl
-file_found Top (Tool tools.AvailableTracers) scene there = refl
-file_found Top (Tool tools.CurrentTracer) scene there = refl
-file_found Top (Tool tools.SetEvent) scene there = refl
-file_found Top (Tool tools.TraceClock) scene there = refl
-file_found Top (Tool tools.TimestampMode) scene there = refl
-file_found Top (Tool tools.BufferSizeKb) scene there = refl
-file_found Top (Tool tools.BufferTotalSizeKb) scene there = refl
-file_found Top (Tool tools.TracingCpumask) scene there = refl
-file_found (Made serial) (Tool tools.AvailableTracers) scene there = refl
-file_found (Made serial) (Tool tools.CurrentTracer) scene there = refl
-file_found (Made serial) (Tool tools.SetEvent) scene there = refl
-file_found (Made serial) (Tool tools.TraceClock) scene there = refl
-file_found (Made serial) (Tool tools.TimestampMode) scene there = refl
-file_found (Made serial) (Tool tools.BufferSizeKb) scene there = refl
-file_found (Made serial) (Tool tools.BufferTotalSizeKb) scene there = refl
-file_found (Made serial) (Tool tools.TracingCpumask) scene there = refl
+file_found owner (Tool tools.AvailableTracers) scene there = own_found owner (Tool tools.AvailableTracers) refl refl
+file_found owner (Tool tools.CurrentTracer) scene there = own_found owner (Tool tools.CurrentTracer) refl refl
+file_found owner (Tool tools.SetEvent) scene there = own_found owner (Tool tools.SetEvent) refl refl
+file_found owner (Tool tools.TraceClock) scene there = own_found owner (Tool tools.TraceClock) refl refl
+file_found owner (Tool tools.TimestampMode) scene there = own_found owner (Tool tools.TimestampMode) refl refl
+file_found owner (Tool tools.BufferSizeKb) scene there = own_found owner (Tool tools.BufferSizeKb) refl refl
+file_found owner (Tool tools.BufferTotalSizeKb) scene there = own_found owner (Tool tools.BufferTotalSizeKb) refl refl
+file_found owner (Tool tools.TracingCpumask) scene there = own_found owner (Tool tools.TracingCpumask) refl refl
 file_found Top (OfTop top_tools.AvailableEvents) scene there = refl
 file_found Top (OfTop top_tools.Readme) scene there = refl
 file_found Top (OfTop top_tools.SavedCmdlines) scene there = refl
@@ -87,8 +83,7 @@ file_found Top (OfTop top_tools.TracingThresh) scene there = refl
 file_found (Made serial) (OfTop file) scene there = absurd (false≢true there)
 file_found owner (CpuSize cpu) scene there = refl
 file_found owner (EventId event) scene there = refl
-file_found Top ErrorLog scene there = refl
-file_found (Made serial) ErrorLog scene there = refl
+file_found owner ErrorLog scene there = own_found owner ErrorLog refl refl
 
 pub parent_there : (scene : SceneSeen) (owner : Owner) (file : File) → file_is_there scene owner file ≡ true
     → folder_is_there scene owner (file_parent file) ≡ true

@@ -14,7 +14,7 @@ use Rattle.mount_tree.specs.Children.{is_there}
 use Rattle.mount_tree.specs.Nodes.{owner_of}
 use Rattle.mount_tree.specs.Scenes.{SceneSeen, has_folder, instance_at, shown_event, without_named}
 use Rattle.mount_tree.specs.ScenesAfter.{declared_event, events_after, instances_after, left_instances, made_after, made_instance, scene_after}
-use Rattle.mount_tree.specs.declared.folder.Folder.TheVariants as folders
+use Rattle.file_list.specs.declared.folder.Folder.TheVariants as folders
 use Rattle.mount_tree.specs.declared.node.Node.{Node}
 use Rattle.mount_tree.specs.declared.node.Node.TheVariants as nodes
 use Rattle.mount_tree.specs.declared.node.Owner.TheVariants.{Made}

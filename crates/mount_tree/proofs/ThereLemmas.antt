@@ -7,8 +7,8 @@ use Rattle.std.proofs.lemmas.Slice.Eq.{bytes_eq-Decides}
 use Rattle.trace_lex.proofs.Options.{map_some}
 use Rattle.mount_tree.specs.Children.{Child, children, cpu_child, cpu_children, event_child, fixed_children, folder_is_there, instance_child, is_there, made_children, node_named, owner_is_there}
 use Rattle.mount_tree.specs.Scenes.{SceneSeen, event_at, instance_at}
-use Rattle.mount_tree.specs.declared.folder.Folder.{Folder}
-use Rattle.mount_tree.specs.declared.folder.Folder.TheVariants as folders
+use Rattle.file_list.specs.declared.folder.Folder.{Folder}
+use Rattle.file_list.specs.declared.folder.Folder.TheVariants as folders
 use Rattle.mount_tree.specs.declared.node.Node.{Node}
 use Rattle.mount_tree.specs.declared.node.Node.TheVariants as nodes
 use Rattle.mount_tree.specs.declared.node.Owner.{Owner}

@@ -4,23 +4,20 @@ use Rattle.std.specs.Fmt.{decimal}
 use Rattle.std.specs.List.{find}
 use Rattle.std.specs.Option.{option_map}
 use Rattle.std.specs.Str.{bytes_eq}
-use Rattle.trace_command.specs.declared.file_name.CpuFile.TheVariants as per_cpu
-use Rattle.trace_command.specs.declared.file_name.EventFile.TheVariants as per_event
-use Rattle.trace_command.specs.declared.file_name.TopFile.TheVariants as top
+use Rattle.file_list.specs.FileTable.{file_name, file_of, file_parent, folder_index, folder_name, folder_of, items_of}
+use Rattle.file_list.specs.declared.file.File.{File}
+use Rattle.file_list.specs.declared.file.File.TheVariants.{SyntheticEvents, OfTop}
+use Rattle.file_list.specs.declared.files.Item.{Item}
+use Rattle.file_list.specs.declared.files.Item.TheVariants as items
+use Rattle.file_list.specs.declared.folder.Folder.{Folder}
+use Rattle.file_list.specs.declared.folder.Folder.TheVariants as folders
 use Rattle.mount_tree.specs.Scenes.{SceneSeen, event_at, instance_at}
-use Rattle.mount_tree.specs.TreeNames.{file_name, file_parent}
-use Rattle.mount_tree.specs.declared.file.File.{File}
-use Rattle.mount_tree.specs.declared.file.File.TheVariants.{SyntheticEvents, OfInstance, SystemEnable, OfCpu, OfEvent, Inject, Tool, OfTop, CpuSize, EventId, ErrorLog}
-use Rattle.mount_tree.specs.declared.folder.Folder.{Folder}
-use Rattle.mount_tree.specs.declared.folder.Folder.TheVariants as folders
 use Rattle.mount_tree.specs.declared.node.Node.{Node}
 use Rattle.mount_tree.specs.declared.node.Node.TheVariants as nodes
 use Rattle.mount_tree.specs.declared.node.Owner.{Owner}
 use Rattle.mount_tree.specs.declared.node.Owner.TheVariants.{Top, Made}
 use Rattle.mount_tree.specs.declared.scene.Event.{Event}
 use Rattle.mount_tree.specs.declared.scene.Instance.{Instance}
-use Rattle.mount_tree.specs.declared.tool.ToolFile.TheVariants as tools
-use Rattle.mount_tree.specs.declared.tool.TopTool.TheVariants as top_tools
 
 -- ---- what is there
 
@@ -54,77 +51,17 @@ pub record Child : Type 0 where
   pub name : List ℕ
   pub node : Node
 
-abbrev pub file_child : Owner → File → Child
-file_child owner file = record { name = file_name file; node = nodes.File owner file }
-
 abbrev pub folder_child : Owner → List ℕ → Folder → Child
 folder_child owner name folder = record { name = name; node = nodes.Folder owner folder }
 
--- what every instance has in its own folder
-abbrev pub own_children : Owner → List Child
-own_children owner =
-    file_child owner (OfInstance top.Snapshot)
-    ∷ file_child owner (OfInstance top.TracingOn)
-    ∷ file_child owner (OfInstance top.Trace)
-    ∷ file_child owner (OfInstance top.TracePipe)
-    ∷ folder_child owner (codes "options") folders.Options
-    ∷ file_child owner (OfInstance top.TraceOptions)
-    ∷ folder_child owner (codes "events") folders.Events
-    ∷ folder_child owner (codes "per_cpu") folders.PerCpu
-    ∷ file_child owner (Tool tools.AvailableTracers)
-    ∷ file_child owner (Tool tools.CurrentTracer)
-    ∷ file_child owner (Tool tools.SetEvent)
-    ∷ file_child owner (Tool tools.TraceClock)
-    ∷ file_child owner (Tool tools.TimestampMode)
-    ∷ file_child owner (Tool tools.BufferSizeKb)
-    ∷ file_child owner (Tool tools.BufferTotalSizeKb)
-    ∷ file_child owner (Tool tools.TracingCpumask)
-    ∷ file_child owner ErrorLog
-    ∷ []
-
--- what the top instance's own folder, the mounted one, has beside that: a first file, and last ones
-abbrev pub last_children : List Child
-last_children =
-    folder_child Top (codes "instances") folders.Instances
-    ∷ file_child Top (OfTop top_tools.AvailableEvents)
-    ∷ file_child Top (OfTop top_tools.Readme)
-    ∷ file_child Top (OfTop top_tools.SavedCmdlines)
-    ∷ file_child Top (OfTop top_tools.PrintkFormats)
-    ∷ file_child Top (OfTop top_tools.TracingThresh)
-    ∷ []
-
-abbrev pub root_children : Owner → List Child
-root_children Top = file_child Top SyntheticEvents ∷ own_children Top ++ last_children
-root_children (Made serial) = own_children (Made serial)
+-- what a row of a folder's list stands for, in the folder of this CPU or event
+abbrev pub item_child : Owner → ℕ → Item → Child
+item_child owner index (items.Folder folder) = folder_child owner (folder_name folder) (folder_of index folder)
+item_child owner index (items.File file) = record { name = file_name file; node = nodes.File owner (file_of index file) }
 
 -- what a folder has always
 abbrev pub fixed_children : Owner → Folder → List Child
-fixed_children owner folders.Root = root_children owner
-fixed_children owner folders.Options = file_child owner (OfInstance top.Overwrite) ∷ []
-fixed_children owner (folders.Cpu cpu) =
-    file_child owner (OfCpu cpu per_cpu.Stats)
-    ∷ file_child owner (OfCpu cpu per_cpu.Trace)
-    ∷ file_child owner (OfCpu cpu per_cpu.TracePipe)
-    ∷ file_child owner (CpuSize cpu)
-    ∷ []
-fixed_children owner folders.Events =
-    file_child owner (OfInstance top.EventsEnable)
-    ∷ folder_child owner (codes "synthetic") folders.Synthetic
-    ∷ []
-fixed_children owner folders.Synthetic =
-    file_child owner SystemEnable
-    ∷ file_child owner (OfInstance top.EventsFilter)
-    ∷ []
-fixed_children owner (folders.Event event) =
-    file_child owner (OfEvent event per_event.Format)
-    ∷ file_child owner (OfEvent event per_event.Enable)
-    ∷ file_child owner (OfEvent event per_event.Filter)
-    ∷ file_child owner (OfEvent event per_event.Trigger)
-    ∷ file_child owner (OfEvent event per_event.Hist)
-    ∷ file_child owner (Inject event)
-    ∷ file_child owner (EventId event)
-    ∷ []
-fixed_children owner _ = []
+fixed_children owner folder = map (item_child owner (folder_index folder)) (items_of folder (is_top owner))
 
 -- `cpuN`
 unfoldable pub cpu_name : ℕ → List ℕ

@@ -1,6 +1,5 @@
 pub mod Nodes
 pub mod TreeNames
-pub mod FileKinds
 pub mod Scenes
 pub mod Children
 pub mod FolderLists
@@ -11,3 +10,4 @@ pub mod ScenesAfter
 pub mod TreeLaws
 pub mod TreeExamples
 pub mod Walks
+pub mod FileLaws

@@ -4,19 +4,19 @@ use Rattle.trace_command.specs.Requests.{Request, MakeInstance, RemoveInstance}
 use Rattle.trace_command.specs.declared.file_name.CpuFile.TheVariants as per_cpu
 use Rattle.trace_command.specs.declared.file_name.EventFile.TheVariants as per_event
 use Rattle.trace_command.specs.declared.file_name.TopFile.TheVariants as top_files
-use Rattle.mount_tree.specs.Children.{Child, children, file_child, node_named}
+use Rattle.mount_tree.specs.Children.{Child, children, node_named}
 use Rattle.mount_tree.specs.FolderLists.{folder_list}
 use Rattle.mount_tree.specs.NodePaths.{path_of}
 use Rattle.mount_tree.specs.Nodes.{number_of, top}
 use Rattle.mount_tree.specs.Scenes.{SceneSeen, new_scene, with_event, with_instance, without_instance}
 use Rattle.mount_tree.specs.ScenesAfter.{instances_after, made_after}
-use Rattle.mount_tree.specs.declared.file.File.TheVariants.{SyntheticEvents, OfInstance, OfCpu, OfEvent, Inject, Tool, OfTop}
-use Rattle.mount_tree.specs.declared.folder.Folder.TheVariants as folders
+use Rattle.file_list.specs.declared.file.File.TheVariants.{SyntheticEvents, OfInstance, OfCpu, OfEvent, Inject, Tool, OfTop}
+use Rattle.file_list.specs.declared.folder.Folder.TheVariants as folders
 use Rattle.mount_tree.specs.declared.node.Node.{Node}
 use Rattle.mount_tree.specs.declared.node.Node.TheVariants as nodes
 use Rattle.mount_tree.specs.declared.node.Owner.TheVariants.{Top, Made}
-use Rattle.mount_tree.specs.declared.tool.ToolFile.TheVariants as tools
-use Rattle.mount_tree.specs.declared.tool.TopTool.TheVariants as top_tools
+use Rattle.file_list.specs.declared.files.ToolFile.TheVariants as tools
+use Rattle.file_list.specs.declared.files.TopTool.TheVariants as top_tools
 
 -- ---- requests
 
@@ -67,7 +67,7 @@ dots_of folder above = record { name = codes "."; node = folder } ∷ record { n
 abbrev pub ListsWithDots : Type 0
 ListsWithDots =
     (folder_list scene (nodes.Folder Top folders.Options)
-    ≡ dots_of (nodes.Folder Top folders.Options) top ++ file_child Top (OfInstance top_files.Overwrite) ∷ [])
+    ≡ dots_of (nodes.Folder Top folders.Options) top ++ record { name = codes "overwrite"; node = nodes.File Top (OfInstance top_files.Overwrite) } ∷ [])
     × (take 2 (folder_list scene top) ≡ dots_of top top)
     × (take 2 (folder_list scene (nodes.Folder (Made 1) folders.Root)) ≡ dots_of (nodes.Folder (Made 1) folders.Root) (nodes.Folder Top folders.Instances))
     × (folder_list scene (nodes.Folder (Made 0) folders.Root) ≡ [])

@@ -17,9 +17,9 @@ use Rattle.mount_tree.specs.Nodes.{FitsItsTypes, number_of, owner_of, top}
 use Rattle.mount_tree.specs.Scenes.{SceneSeen, has_folder, with_event, with_instance, without_instance}
 use Rattle.mount_tree.specs.ScenesAfter.{events_after, instances_after, made_after, scene_after}
 use Rattle.mount_tree.specs.TreeNames.{node_parent}
-use Rattle.mount_tree.specs.declared.file.File.{File}
-use Rattle.mount_tree.specs.declared.folder.Folder.{Folder}
-use Rattle.mount_tree.specs.declared.folder.Folder.TheVariants as folders
+use Rattle.file_list.specs.declared.file.File.{File}
+use Rattle.file_list.specs.declared.folder.Folder.{Folder}
+use Rattle.file_list.specs.declared.folder.Folder.TheVariants as folders
 use Rattle.mount_tree.specs.declared.node.Node.{Node}
 use Rattle.mount_tree.specs.declared.node.Node.TheVariants as nodes
 use Rattle.mount_tree.specs.declared.node.Owner.{Owner}

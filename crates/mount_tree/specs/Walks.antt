@@ -1,16 +1,17 @@
 -- A walk through a mounted tracer, and the lines that `tracectl --list` prints of it.
-use Rattle.std.specs.Prelude.{◌≡◌, ℕ, zero, suc, List, [], map}
+use Rattle.std.specs.Prelude.{◌≡◌, ℕ, zero, suc, if◌then◌else◌, List, [], map}
 use Rattle.std.specs.List.{flat_map}
-use Rattle.file_list.specs.Listings.{line_of, listing}
+use Rattle.file_list.specs.FileTable.{is_listed}
+use Rattle.file_list.specs.Files.{line_of}
+use Rattle.file_list.specs.Listings.{listing}
 use Rattle.file_list.specs.Names.{NamesSeen}
 use Rattle.mount_tree.specs.Children.{Child, children}
-use Rattle.mount_tree.specs.FileKinds.{access_of_file}
+use Rattle.file_list.specs.FileKinds.{access_of_file}
 use Rattle.mount_tree.specs.NodePaths.{path_of}
 use Rattle.mount_tree.specs.Nodes.{top}
 use Rattle.mount_tree.specs.Scenes.{SceneSeen}
 use Rattle.mount_tree.specs.TreeLaws.{IsSound}
-use Rattle.mount_tree.specs.declared.file.File.{File}
-use Rattle.mount_tree.specs.declared.file.File.TheVariants.{Inject, Tool, OfTop, CpuSize, EventId, ErrorLog}
+use Rattle.file_list.specs.declared.file.File.{File}
 use Rattle.mount_tree.specs.declared.node.Node.{Node}
 use Rattle.mount_tree.specs.declared.node.Node.TheVariants as nodes
 use Rattle.mount_tree.specs.declared.node.Owner.{Owner}
@@ -19,13 +20,7 @@ use Rattle.mount_tree.specs.declared.scene.Instance.{Instance}
 
 -- the line of a file in a list: how it can be used, and its path. The files that no script has have no line.
 abbrev pub line_in : SceneSeen → Owner → File → List ℕ
-line_in scene owner (Inject event) = []
-line_in scene owner (Tool file) = []
-line_in scene owner (OfTop file) = []
-line_in scene owner (CpuSize cpu) = []
-line_in scene owner (EventId event) = []
-line_in scene owner ErrorLog = []
-line_in scene owner file = line_of (access_of_file file) (path_of scene (nodes.File owner file))
+line_in scene owner file = if is_listed file then line_of (access_of_file file) (path_of scene (nodes.File owner file)) else []
 
 -- the lines of the files below a node, folder by folder, down to so many folders
 abbrev pub lines_below : SceneSeen → ℕ → Node → List ℕ

@@ -13,9 +13,9 @@ ghost use Rattle.mount_tree.specs.declared.scene.Event.{Event as EventValue};
 ghost use Rattle.mount_tree.specs.declared.scene.Instance.{Instance as InstanceValue};
 
 use crate::fixed::{fixed_entry, fixed_named, folder_entry};
-use crate::folder::Folder;
 use crate::node::{Node, Owner};
 use crate::scene::{Event, Instance, Scene};
+use file_list::Folder;
 
 /// An entry of a folder: its name, and what it is.
 #[derive(Clone, Copy)]

@@ -1,5 +1,6 @@
 //! What the numbers, entries and paths of nodes come to, and what requests do to a scene. Each function does nothing: its contract is a theorem.
 
+ghost use Rattle.mount_tree.specs.FileLaws.{FilesAreOfTheTree};
 ghost use Rattle.mount_tree.specs.TreeExamples.{ListsOfFolders, ListsWithDots, LookUps, NumbersAndPaths, SecondOfItsName};
 ghost use Rattle.mount_tree.specs.TreeLaws.{ChildrenFollow, DeclaringAddsAnEvent, DotsComeFirst, EventsAreDeclared, FoundNodesAreIn, FoundNodesAreThere, ListsAreLookups, ListsHaveNamesOnce, MakingAddsAnInstance, NamesGoWithSerials, NodesAreFound, NumbersNameNodes, OthersLeaveTheScene, ParentsAreThere, PathsAreJoined, PathsNameTheirFiles, RemovedNodesAreGone, RemovingTakesItOut, ScenesAreSound, StepsUpEnd};
 ghost use Rattle.mount_tree.specs.Walks.{TreesAreListed};
@@ -69,6 +70,11 @@ pub fn paths_are_joined()
 /// The path of a file that is there names, for a command, that file of that instance.
 pub fn paths_name_their_files()
     ensures { PathsNameTheirFiles }
+{}
+
+/// And each file that a path can name, of a CPU or an event that is there, is a file that is there.
+pub fn files_are_of_the_tree()
+    ensures { FilesAreOfTheTree }
 {}
 
 /// The definitions can be computed, and they give a worked scene these lists, look-ups, numbers and paths.

@@ -2,19 +2,14 @@
 #![tactic(auto)]
 
 mod entry;
-mod file;
 mod fixed;
-mod folder;
 pub mod laws;
 mod node;
 mod number;
 mod path;
 mod scene;
-mod tool;
 
 pub use entry::Entry;
-pub use file::{File, FileKind};
-pub use folder::Folder;
+pub use file_list::{File, FileKind, Folder, ToolFile, TopTool};
 pub use node::{Node, Owner};
 pub use scene::{Event, Instance, Scene};
-pub use tool::{ToolFile, TopTool};

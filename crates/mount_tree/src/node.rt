@@ -1,10 +1,10 @@
 //! Nodes: what a mounted tracer's folders and files are known by.
 
 ghost use Rattle.std.specs.Prelude.{◌≡◌};
+ghost use Rattle.mount_tree.specs.Children.{is_top};
 ghost use Rattle.mount_tree.specs.Nodes.{owner_number};
 
-use crate::file::File;
-use crate::folder::Folder;
+use file_list::{File, Folder};
 
 /// Whose a folder or a file is.
 #[derive(Clone, Copy)]
@@ -30,6 +30,16 @@ impl Owner {
         match self {
             Owner::Top => 0,
             Owner::Made(serial) => u64::from(serial) + 1,
+        }
+    }
+
+    /// Whether it is the top instance.
+    pub(crate) fn is_top(self) -> bool
+        ensures { result ≡ is_top self }
+    {
+        match self {
+            Owner::Top => true,
+            Owner::Made(_) => false,
         }
     }
 }

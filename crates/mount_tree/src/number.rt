@@ -6,16 +6,13 @@
 //!     number - 1   =   owner: 33 bits   index: 8 bits   kind: 6 bits
 //! ```
 
-ghost use Rattle.std.specs.Prelude.{◌≡◌, ◌≢◌, ◌≤◌, ◌^◌, IfSome, IfNone, slice_get};
+ghost use Rattle.std.specs.Prelude.{◌≡◌, ◌≢◌, ◌≤◌, ◌^◌, IfSome, IfNone};
 ghost use Rattle.mount_tree.specs.Nodes.{FitsItsTypes, index_of, number_of, owner_number, owner_of, place_of, top};
 ghost use Rattle.mount_tree.specs.TreeNames.{node_parent};
-ghost use Rattle.mount_tree.specs.private.KindPlaces.{nodes_of};
+ghost use Rattle.mount_tree.specs.private.KindPlaces.{node_at};
 
-use crate::file::File;
-use crate::folder::Folder;
 use crate::node::{Node, Owner};
-use crate::tool::{ToolFile, TopTool};
-use trace_command::{CpuFile, EventFile, TopFile};
+use file_list::{FOLDERS, File, Folder};
 
 /// The values of the index, and of the kind.
 const INDEXES: u64 = 256;
@@ -62,12 +59,13 @@ impl Node {
         }
     }
 
+    // The row of its kind: those of folders come first.
     fn place(self) -> u8
         ensures { result ≡ place_of self }
     {
         match self {
-            Node::Folder(_, folder) => folder.place(),
-            Node::File(_, file) => file.place(),
+            Node::Folder(_, folder) => folder.row() as u8,
+            Node::File(_, file) => (FOLDERS.len() + file.row()) as u8,
         }
     }
 
@@ -129,53 +127,14 @@ fn owner_from(number: u64) -> Option<Owner>
 
 // The node of this kind, of the CPU or event at this index if it is one of those.
 fn node_from(owner: Owner, index: u8, place: u8) -> Option<Node>
-    ensures { result ≡ slice_get (nodes_of owner index) place }
+    ensures { result ≡ node_at owner index place }
 {
-    let node = match place {
-        0 => Node::Folder(owner, Folder::Root),
-        1 => Node::Folder(owner, Folder::Instances),
-        2 => Node::Folder(owner, Folder::Options),
-        3 => Node::Folder(owner, Folder::PerCpu),
-        4 => Node::Folder(owner, Folder::Cpu(index)),
-        5 => Node::Folder(owner, Folder::Events),
-        6 => Node::Folder(owner, Folder::Synthetic),
-        7 => Node::Folder(owner, Folder::Event(index)),
-        8 => Node::File(owner, File::SyntheticEvents),
-        9 => Node::File(owner, File::OfInstance(TopFile::Trace)),
-        10 => Node::File(owner, File::OfInstance(TopFile::TracePipe)),
-        11 => Node::File(owner, File::OfInstance(TopFile::Overwrite)),
-        12 => Node::File(owner, File::OfInstance(TopFile::TraceOptions)),
-        13 => Node::File(owner, File::OfInstance(TopFile::TracingOn)),
-        14 => Node::File(owner, File::OfInstance(TopFile::Snapshot)),
-        15 => Node::File(owner, File::OfInstance(TopFile::EventsEnable)),
-        16 => Node::File(owner, File::OfInstance(TopFile::EventsFilter)),
-        17 => Node::File(owner, File::SystemEnable),
-        18 => Node::File(owner, File::OfCpu(index, CpuFile::Trace)),
-        19 => Node::File(owner, File::OfCpu(index, CpuFile::TracePipe)),
-        20 => Node::File(owner, File::OfCpu(index, CpuFile::Stats)),
-        21 => Node::File(owner, File::OfEvent(index, EventFile::Enable)),
-        22 => Node::File(owner, File::OfEvent(index, EventFile::Filter)),
-        23 => Node::File(owner, File::OfEvent(index, EventFile::Trigger)),
-        24 => Node::File(owner, File::OfEvent(index, EventFile::Hist)),
-        25 => Node::File(owner, File::OfEvent(index, EventFile::Format)),
-        26 => Node::File(owner, File::Inject(index)),
-        27 => Node::File(owner, File::Tool(ToolFile::AvailableTracers)),
-        28 => Node::File(owner, File::Tool(ToolFile::CurrentTracer)),
-        29 => Node::File(owner, File::Tool(ToolFile::SetEvent)),
-        30 => Node::File(owner, File::Tool(ToolFile::TraceClock)),
-        31 => Node::File(owner, File::Tool(ToolFile::TimestampMode)),
-        32 => Node::File(owner, File::Tool(ToolFile::BufferSizeKb)),
-        33 => Node::File(owner, File::Tool(ToolFile::BufferTotalSizeKb)),
-        34 => Node::File(owner, File::Tool(ToolFile::TracingCpumask)),
-        35 => Node::File(owner, File::OfTop(TopTool::AvailableEvents)),
-        36 => Node::File(owner, File::OfTop(TopTool::Readme)),
-        37 => Node::File(owner, File::OfTop(TopTool::SavedCmdlines)),
-        38 => Node::File(owner, File::OfTop(TopTool::PrintkFormats)),
-        39 => Node::File(owner, File::OfTop(TopTool::TracingThresh)),
-        40 => Node::File(owner, File::CpuSize(index)),
-        41 => Node::File(owner, File::EventId(index)),
-        42 => Node::File(owner, File::ErrorLog),
-        _ => return None,
-    };
-    Some(node)
+    let place = usize::from(place);
+    if place < FOLDERS.len() {
+        let folder = Folder::at(place)?;
+        Some(Node::Folder(owner, folder.of(index)))
+    } else {
+        let file = File::at(place - FOLDERS.len())?;
+        Some(Node::File(owner, file.of(index)))
+    }
 }

@@ -7,10 +7,9 @@ ghost use Rattle.file_list.specs.Files.{cpu_folder, event_folder};
 ghost use Rattle.file_list.specs.Listings.{instance_folder};
 ghost use Rattle.mount_tree.specs.NodePaths.{folder_path, owner_path, path_of};
 
-use crate::file::File;
-use crate::folder::Folder;
 use crate::node::{Node, Owner};
 use crate::scene::Scene;
+use file_list::{File, Folder};
 use itoa::Buffer;
 use std::alloc::AllocError;
 

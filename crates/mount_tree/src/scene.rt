@@ -3,12 +3,11 @@
 ghost use Rattle.std.specs.Prelude.{List, ℕ, ◌≡◌, ◌<◌, ◌≤◌, ◌↔◌, IfNone, IfSome, IsTrue, OnOk, OnErr, option_copied, is_some};
 ghost use Rattle.std.specs.Option.{option_map};
 ghost use Rattle.trace_command.specs.FileNames.{bytes_now};
-ghost use Rattle.mount_tree.specs.Children.{folder_is_there, file_is_there, is_there, is_top, owner_is_there};
+ghost use Rattle.mount_tree.specs.Children.{folder_is_there, file_is_there, is_there, owner_is_there};
 ghost use Rattle.mount_tree.specs.Scenes.{event_at, event_name, has_folder, instance_at, instance_name, most_events, most_made, new_scene, SceneSeen as SceneValue, with_event, with_instance, without_instance, without_named};
 
-use crate::file::File;
-use crate::folder::Folder;
 use crate::node::{Node, Owner};
+use file_list::{File, Folder};
 use std::alloc::{AllocError, Global};
 use std::marker::Model;
 use trace_lex::Text;
@@ -198,7 +197,7 @@ impl Scene {
         ensures { result ≡ folder_is_there self.now owner folder }
     {
         match folder {
-            Folder::Instances => is_top(owner),
+            Folder::Instances => owner.is_top(),
             Folder::Cpu(cpu) => cpu < self.cpus,
             Folder::Event(event) => self.event_name(event).is_some(),
             Folder::Root | Folder::Options | Folder::PerCpu | Folder::Events | Folder::Synthetic =>
@@ -210,7 +209,7 @@ impl Scene {
         ensures { result ≡ file_is_there self.now owner file }
     {
         match file {
-            File::SyntheticEvents | File::OfTop(_) => is_top(owner),
+            File::SyntheticEvents | File::OfTop(_) => owner.is_top(),
             File::OfInstance(_)
             | File::SystemEnable
             | File::OfCpu(_, _)
@@ -241,13 +240,4 @@ fn take_out(instances: &mut Vec<Instance>, name: &[u8])
     ensures { instances.new.items ≡ without_named name.now instances.old.items }
 {
     instances.retain(|instance| instance.name.as_bytes() != name);
-}
-
-fn is_top(owner: Owner) -> bool
-    ensures { result ≡ is_top owner }
-{
-    match owner {
-        Owner::Top => true,
-        Owner::Made(_) => false,
-    }
 }

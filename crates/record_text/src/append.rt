@@ -44,18 +44,6 @@ pub fn push_with_number<N: Integer>(out: &mut Vec<u8>, text: &[u8], n: N) -> Res
     push_number(out, n)
 }
 
-/// Appends a whole text. A vector with nothing in it takes the text over, with no copy.
-pub fn append_text(out: &mut Vec<u8>, text: Vec<u8>) -> Result<(), AllocError>
-    ensures text { OnOk result (out.new.items ≡ out.old.items ++ text.items) }
-    ensures refused { OnErr result (out.new.items ≡ out.old.items) }
-{
-    if out.is_empty() {
-        *out = text;
-        return Ok(());
-    }
-    out.extend_from_slice(&text)
-}
-
 /// Writes bytes so that they end at `end`, and returns where they begin.
 #[inline(always)]
 pub(crate) fn put_before(bytes: &mut [u8], end: usize, text: &[u8]) -> usize

@@ -1,12 +1,12 @@
 //! An event's line in `synthetic_events`.
 
-ghost use Rattle.std.specs.Prelude.{◌≡◌, ◌++◌, OnOk, OnErr};
+ghost use Rattle.std.specs.Prelude.{◌≡◌, ◌++◌, IfOk, OnOk};
 ghost use Rattle.record_text.specs.DeclarationText as texts;
 
-use crate::append::{append_text, push};
+use crate::append::push;
 use crate::field::push_field;
 use std::alloc::{AllocError, Global};
-use trace_format::{EventDef, Field};
+use trace_format::{EventDef, Field, Text};
 
 /// Appends fields that follow another one.
 fn push_further_fields(out: &mut Vec<u8>, fields: &[Field]) -> Result<(), AllocError>
@@ -41,14 +41,11 @@ fn push_declaration(out: &mut Vec<u8>, def: &EventDef) -> Result<(), AllocError>
     push(out, b"\n")
 }
 
-/// Appends an event's line of `synthetic_events` ("Synthetic events" of histogram.rst): its name, and its fields as they are declared.
-///
-/// It is refused only if it runs out of memory, and `out` is then as it was.
-pub fn declaration_text(alloc: Global, def: &EventDef, out: &mut Vec<u8>) -> Result<(), AllocError>
-    ensures text { OnOk result (out.new.items ≡ out.old.items ++ texts.declaration_text def.now) }
-    ensures refused { OnErr result (out.new.items ≡ out.old.items) }
+/// An event's line of `synthetic_events` ("Synthetic events" of histogram.rst): its name, and its fields as they are declared.
+pub fn declaration_text(alloc: Global, def: &EventDef) -> Result<Text, AllocError>
+    ensures { IfOk result (λ text. text ≡ texts.declaration_text def.now) }
 {
     let mut text = Vec::new(alloc);
     push_declaration(&mut text, def)?;
-    append_text(out, text)
+    Ok(Text::from(text))
 }

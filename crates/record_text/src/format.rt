@@ -1,13 +1,13 @@
 //! The text of a `format` file.
 
-ghost use Rattle.std.specs.Prelude.{◌≡◌, ◌++◌, codes, OnOk, OnErr};
+ghost use Rattle.std.specs.Prelude.{◌≡◌, ◌++◌, codes, IfOk, OnOk};
 ghost use Rattle.std.specs.Fmt.{decimal};
 ghost use Rattle.record_text.specs.FormatText as texts;
 
-use crate::append::{append_text, push, push_number, push_three, push_with_number};
+use crate::append::{push, push_number, push_three, push_with_number};
 use crate::field::push_field;
 use std::alloc::{AllocError, Global};
-use trace_format::{EventDef, Field};
+use trace_format::{EventDef, Field, Text};
 use trace_record::HEAD_SIZE;
 
 /// Where the fields begin in a record: behind its head.
@@ -81,21 +81,13 @@ fn push_format(out: &mut Vec<u8>, id: u16, def: &EventDef) -> Result<(), AllocEr
     push_field_lines(out, def.fields())
 }
 
-/// Appends the text of `events/synthetic/NAME/format` ("Event formats" of events.rst): the event's name and number, then a line for the pid
+/// The text of `events/synthetic/NAME/format` ("Event formats" of events.rst): the event's name and number, then a line for the pid
 /// and one for each field. A line has the field as it is declared, the offset of its first byte in a record and its size, both in bytes, and
 /// 1 where it holds numbers below 0, else 0.
-///
-/// It is refused only if it runs out of memory, and `out` is then as it was.
-pub fn format_text(
-    alloc: Global,
-    id: u16,
-    def: &EventDef,
-    out: &mut Vec<u8>,
-) -> Result<(), AllocError>
-    ensures text { OnOk result (out.new.items ≡ out.old.items ++ texts.format_text id def.now) }
-    ensures refused { OnErr result (out.new.items ≡ out.old.items) }
+pub fn format_text(alloc: Global, id: u16, def: &EventDef) -> Result<Text, AllocError>
+    ensures { IfOk result (λ text. text ≡ texts.format_text id def.now) }
 {
     let mut text = Vec::new(alloc);
     push_format(&mut text, id, def)?;
-    append_text(out, text)
+    Ok(Text::from(text))
 }

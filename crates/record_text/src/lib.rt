@@ -1,7 +1,7 @@
 //! The texts of a tracer's files: `stats`, `format`, `synthetic_events`, `trace`, `trace_pipe` and `snapshot`, after "The File System" and
 //! "Snapshot" of ftrace.rst, "Event formats" of events.rst and "Synthetic events" of histogram.rst.
 //!
-//! Each call appends its text to a vector. Where memory is refused, the vector is left as it was.
+//! Each call returns its text.
 #![tactic(auto)]
 
 pub mod append;

@@ -2,17 +2,17 @@
 //!
 //! The text is built in one vector, which becomes the reply. A record's bytes are read where the ring keeps them.
 
-ghost use Rattle.std.specs.Prelude.{◌≡◌, ◌++◌, map, OnOk, OnErr};
+ghost use Rattle.std.specs.Prelude.{◌≡◌, ◌++◌, map, IfOk, OnOk};
 ghost use Rattle.std.specs.List.{flat_map};
 ghost use Rattle.trace_buffer.specs.CpuReadings.{taken_reading};
 ghost use Rattle.record_text.specs.BufferText as files;
 ghost use Rattle.record_text.specs.TraceText as texts;
 
-use crate::append::{append_text, push, push_with_number};
+use crate::append::{push, push_with_number};
 use crate::record::push_record_line;
 use std::alloc::{AllocError, Global};
 use trace_buffer::Taken;
-use trace_format::Catalog;
+use trace_format::{Catalog, Text};
 
 /// Room for a usual line, so that the text of one record seldom grows.
 const USUAL_LINE: usize = 96;
@@ -55,23 +55,15 @@ fn push_taken(out: &mut Vec<u8>, catalog: &Catalog, taken: &[Taken<'_>]) -> Resu
     Ok(())
 }
 
-/// Appends what `trace_pipe` shows of the records that a read consumes, of all CPUs or of one ("The File System" of ftrace.rst): a line for
+/// What `trace_pipe` shows of the records that a read consumes, of all CPUs or of one ("The File System" of ftrace.rst): a line for
 /// each, after the line that says how many records of its CPU were lost before it, if there were any.
-///
-/// It is refused only if it runs out of memory, and `out` is then as it was.
 #[tactic(auto, unfolding(crate::specs::BufferText::pipe_text))]
-pub fn pipe_text(
-    alloc: Global,
-    catalog: &Catalog,
-    taken: &[Taken<'_>],
-    out: &mut Vec<u8>,
-) -> Result<(), AllocError>
-    ensures text { OnOk result (out.new.items
-        ≡ out.old.items ++ files.pipe_text catalog.now (map taken_reading taken.now)) }
-    ensures refused { OnErr result (out.new.items ≡ out.old.items) }
+pub fn pipe_text(alloc: Global, catalog: &Catalog, taken: &[Taken<'_>]) -> Result<Text, AllocError>
+    ensures { IfOk result (λ text. text
+        ≡ files.pipe_text catalog.now (map taken_reading taken.now)) }
 {
     let room = if taken.is_empty() { 0 } else { USUAL_LINE };
     let mut text = Vec::with_capacity(alloc, room)?;
     push_taken(&mut text, catalog, taken)?;
-    append_text(out, text)
+    Ok(Text::from(text))
 }

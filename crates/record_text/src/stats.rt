@@ -1,14 +1,15 @@
 //! The text of a `stats` file.
 //!
 //! It is short, so it is written from its last line to its first into an array: the digits of a number come out last first, and so each lands where it
-//! belongs. The vector takes the text once.
+//! belongs. Then it is copied once.
 
-ghost use Rattle.std.specs.Prelude.{◌≡◌, ℕ, ◌+◌, ◌≤◌, ◌++◌, length, drop, OnOk, OnErr};
+ghost use Rattle.std.specs.Prelude.{◌≡◌, ℕ, ◌+◌, ◌≤◌, ◌++◌, length, drop, IfOk};
 ghost use Rattle.record_text.specs.StatsText as texts;
 
 use crate::append::{put_before, put_number_before};
 use page_ring::RingStats;
 use std::alloc::{AllocError, Global};
+use trace_format::Text;
 
 /// The most bytes that the text has: 95 of labels, and in each of the eight lines at most 20 digits and a newline.
 const MOST_BYTES: usize = 263;
@@ -44,20 +45,12 @@ fn put_lines(bytes: &mut [u8], stats: RingStats, now: u64) -> usize
     put_line_before(bytes, at, b"entries: ", stats.entries)
 }
 
-/// Appends the text of `per_cpu/cpuN/stats` ("The File System" of ftrace.rst): the statistics of a CPU's ring and the clock, a line each.
+/// The text of `per_cpu/cpuN/stats` ("The File System" of ftrace.rst): the statistics of a CPU's ring and the clock, a line each.
 /// `bytes` adds up the sizes of the kept records; `oldest` and `now` are ticks of the clock, which counts emissions.
-///
-/// It is refused only if it runs out of memory, and `out` is then as it was.
-pub fn stats_text(
-    _alloc: Global,
-    stats: RingStats,
-    now: u64,
-    out: &mut Vec<u8>,
-) -> Result<(), AllocError>
-    ensures text { OnOk result (out.new.items ≡ out.old.items ++ texts.stats_text stats now) }
-    ensures refused { OnErr result (out.new.items ≡ out.old.items) }
+pub fn stats_text(alloc: Global, stats: RingStats, now: u64) -> Result<Text, AllocError>
+    ensures { IfOk result (λ text. text ≡ texts.stats_text stats now) }
 {
     let mut bytes = [0; MOST_BYTES];
     let at = put_lines(&mut bytes, stats, now);
-    out.extend_from_slice(&bytes[at..])
+    Text::from_slice(alloc, &bytes[at..])
 }

@@ -2,7 +2,7 @@
 //!
 //! The text is built in one vector, which becomes the reply. A record's bytes are read where the ring keeps them.
 
-ghost use Rattle.std.specs.Prelude.{◌≡◌, ◌+◌, ◌*◌, ◌^◌, ◌<◌, ◌≤◌, ◌++◌, List, map, IfSome, OnOk, OnErr};
+ghost use Rattle.std.specs.Prelude.{◌≡◌, ◌+◌, ◌*◌, ◌^◌, ◌<◌, ◌≤◌, ◌++◌, List, map, IfOk, IfSome, OnOk};
 ghost use Rattle.std.specs.List.{flat_map};
 ghost use Rattle.page_ring.specs.Events.{Event};
 ghost use Rattle.page_ring.specs.Account.{Reading};
@@ -13,12 +13,12 @@ ghost use Rattle.record_text.specs.BufferText as files;
 ghost use Rattle.record_text.specs.RecordText.{record_line};
 ghost use Rattle.record_text.specs.TraceText as texts;
 
-use crate::append::{append_text, push, push_number, push_with_number};
+use crate::append::{push, push_number, push_with_number};
 use crate::record::push_record_line;
 use page_ring::{Kept, KeptRecords};
 use std::alloc::{AllocError, Global};
 use trace_buffer::Buffer;
-use trace_format::Catalog;
+use trace_format::{Catalog, Text};
 
 /// Appends the lines before the counts.
 #[tactic(auto, unfolding(crate::specs::TraceText::trace_title))]
@@ -142,28 +142,23 @@ fn push_trace_of_cpu(
     push_kept(out, catalog, cpu, buffer.cpu_kept(cpu))
 }
 
-/// Appends what `trace` shows of all CPUs, or `per_cpu/cpuN/trace` of one ("The File System" and "Output format" of ftrace.rst): the head,
+/// What `trace` shows of all CPUs, or `per_cpu/cpuN/trace` of one ("The File System" and "Output format" of ftrace.rst): the head,
 /// with how many records are kept, how many are kept or were lost to overwriting, and the number of all CPUs; and a line for each kept
 /// record, of all CPUs by timestamp. Nothing is consumed.
-///
-/// It is refused only if it runs out of memory, and `out` is then as it was.
 pub fn trace_text(
     alloc: Global,
     catalog: &Catalog,
     buffer: &Buffer,
     cpu: Option<u32>,
-    out: &mut Vec<u8>,
-) -> Result<(), AllocError>
+) -> Result<Text, AllocError>
     requires { IfSome cpu (λ cpu. cpu < seen.cpus buffer.now) }
-    ensures text { OnOk result ((family : List (List Event)) → StandsFor buffer.now family
-        → out.new.items ≡ out.old.items
-        ++ files.trace_text catalog.now buffer.now.pages buffer.now.page_bytes family cpu) }
-    ensures refused { OnErr result (out.new.items ≡ out.old.items) }
+    ensures { IfOk result (λ text. (family : List (List Event)) → StandsFor buffer.now family
+        → text ≡ files.trace_text catalog.now buffer.now.pages buffer.now.page_bytes family cpu) }
 {
     let mut text = Vec::new(alloc);
     match cpu {
         Some(cpu) => push_trace_of_cpu(&mut text, catalog, buffer, cpu)?,
         None => push_trace_of_all(&mut text, catalog, buffer)?,
     }
-    append_text(out, text)
+    Ok(Text::from(text))
 }

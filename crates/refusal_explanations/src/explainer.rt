@@ -12,12 +12,12 @@ use crate::layout::{ScriptLine, shown};
 use crate::meant::{command_meant, line_meant};
 use crate::place::refusal_offset;
 use crate::row::row_fault;
-use crate::subject::{command_of, command_subject, declared, path_of, written_in};
+use crate::subject::{command_of, command_subject, path_of, written_in};
 use crate::wording::refusal_words;
 use std::alloc::{AllocError, Global};
 use trace_command::{Command, Refusal};
 use trace_format::EventDef;
-use trace_script::{Outcome, ScriptFault};
+use trace_script::{Change, Outcome, ScriptFault, change_of};
 
 /// Tells people what is wrong with the lines of a script, and remembers for that the events that were declared, and the number of the last line
 /// that was heard.
@@ -64,9 +64,8 @@ impl Explainer {
         line: &[u8],
         outcome: &Option<Outcome>,
     ) -> Result<(), AllocError> {
-        if let Some(Outcome::Replied(_)) = outcome {
-            let command = command_of(self.alloc, line)?;
-            if let Some(event) = declared(self.alloc, &command)? {
+        if let Some(outcome) = outcome {
+            if let Some(Change::Declares(event)) = change_of(self.alloc, line, outcome)? {
                 self.events.push(event)?;
             }
         }

@@ -6,7 +6,7 @@ ghost use Rattle.refusal_explanations.specs.Wording as wording;
 
 use std::alloc::{AllocError, Global};
 use trace_command::{Command, EventFile, FileName, TopFile, address_of};
-use trace_format::{DefinitionFault, EventDef, Field, Text};
+use trace_format::{EventDef, Field, Text};
 use trace_script::{Line, LineError, prepare};
 
 /// What a command is about, as far as the words depend on it.
@@ -95,18 +95,6 @@ pub(crate) fn command_of(alloc: Global, line: &[u8]) -> Result<Command, AllocErr
         Ok(Line::Ask(command)) => Ok(command),
         Err(LineError::Memory) => Err(AllocError),
         _ => Ok(Command::Mkdir(Text::new(alloc))),
-    }
-}
-
-/// The event that a command declares, if it declares one.
-pub(crate) fn declared(alloc: Global, command: &Command) -> Result<Option<EventDef>, AllocError> {
-    let Subject::Declaration = command_subject(command) else {
-        return Ok(None);
-    };
-    match EventDef::parse(alloc, written_in(command)) {
-        Ok(event) => Ok(Some(event)),
-        Err(DefinitionFault::BadDefinition { .. }) => Ok(None),
-        Err(DefinitionFault::Memory) => Err(AllocError),
     }
 }
 

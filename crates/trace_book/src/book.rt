@@ -11,16 +11,16 @@
 //!
 //! So a command that is refused leaves nothing, and one that is done leaves its entry.
 
-ghost use Rattle.std.specs.Prelude.{◌≡◌, ◌<◌, [], ◌∷◌, ◌++◌, All, length, is_some, IfOk, IfErr, IfSome, OnOk, OnErr, ◌≢◌};
+ghost use Rattle.std.specs.Prelude.{◌≡◌, ◌<◌, [], ◌∷◌, ◌++◌, All, is_some, IfOk, IfErr, IfSome, OnOk, OnErr, ◌≢◌};
 ghost use Rattle.std.specs.List.{slice_get};
-ghost use Rattle.std.specs.Option.{option_copied, option_map};
+ghost use Rattle.std.specs.Option.{option_map};
 ghost use Rattle.trace_command.specs.FileNames.{bytes_now};
 ghost use Rattle.trace_command.specs.Configs.{IsInRange};
 ghost use Rattle.tracer_specification.specs.History.{answer_to, past_of, IsLegal};
 ghost use Rattle.tracer_specification.specs.LateMemory.{TakesMemoryLate};
 ghost use Rattle.trace_command.specs.Refusals.{OrMemory, IsFoundEarly};
 ghost use Rattle.trace_command.specs.Requests.{request_of};
-ghost use Rattle.tracer_specification.specs.Settings.{declared_events, instance_names, is_there, now_of, ticks};
+ghost use Rattle.tracer_specification.specs.Settings.{instance_names, is_there, now_of, ticks};
 ghost use Rattle.trace_instance.specs.Instances.{InstanceStandsFor};
 ghost use Rattle.trace_command.specs.declared.refusal.Refusal.TheVariants as refusal;
 ghost use Rattle.trace_book.specs.private.BookCalls.{IsBookCall};
@@ -30,7 +30,7 @@ use std::alloc::Global;
 use std::marker::Model;
 use std::slice;
 use trace_command::{BorrowedEmission, Command, Config, Refusal, Reply};
-use trace_format::{EventDef, Pair, borrowed};
+use trace_format::{Pair, borrowed};
 use trace_instance::Instance;
 use tracer::{Tracer, let_go, single};
 
@@ -159,10 +159,8 @@ impl Book {
         ensures { IsBookCall self.old self.new (record { ticket = ticket; by = by; command = emission.now }) result }
     {
         let limit = self.live.config().history_limit;
-        let (event, cpu, pid, pairs) = emission.parts();
-        self.live.prepare_emission(limit, event, cpu, pid, pairs)?;
-        self.history
-            .write_emission_ahead(ticket, by, event, cpu, pid, pairs)?;
+        self.live.prepare_emission(limit, emission)?;
+        self.history.write_emission_ahead(ticket, by, emission)?;
         self.live.deliver();
         self.history.append_written();
         Ok(Reply::Done)
@@ -239,20 +237,6 @@ impl Book {
         ensures { result ≡ now_of (past_of self.now.entries) }
     {
         self.live.now()
-    }
-
-    /// The number of commands done.
-    pub fn history_len(&self) -> usize
-        ensures { result ≡ length self.now.entries }
-    {
-        self.history.len()
-    }
-
-    /// The event at this index, from 0, in order of declaration; `None` beyond the last one.
-    pub fn event(&self, index: usize) -> Option<&EventDef>
-        ensures { option_copied result ≡ slice_get (declared_events (past_of self.now.entries)) index }
-    {
-        self.live.event(index)
     }
 
     /// The name of the instance at this index, from 0, in order of creation, not counting the top one; `None` beyond the last one.

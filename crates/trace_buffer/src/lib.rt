@@ -14,17 +14,8 @@ mod merge;
 mod taken;
 mod times;
 
-ghost use Rattle.std.specs.Prelude.{◌≡◌};
-
 pub use buffer::Buffer;
 pub use taken::{Taken, count_each};
 
 /// How many CPUs a buffer may have.
 pub const CPUS: usize = 8;
-
-/// How many CPUs a buffer may have.
-pub fn most_cpus() -> u32
-    ensures { result ≡ 8 }
-{
-    CPUS as u32
-}

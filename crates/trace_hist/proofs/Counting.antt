@@ -244,30 +244,30 @@ still-place Nowhere size width table hit (new, full) =
 
 module _ (h : Inside) (now : Kept) (hit : Hit) (view : seen h ≡ now) (reserved : IsPlaceOf now.next now.size now.table.entries hit.key) where
   entries : List Entry
-  entries = entries_in h.entries.entries
+  entries = entries_in h.kept.entries.entries
 
   -- what was reserved is where the row is counted
-  pub reserved-place : IsPlaceOf (place_in (entries_in h.entries.entries) h.next) h.size (take h.shown (entries_in h.entries.entries))
+  pub reserved-place : IsPlaceOf (place_in (entries_in h.kept.entries.entries) h.next) h.kept.size (take h.kept.shown (entries_in h.kept.entries.entries))
       hit.key
   reserved-place = subst (λ (k : Kept). IsPlaceOf k.next k.size k.table.entries hit.key) (sym view) reserved
 
   pub reserved-at : (i : ℕ) → h.next ≡ nexts.At i
-      → (i < length h.entries.entries) × (slice_get (entry_keys (entries_in h.entries.entries)) i ≡ Some hit.key)
+      → (i < length h.kept.entries.entries) × (slice_get (entry_keys (entries_in h.kept.entries.entries)) i ≡ Some hit.key)
   unfolding entries
   reserved-at i is =
-      let place : IsPlaceOf (place_at (slice_get entries i)) h.size (take h.shown entries) hit.key =
-      subst (λ (n : Next). IsPlaceOf (place_in entries n) h.size (take h.shown entries) hit.key) is reserved-place in
-      let known = known-at entries i h.size (take h.shown entries) hit.key place in
-      let count = length-map h.entries.entries entry_in in
+      let place : IsPlaceOf (place_at (slice_get entries i)) h.kept.size (take h.kept.shown entries) hit.key =
+      subst (λ (n : Next). IsPlaceOf (place_in entries n) h.kept.size (take h.kept.shown entries) hit.key) is reserved-place in
+      let known = known-at entries i h.kept.size (take h.kept.shown entries) hit.key place in
+      let count = length-map h.kept.entries.entries entry_in in
       (omega (arith, known.0, count), known.1)
 
   -- it is counted in an entry
-  module _ (sound : IsSound h) (i more : ℕ) (is : h.next ≡ nexts.At i) (distinct : IsDistinct same_key (entry_keys (entries_in h.entries.entries)))
-      (below : i < h.shown → more ≡ h.shown) (above : h.shown ≤ i → more ≡ length h.entries.entries)
-      (left : List (Vec KeyCell × Tally)) (e : entries_in left ≡ counted_at hit.numbers i (entries_in h.entries.entries)) where
-    count : length entries ≡ length h.entries.entries
+  module _ (sound : IsSound h) (i more : ℕ) (is : h.next ≡ nexts.At i) (distinct : IsDistinct same_key (entry_keys (entries_in h.kept.entries.entries)))
+      (below : i < h.kept.shown → more ≡ h.kept.shown) (above : h.kept.shown ≤ i → more ≡ length h.kept.entries.entries)
+      (left : List (Vec KeyCell × Tally)) (e : entries_in left ≡ counted_at hit.numbers i (entries_in h.kept.entries.entries)) where
+    count : length entries ≡ length h.kept.entries.entries
     unfolding entries
-    count = length-map h.entries.entries entry_in
+    count = length-map h.kept.entries.entries entry_in
 
     count-left : length (entries_in left) ≡ length left
     count-left = length-map left entry_in
@@ -275,18 +275,18 @@ module _ (h : Inside) (now : Kept) (hit : Hit) (view : seen h ≡ now) (reserved
     inside : i < length entries
     inside = omega (arith, (reserved-at i is).0, count)
 
-    shown : h.shown ≤ length entries
+    shown : h.kept.shown ≤ length entries
     shown = omega (arith, sound.shown, count)
 
-    fits : length entries ≤ h.size
+    fits : length entries ≤ h.kept.size
     fits = omega (arith, sound.size, count)
 
-    all : h.shown ≤ i → more ≡ length entries
+    all : h.kept.shown ≤ i → more ≡ length entries
     all le = above le ∙ sym count
 
     pub seen-at : (let after : Kept = record {
-      size = h.size;
-      width = h.width;
+      size = h.kept.size;
+      width = h.kept.width;
       table = record { entries = take more (entries_in left); hits = h.hits + 1; dropped = h.dropped };
       next = place_in (entries_in left) h.next;
     } in after)
@@ -294,54 +294,54 @@ module _ (h : Inside) (now : Kept) (hit : Hit) (view : seen h ≡ now) (reserved
     unfolding entries
     seen-at =
         ap (λ (l : List Entry). let s : Kept = record {
-          size = h.size;
-          width = h.width;
+          size = h.kept.size;
+          width = h.kept.width;
           table = record { entries = take more l; hits = h.hits + 1; dropped = h.dropped };
           next = place_in l h.next;
         } in s) e
         ∙ ap (λ (p : Place). let s : Kept = record {
-          size = h.size;
-          width = h.width;
+          size = h.kept.size;
+          width = h.kept.width;
           table = record { entries = take more (counted_at hit.numbers i entries); hits = h.hits + 1; dropped = h.dropped };
           next = p;
         } in s) (place-counted hit.numbers i entries h.next)
-        ∙ ap (λ (t : Table). let s : Kept = record { size = h.size; width = h.width; table = t; next = place_in entries h.next } in s)
-        (table-at h.size h.width entries h.shown i more h.hits h.dropped hit distinct (reserved-at i is).1 inside shown fits sound.end below all)
+        ∙ ap (λ (t : Table). let s : Kept = record { size = h.kept.size; width = h.kept.width; table = t; next = place_in entries h.next } in s)
+        (table-at h.kept.size h.kept.width entries h.kept.shown i more h.hits h.dropped hit distinct (reserved-at i is).1 inside shown fits sound.end below all)
         ∙ ap (λ (s : Kept). after_hit s hit) view
 
     pub left-shown : more ≤ length left
     unfolding entries
     left-shown =
-        let le = shown-at h.size h.width entries h.shown i more h.hits h.dropped hit distinct (reserved-at i is).1 inside shown fits sound.end below all in
+        let le = shown-at h.kept.size h.kept.width entries h.kept.shown i more h.hits h.dropped hit distinct (reserved-at i is).1 inside shown fits sound.end below all in
         omega (arith, le, ap (λ (l : List Entry). length l) e, count-left)
 
-    pub left-size : length left ≤ h.size
+    pub left-size : length left ≤ h.kept.size
     unfolding entries
     left-size = omega (arith, fits, ap (λ (l : List Entry). length l) e, count-left, length-counted hit.numbers i entries)
 
-    pub left-end : IsEnd h.width (drop more (entries_in left))
+    pub left-end : IsEnd h.kept.width (drop more (entries_in left))
     unfolding entries
     left-end =
-        subst (λ (l : List Entry). IsEnd h.width (drop more l)) (sym e)
-        (end-at h.size h.width entries h.shown i more h.hits h.dropped hit distinct (reserved-at i is).1 inside shown fits sound.end below all)
+        subst (λ (l : List Entry). IsEnd h.kept.width (drop more l)) (sym e)
+        (end-at h.kept.size h.kept.width entries h.kept.shown i more h.hits h.dropped hit distinct (reserved-at i is).1 inside shown fits sound.end below all)
 
   -- it is counted in none
   pub seen-dropped : h.next ≡ nexts.Dropped
       → (let after : Kept = record {
-        size = h.size;
-        width = h.width;
-        table = record { entries = take h.shown (entries_in h.entries.entries); hits = h.hits; dropped = h.dropped + 1 };
-        next = place_in (entries_in h.entries.entries) h.next;
+        size = h.kept.size;
+        width = h.kept.width;
+        table = record { entries = take h.kept.shown (entries_in h.kept.entries.entries); hits = h.hits; dropped = h.dropped + 1 };
+        next = place_in (entries_in h.kept.entries.entries) h.next;
       } in after)
       ≡ after_hit now hit
   unfolding entries
   seen-dropped is =
-      let place = subst (λ (n : Next). IsPlaceOf (place_in entries n) h.size (take h.shown entries) hit.key) is reserved-place in
-      ap (λ (t : Table). let s : Kept = record { size = h.size; width = h.width; table = t; next = place_in entries h.next } in s)
-      (table-full h.size h.width (seen h).table hit place.0 place.1)
+      let place = subst (λ (n : Next). IsPlaceOf (place_in entries n) h.kept.size (take h.kept.shown entries) hit.key) is reserved-place in
+      ap (λ (t : Table). let s : Kept = record { size = h.kept.size; width = h.kept.width; table = t; next = place_in entries h.next } in s)
+      (table-full h.kept.size h.kept.width (seen h).table hit place.0 place.1)
       ∙ ap (λ (s : Kept). after_hit s hit) view
 
   pub not-unknown : h.next ≡ nexts.Unknown → ⊥
   not-unknown is =
-      subst (λ (n : Next). IsPlaceOf (place_in (entries_in h.entries.entries) n) h.size (take h.shown (entries_in h.entries.entries))
+      subst (λ (n : Next). IsPlaceOf (place_in (entries_in h.kept.entries.entries) n) h.kept.size (take h.kept.shown (entries_in h.kept.entries.entries))
       hit.key) is reserved-place

@@ -18,17 +18,17 @@ pub record Kept : Type 0 where
 
 abbrev pub seen : Inside → Kept
 seen c = record {
-  size = c.size;
-  width = c.width;
-  table = record { entries = take c.shown (entries_in c.entries.entries); hits = c.hits; dropped = c.dropped };
-  next = place_in (entries_in c.entries.entries) c.next;
+  size = c.kept.size;
+  width = c.kept.width;
+  table = record { entries = take c.kept.shown (entries_in c.kept.entries.entries); hits = c.hits; dropped = c.dropped };
+  next = place_in (entries_in c.kept.entries.entries) c.next;
 }
 
 pub record IsSound (c : Inside) : Type 0 where
-  pub shown : c.shown ≤ length c.entries.entries
-  pub size : length c.entries.entries ≤ c.size
-  pub end : IsEnd c.width (drop c.shown (entries_in c.entries.entries))
-  pub rows : AreCounted c.hits (entries_in c.entries.entries)
+  pub shown : c.kept.shown ≤ length c.kept.entries.entries
+  pub size : length c.kept.entries.entries ≤ c.kept.size
+  pub end : IsEnd c.kept.width (drop c.kept.shown (entries_in c.kept.entries.entries))
+  pub rows : AreCounted c.hits (entries_in c.kept.entries.entries)
 
 -- ---- the histogram
 

@@ -9,8 +9,7 @@ ghost use Rattle.trace_hist.specs.private.Steps.{after_hit, none_kept};
 
 use crate::sort::entries_in_order;
 use crate::totals::Totals;
-use hist_entries::{Entries, Hints, HistRow, Next, count_row, reserve, shown_with};
-use indexmap::IndexMap;
+use hist_entries::{EntryTable, HistRow, Next, count_row, shown_with};
 use std::alloc::{AllocError, Global};
 use std::marker::Model;
 use trace_format::Emission;
@@ -19,13 +18,7 @@ use trace_trigger::{HistSpec, SortRule};
 /// The entries and totals of a histogram.
 #[derive(Drop)]
 pub(crate) struct Counts {
-    // How many entries there may be, and how many sums each has.
-    size: usize,
-    width: usize,
-    // The entries in first-seen order. Those from `shown` on, at most one, are reserved.
-    entries: Entries,
-    shown: usize,
-    hints: Hints,
+    kept: EntryTable,
     // How many rows were counted into entries, and how many had none.
     hits: u64,
     dropped: u64,
@@ -50,11 +43,7 @@ impl Counts {
         ensures { result ≡ none_kept size width }
     {
         Counts {
-            size,
-            width,
-            entries: IndexMap::new(alloc),
-            shown: 0,
-            hints: Hints::new(alloc),
+            kept: EntryTable::new(alloc, size, width),
             hits: 0,
             dropped: 0,
             next: Next::Unknown,
@@ -77,17 +66,7 @@ impl Counts {
         ensures new { OnErr result (is_among (entry_keys self.old.table.entries) (hit_of by.now emission.now).key ≡ false) }
         ensures unreserved { OnErr result (self.old.next ≢ In (hit_of by.now emission.now).key) }
     {
-        let keys = by.keys();
-        self.next = reserve(
-            &mut self.entries,
-            &mut self.hints,
-            alloc,
-            self.shown,
-            self.size,
-            self.width,
-            keys,
-            emission,
-        )?;
+        self.next = self.kept.reserve(alloc, by.keys(), emission)?;
         Ok(())
     }
 
@@ -99,8 +78,8 @@ impl Counts {
     {
         match self.next {
             Next::At(index) => {
-                self.shown = shown_with(&self.entries, self.shown, index);
-                count_row(&mut self.entries, index, by.value_sources(), emission);
+                self.kept.shown = shown_with(&self.kept.entries, self.kept.shown, index);
+                count_row(&mut self.kept.entries, index, by.value_sources(), emission);
                 self.hits += 1;
             }
             Next::Dropped => self.dropped += 1,
@@ -112,8 +91,7 @@ impl Counts {
     pub(crate) fn clear(&mut self)
         ensures { self.new ≡ none_kept self.old.size self.old.width }
     {
-        self.entries.clear();
-        self.shown = 0;
+        self.kept.clear();
         self.hits = 0;
         self.dropped = 0;
         self.next = Next::Unknown;
@@ -127,7 +105,7 @@ impl Counts {
     {
         Totals {
             hits: self.hits,
-            entries: self.shown as u64,
+            entries: self.kept.shown as u64,
             dropped: self.dropped,
         }
     }
@@ -136,6 +114,6 @@ impl Counts {
     pub(crate) fn rows(&self, alloc: Global, rules: &[SortRule]) -> Result<Vec<HistRow>, AllocError>
         ensures { IfOk result (λ shown. map row_in shown.items ≡ printed rules.now self.now.table.entries) }
     {
-        entries_in_order(alloc, rules, &self.entries, self.shown)
+        entries_in_order(alloc, rules, &self.kept.entries, self.kept.shown)
     }
 }

@@ -104,25 +104,16 @@ impl Hist {
     }
 
     /// The same for a row that another trigger of this table reads: an entry for the key that the row has by that trigger.
-    pub fn reserve_hit_as(
-        &mut self,
-        by: &HistSpec,
-        row: &Row,
-        cpu: u32,
-        pid: i32,
-    ) -> Result<(), AllocError>
-        ensures reserved { OnOk result (IsReservedFor by.now
-            (record { values = row.now.values; cpu = cpu; pid = pid }) self.old self.new) }
+    pub fn reserve_hit_as(&mut self, by: &HistSpec, emission: &Emission) -> Result<(), AllocError>
+        ensures reserved { OnOk result (IsReservedFor by.now emission.now self.old self.new) }
         ensures err { OnErr result (self.new ≡ self.old) }
         // Memory is taken, and may be refused, only for a new entry.
-        ensures memory { OnErr result (NeedsEntryAs self.old by.now
-            (record { values = row.now.values; cpu = cpu; pid = pid })) }
+        ensures memory { OnErr result (NeedsEntryAs self.old by.now emission.now) }
     {
         if self.paused {
             return Ok(());
         }
-        self.counts
-            .reserve(self.alloc, by, &Emission { row, cpu, pid })
+        self.counts.reserve(self.alloc, by, emission)
     }
 
     /// Counts a row of the trigger's event, which was emitted on a CPU by a process, unless the trigger is paused. It doesn't look at the
@@ -141,17 +132,15 @@ impl Hist {
     }
 
     /// The same for a row that another trigger of this table reads: its key and numbers are those that the row has by that trigger.
-    pub fn hit_as(&mut self, by: &HistSpec, row: &Row, cpu: u32, pid: i32)
-        requires reserved { IsReservedAs self.old by.now
-            (record { values = row.now.values; cpu = cpu; pid = pid }) }
+    pub fn hit_as(&mut self, by: &HistSpec, emission: &Emission)
+        requires reserved { IsReservedAs self.old by.now emission.now }
         requires few { HasRoom self.old }
-        ensures { IsCountedFor by.now
-            (record { values = row.now.values; cpu = cpu; pid = pid }) self.old self.new }
+        ensures { IsCountedFor by.now emission.now self.old self.new }
     {
         if self.paused {
             return;
         }
-        self.counts.count(by, &Emission { row, cpu, pid });
+        self.counts.count(by, emission);
     }
 
     /// Stops counting: rows that come are passed over.

@@ -23,7 +23,7 @@ use Rattle.trace_command.specs.declared.refusal.Refusal.TheVariants as refusal
 use Rattle.tracer_specification.specs.History.{asked_answer, fitting_answer, hist_answer, new_hist_answer, remove_hist_answer, room_answer, said_answer, trigger_answer, trigger_count}
 use Rattle.tracer_specification.specs.HistTriggers.{HistTrigger, fits_that, has_same, hist_triggers, hists_of, hists_said, named_by}
 use Rattle.tracer_specification.specs.Triggers as triggers
-use Rattle.tracer_specification.specs.Triggers.{trigger_of}
+use Rattle.tracer_specification.specs.Triggers.{snapshot_trigger_of}
 use Rattle.tracer_specification.proofs.HistTriggers.{hist_triggers_are_in_order}
 use Rattle.tracer_specification.proofs.Members.{IsIn}
 use Rattle.tracer_specification.proofs.Triggered.{number-before}
@@ -34,8 +34,8 @@ use Rattle.trace_instance.specs.Instances.{TablesFit, kept_trigger}
 use Rattle.trace_instance.specs.KeptHists.{attached_as, kept_hists, says_same}
 use Rattle.trace_instance.specs.declared.attach.EventTriggers.{EventTriggers}
 use Rattle.trace_instance.specs.declared.hists.AttachedHist.{AttachedHist}
-use Rattle.trace_instance.specs.declared.change.TriggerChange.TheVariants.{Keep, Attach, Detach}
-use Rattle.trace_instance.specs.declared.trigger.Trigger.{Trigger}
+use Rattle.trace_instance.specs.declared.change.TriggerChange.TheVariants.{Keep, AttachSnapshot, DetachSnapshot}
+use Rattle.trace_instance.specs.declared.trigger.AttachedSnapshot.{AttachedSnapshot}
 use Rattle.trace_instance.specs.declared.write.WrittenText.{WrittenText}
 use Rattle.trace_instance.proofs.Attached.{IsNamed, all-are, all_left, hists-stay, own_left, snapshot-attached, snapshot-removed, snapshot-stays, tables-stay, text_request}
 use Rattle.tracer_specification.proofs.NamedTables.{fit-fewer}
@@ -47,9 +47,9 @@ use Rattle.trace_instance.proofs.Snapshotting.{refused, some-mapped, there-is}
 -- ---- what the requests say of what is kept
 
 has-snapshot : (name : Option (List ℕ)) (past : List Request) (event : Definition) (kept : EventTriggers) → AreKept name past event kept
-    → is_some (trigger_of name event past) ≡ is_some kept.own.now.triggers.snapshot
+    → is_some (snapshot_trigger_of name event past) ≡ is_some kept.own.now.triggers.snapshot
 has-snapshot name past event kept are =
-    sym (some-mapped (instances.kept_as past event) (trigger_of name event past)) ∙ ap is_some (sym are.snapshot)
+    sym (some-mapped (instances.kept_as past event) (snapshot_trigger_of name event past)) ∙ ap is_some (sym are.snapshot)
 
 pub has-same : (name : Option (List ℕ)) (past : List Request) (event : Definition) (kept : EventTriggers) (spec : SpecSeen) → AreKept name past event kept
     → has_same spec (hists_of name event past) ≡ list_any (says_same spec) kept.own.now.triggers.hists
@@ -73,9 +73,9 @@ many-left name past event kept true are =
 many-left name past event kept false are = refl
 
 pub count-left : (name : Option (List ℕ)) (past : List Request) (event : Definition) (kept : EventTriggers) (append : Bool) → AreKept name past event kept
-    → trigger_count (trigger_of name event past) (own_left name past event append) ≡ kept_count kept append
+    → trigger_count (snapshot_trigger_of name event past) (own_left name past event append) ≡ kept_count kept append
 count-left name past event kept append are =
-    by (trigger_of name event past) ∙ (λ i. many-left name past event kept append are i + (if has-snapshot name past event kept are i then 1 else 0))
+    by (snapshot_trigger_of name event past) ∙ (λ i. many-left name past event kept append are i + (if has-snapshot name past event kept are i then 1 else 0))
   where
     by : (o : Option triggers.Trigger) → trigger_count o (own_left name past event append)
         ≡ length (own_left name past event append) + (if is_some o then 1 else 0)
@@ -87,7 +87,7 @@ pub newest-left : (name : Option (List ℕ)) (past : List Request) (event : Defi
     → kept_count kept append < 4 → IsNewest (length past) (kept_trigger name past event) (if append then kept_hists name past event else [])
 newest-left name past event kept append are few = record {
   few = few_of append few;
-  after_snapshot = by (trigger_of name event past) refl;
+  after_snapshot = by (snapshot_trigger_of name event past) refl;
   after_hists = all append;
 }
   where
@@ -96,7 +96,7 @@ newest-left name past event kept append are few = record {
     few_of true few = rw (← are.snapshot, ← are.hists) few
     few_of false few = rw (← are.snapshot) few
 
-    by : (o : Option triggers.Trigger) → trigger_of name event past ≡ o → IfSome (option_map (instances.kept_as past event) o) (λ t. t.number < length past)
+    by : (o : Option triggers.Trigger) → snapshot_trigger_of name event past ≡ o → IfSome (option_map (instances.kept_as past event) o) (λ t. t.number < length past)
     by None is = tt
     by (Some t) is = number-before name event past t is
 
@@ -112,10 +112,10 @@ newest-left name past event kept append are few = record {
 pub answered : (name : Option (List ℕ)) (past : List Request) (event : Definition) (append : Bool) (text : List ℕ) (r : Result TriggerText TriggerFault)
     → said_of event text ≡ r
     → trigger_answer name past append text event
-    ≡ said_answer append (trigger_of name event past) (own_left name past event append) (all_left name past event append) r
+    ≡ said_answer append (snapshot_trigger_of name event past) (own_left name past event append) (all_left name past event append) r
 unfolding trigger_answer
 answered name past event append text r is =
-    ap (said_answer append (trigger_of name event past) (own_left name past event append) (all_left name past event append)) is
+    ap (said_answer append (snapshot_trigger_of name event past) (own_left name past event append) (all_left name past event append)) is
 
 pub done-late : (answer : Result Reply Refusal) → answer ≡ Ok Done → IsRefusal refusal.Memory answer
 done-late answer is = (λ other. absurd (other refl), λ early. absurd (rw is at early))
@@ -173,10 +173,10 @@ said-late : (append : Bool) (attached : Option triggers.Trigger) (hists all : Li
 said-late append attached hists all (Err fault.BadText) other early = other refl
 said-late append attached hists all (Err faulty) other early = absurd (cc)
 said-late append attached hists all (Ok said.Nothing) other early = absurd early
-said-late append None hists all (Ok (said.Attach spec)) other early = late-room None hists early
-said-late append (Some t) hists all (Ok (said.Attach spec)) other early = absurd (cc)
-said-late append None hists all (Ok said.Remove) other early = absurd (cc)
-said-late append (Some t) hists all (Ok said.Remove) other early = absurd early
+said-late append None hists all (Ok (said.AttachSnapshot spec)) other early = late-room None hists early
+said-late append (Some t) hists all (Ok (said.AttachSnapshot spec)) other early = absurd (cc)
+said-late append None hists all (Ok said.RemoveSnapshot) other early = absurd (cc)
+said-late append (Some t) hists all (Ok said.RemoveSnapshot) other early = absurd early
 said-late append attached hists all (Ok (said.Hist spec)) other early = late-hist attached hists all spec early
 said-late append attached hists all (Ok (said.RemoveHist spec)) other early = late-remove append hists spec early
 
@@ -196,7 +196,7 @@ pub text-refused : (event : Definition) (kept : EventTriggers) (written : Writte
     → IsChangeOf event kept written (Err (refusal_of_trigger faulty))
 unfolding trigger_answer
 text-refused event kept written faulty is told = λ name past number are.
-    said-refused written.append (trigger_of name event past) (own_left name past event written.append) (all_left name past event written.append)
+    said-refused written.append (snapshot_trigger_of name event past) (own_left name past event written.append) (all_left name past event written.append)
     (said_of event written.text.now) faulty is told
 
 -- ---- nothing
@@ -229,83 +229,83 @@ text-nothing event kept written is = λ name past number are. (
 -- ---- triggers for snapshots
 
 some-snapshot : (name : Option (List ℕ)) (past : List Request) (event : Definition) (kept : EventTriggers) → AreKept name past event kept
-    → is_some kept.own.now.triggers.snapshot ≡ true → (t : triggers.Trigger) × (trigger_of name event past ≡ Some t)
-some-snapshot name past event kept are some = there-is (trigger_of name event past) (has-snapshot name past event kept are ∙ some)
+    → is_some kept.own.now.triggers.snapshot ≡ true → (t : triggers.Trigger) × (snapshot_trigger_of name event past ≡ Some t)
+some-snapshot name past event kept are some = there-is (snapshot_trigger_of name event past) (has-snapshot name past event kept are ∙ some)
 
 no-snapshot : (name : Option (List ℕ)) (past : List Request) (event : Definition) (kept : EventTriggers) → AreKept name past event kept
-    → is_some kept.own.now.triggers.snapshot ≡ false → trigger_of name event past ≡ None
-no-snapshot name past event kept are none = none_is (trigger_of name event past) (has-snapshot name past event kept are ∙ none)
+    → is_some kept.own.now.triggers.snapshot ≡ false → snapshot_trigger_of name event past ≡ None
+no-snapshot name past event kept are none = none_is (snapshot_trigger_of name event past) (has-snapshot name past event kept are ∙ none)
 
 pub attach-exists : (trigger : SnapshotTrigger) (kept : EventTriggers) (written : WrittenText) → is_some kept.own.now.triggers.snapshot ≡ true
     → IsAttached trigger kept written (Err refusal.TriggerExists)
 attach-exists trigger kept written some = λ event name past number are is.
     let there = some-snapshot name past event kept are some in
     refused refusal.TriggerExists (trigger_answer name past written.append written.text.now event)
-    (answered name past event written.append written.text.now (Ok (said.Attach trigger)) is
-    ∙ ap (λ (o : Option triggers.Trigger). said_answer written.append o (own_left name past event written.append) (all_left name past event written.append) (Ok (said.Attach trigger))) there.1)
+    (answered name past event written.append written.text.now (Ok (said.AttachSnapshot trigger)) is
+    ∙ ap (λ (o : Option triggers.Trigger). said_answer written.append o (own_left name past event written.append) (all_left name past event written.append) (Ok (said.AttachSnapshot trigger))) there.1)
 
 attach-answer : (trigger : SnapshotTrigger) (kept : EventTriggers) (written : WrittenText) (event : Definition) (name : Option (List ℕ)) (past : List Request)
-    → AreKept name past event kept → is_some kept.own.now.triggers.snapshot ≡ false → said_of event written.text.now ≡ Ok (said.Attach trigger)
-    → trigger_answer name past written.append written.text.now event ≡ room_answer (trigger_of name event past) (own_left name past event written.append)
+    → AreKept name past event kept → is_some kept.own.now.triggers.snapshot ≡ false → said_of event written.text.now ≡ Ok (said.AttachSnapshot trigger)
+    → trigger_answer name past written.append written.text.now event ≡ room_answer (snapshot_trigger_of name event past) (own_left name past event written.append)
 attach-answer trigger kept written event name past are none is =
     let gone = no-snapshot name past event kept are none in
-    answered name past event written.append written.text.now (Ok (said.Attach trigger)) is
-    ∙ ap (λ (o : Option triggers.Trigger). said_answer written.append o (own_left name past event written.append) (all_left name past event written.append) (Ok (said.Attach trigger))) gone
+    answered name past event written.append written.text.now (Ok (said.AttachSnapshot trigger)) is
+    ∙ ap (λ (o : Option triggers.Trigger). said_answer written.append o (own_left name past event written.append) (all_left name past event written.append) (Ok (said.AttachSnapshot trigger))) gone
     ∙ ap (λ (o : Option triggers.Trigger). room_answer o (own_left name past event written.append)) (sym gone)
 
 pub attach-full : (trigger : SnapshotTrigger) (kept : EventTriggers) (written : WrittenText) → is_some kept.own.now.triggers.snapshot ≡ false
     → 4 ≤ kept_count kept written.append → IsAttached trigger kept written (Err refusal.TooMany)
 attach-full trigger kept written none many = λ event name past number are is.
-    let full : 4 ≤ trigger_count (trigger_of name event past) (own_left name past event written.append) =
+    let full : 4 ≤ trigger_count (snapshot_trigger_of name event past) (own_left name past event written.append) =
     omega (arith, many, count-left name past event kept written.append are) in
     refused refusal.TooMany (trigger_answer name past written.append written.text.now event)
     (attach-answer trigger kept written event name past are none is
-    ∙ room-full (trigger_of name event past) (own_left name past event written.append) full)
+    ∙ room-full (snapshot_trigger_of name event past) (own_left name past event written.append) full)
 
 pub attach-done : (trigger : SnapshotTrigger) (kept : EventTriggers) (written : WrittenText) → is_some kept.own.now.triggers.snapshot ≡ false
     → kept_count kept written.append < 4
-    → IsAttached trigger kept written (Ok (Attach (record { number = written.number; left = trigger.count; filter = trigger.filter })))
+    → IsAttached trigger kept written (Ok (AttachSnapshot (record { number = written.number; left = trigger.count; filter = trigger.filter })))
 attach-done trigger kept written none few = λ event name past number are is.
-    let room : trigger_count (trigger_of name event past) (own_left name past event written.append) < 4 =
+    let room : trigger_count (snapshot_trigger_of name event past) (own_left name past event written.append) < 4 =
     omega (arith, few, count-left name past event kept written.append are) in (
       attach-answer trigger kept written event name past are none is
-          ∙ room-had (trigger_of name event past) (own_left name past event written.append) room,
+          ∙ room-had (snapshot_trigger_of name event past) (own_left name past event written.append) room,
       record {
         snapshot = snapshot-attached name past event written.append written.text.now trigger is
-            ∙ ap (λ (n : ℕ). (let t : Option Trigger = Some (record { number = n; left = trigger.count; filter = trigger.filter }) in t)) number;
-        hists = hists-stay name past event are.id written.append written.text.now are.named (Ok (said.Attach trigger)) is refl;
+            ∙ ap (λ (n : ℕ). (let t : Option AttachedSnapshot = Some (record { number = n; left = trigger.count; filter = trigger.filter }) in t)) number;
+        hists = hists-stay name past event are.id written.append written.text.now are.named (Ok (said.AttachSnapshot trigger)) is refl;
         possible = (
           sym are.snapshot ∙ none_is kept.own.now.triggers.snapshot none,
           rw (← number) (newest-left name past event kept written.append are few),
         );
-        tables = λ table. tables-stay name past event are.id written.append written.text.now are.named (Ok (said.Attach trigger)) table is refl;
+        tables = λ table. tables-stay name past event are.id written.append written.text.now are.named (Ok (said.AttachSnapshot trigger)) table is refl;
         joined = tt;
-        fitting = fit-stays name past event are.id written.append written.text.now (Ok (said.Attach trigger)) are.named is refl;
+        fitting = fit-stays name past event are.id written.append written.text.now (Ok (said.AttachSnapshot trigger)) are.named is refl;
         spare = rw is refl;
       },
     )
 
-pub text-detaches : (event : Definition) (kept : EventTriggers) (written : WrittenText) → said_of event written.text.now ≡ Ok said.Remove
-    → is_some kept.own.now.triggers.snapshot ≡ true → IsChangeOf event kept written (Ok Detach)
+pub text-detaches : (event : Definition) (kept : EventTriggers) (written : WrittenText) → said_of event written.text.now ≡ Ok said.RemoveSnapshot
+    → is_some kept.own.now.triggers.snapshot ≡ true → IsChangeOf event kept written (Ok DetachSnapshot)
 text-detaches event kept written is some = λ name past number are.
     let there = some-snapshot name past event kept are some in (
-      answered name past event written.append written.text.now (Ok said.Remove) is
-          ∙ ap (λ (o : Option triggers.Trigger). said_answer written.append o (own_left name past event written.append) (all_left name past event written.append) (Ok said.Remove)) there.1,
+      answered name past event written.append written.text.now (Ok said.RemoveSnapshot) is
+          ∙ ap (λ (o : Option triggers.Trigger). said_answer written.append o (own_left name past event written.append) (all_left name past event written.append) (Ok said.RemoveSnapshot)) there.1,
       record {
         snapshot = snapshot-removed name past event written.append written.text.now is;
-        hists = hists-stay name past event are.id written.append written.text.now are.named (Ok said.Remove) is refl;
+        hists = hists-stay name past event are.id written.append written.text.now are.named (Ok said.RemoveSnapshot) is refl;
         possible = tt;
-        tables = λ table. tables-stay name past event are.id written.append written.text.now are.named (Ok said.Remove) table is refl;
+        tables = λ table. tables-stay name past event are.id written.append written.text.now are.named (Ok said.RemoveSnapshot) table is refl;
         joined = tt;
-        fitting = fit-stays name past event are.id written.append written.text.now (Ok said.Remove) are.named is refl;
+        fitting = fit-stays name past event are.id written.append written.text.now (Ok said.RemoveSnapshot) are.named is refl;
         spare = rw is refl;
       },
     )
 
-pub text-lacks : (event : Definition) (kept : EventTriggers) (written : WrittenText) → said_of event written.text.now ≡ Ok said.Remove
+pub text-lacks : (event : Definition) (kept : EventTriggers) (written : WrittenText) → said_of event written.text.now ≡ Ok said.RemoveSnapshot
     → is_some kept.own.now.triggers.snapshot ≡ false → IsChangeOf event kept written (Err refusal.NoSuchTrigger)
 text-lacks event kept written is none = λ name past number are.
     refused refusal.NoSuchTrigger (trigger_answer name past written.append written.text.now event)
-    (answered name past event written.append written.text.now (Ok said.Remove) is
-    ∙ ap (λ (o : Option triggers.Trigger). said_answer written.append o (own_left name past event written.append) (all_left name past event written.append) (Ok said.Remove))
+    (answered name past event written.append written.text.now (Ok said.RemoveSnapshot) is
+    ∙ ap (λ (o : Option triggers.Trigger). said_answer written.append o (own_left name past event written.append) (all_left name past event written.append) (Ok said.RemoveSnapshot))
     (no-snapshot name past event kept are none))

@@ -19,10 +19,10 @@ use Rattle.trace_command.specs.declared.file_name.EventFile.TheVariants as per_e
 use Rattle.tracer_specification.specs.HistTriggers.{HistTrigger, Written, asked_by, asked_in, asked_of, counted_by, empties, has_same, hist_triggers, hists_after, hists_of, hists_said, hits_of, is_paused, kept_by, left_by, new_hist, paused_after, says_same, speaks_of, written_to}
 use Rattle.tracer_specification.specs.Settings.{event_named}
 use Rattle.tracer_specification.specs.Triggers as triggers
-use Rattle.tracer_specification.specs.Triggers.{trigger_of, written_trigger}
+use Rattle.tracer_specification.specs.Triggers.{snapshot_trigger_of, written_trigger}
 use Rattle.tracer_specification.proofs.EventHists.{hists_of-after, own_after, own_said}
 use Rattle.tracer_specification.proofs.HistTriggers.{hist_triggers_differ, same-itself}
-use Rattle.tracer_specification.proofs.OwnFiles.{OwnWritten, as_written, own-declared, own_written, trigger_after, trigger_of-after}
+use Rattle.tracer_specification.proofs.OwnFiles.{OwnWritten, as_written, own-declared, own_written, trigger_after, snapshot_trigger_of-after}
 use Rattle.tracer_specification.proofs.TableSteps.{nothing-counted}
 use Rattle.tracer_specification.proofs.Triggered.{number-before, times_left-attached, times_left-same}
 use Rattle.trace_instance.specs.Changes.{IsAsked}
@@ -31,7 +31,7 @@ use Rattle.trace_instance.specs.Instances as instances
 use Rattle.trace_instance.specs.KeptHists as kept
 use Rattle.trace_instance.specs.KeptHists.{attached_as, kept_hists, without_same}
 use Rattle.trace_instance.specs.declared.hists.AttachedHist.{AttachedHist}
-use Rattle.trace_instance.specs.declared.trigger.Trigger.{Trigger}
+use Rattle.trace_instance.specs.declared.trigger.AttachedSnapshot.{AttachedSnapshot}
 use Rattle.trace_instance.proofs.Calm.{kept-as_left}
 use Rattle.trace_instance.proofs.Effects.{same_instance}
 use Rattle.trace_instance.proofs.OneSays.{one-speaks, or-none, speaks_for}
@@ -118,31 +118,31 @@ module _ (name : Option (List ℕ)) (past : List Request) (event : Definition) (
       rw (same_instance name, own) refl
 
   trigger-said : (r : Result TriggerText TriggerFault) → said_of event text ≡ r
-      → trigger_of name event (request ∷ past) ≡ unwrap_or (written_trigger (length past) r) (trigger_of name event past)
+      → snapshot_trigger_of name event (request ∷ past) ≡ unwrap_or (written_trigger (length past) r) (snapshot_trigger_of name event past)
   trigger-said r is =
-      trigger_of-after name event past request refl
-      ∙ ap (λ (o : Option OwnWritten). trigger_after event (length past) o (trigger_of name event past)) wrote
-      ∙ ap (λ (s : Result TriggerText TriggerFault). unwrap_or (written_trigger (length past) s) (trigger_of name event past)) is
+      snapshot_trigger_of-after name event past request refl
+      ∙ ap (λ (o : Option OwnWritten). trigger_after event (length past) o (snapshot_trigger_of name event past)) wrote
+      ∙ ap (λ (s : Result TriggerText TriggerFault). unwrap_or (written_trigger (length past) s) (snapshot_trigger_of name event past)) is
 
   -- the trigger for snapshots stays where the text sets none
   pub snapshot-stays : (r : Result TriggerText TriggerFault) → said_of event text ≡ r → written_trigger (length past) r ≡ None
       → kept_trigger name (request ∷ past) event ≡ kept_trigger name past event
   snapshot-stays r is none =
       ap (option_map (instances.kept_as (request ∷ past) event))
-      (trigger-said r is ∙ ap (λ (o : Option (Option triggers.Trigger)). unwrap_or o (trigger_of name event past)) none)
-      ∙ kept-as_left past request event (trigger_of name event past)
+      (trigger-said r is ∙ ap (λ (o : Option (Option triggers.Trigger)). unwrap_or o (snapshot_trigger_of name event past)) none)
+      ∙ kept-as_left past request event (snapshot_trigger_of name event past)
       (λ t there. times_left-same event t past request (number-before name event past t there) refl)
 
-  pub snapshot-attached : (spec : SnapshotTrigger) → said_of event text ≡ Ok (said.Attach spec)
+  pub snapshot-attached : (spec : SnapshotTrigger) → said_of event text ≡ Ok (said.AttachSnapshot spec)
       → kept_trigger name (request ∷ past) event ≡ Some (record { number = length past; left = spec.count; filter = spec.filter })
   snapshot-attached spec is =
       let attached : triggers.Trigger = record { number = length past; spec = spec } in
-      ap (option_map (instances.kept_as (request ∷ past) event)) (trigger-said (Ok (said.Attach spec)) is)
-      ∙ ap (λ (n : Option ℕ). (let t : Option Trigger = Some (record { number = length past; left = n; filter = spec.filter }) in t))
+      ap (option_map (instances.kept_as (request ∷ past) event)) (trigger-said (Ok (said.AttachSnapshot spec)) is)
+      ∙ ap (λ (n : Option ℕ). (let t : Option AttachedSnapshot = Some (record { number = length past; left = n; filter = spec.filter }) in t))
       (times_left-attached event attached past request refl)
 
-  pub snapshot-removed : said_of event text ≡ Ok said.Remove → kept_trigger name (request ∷ past) event ≡ None
-  snapshot-removed is = ap (option_map (instances.kept_as (request ∷ past) event)) (trigger-said (Ok said.Remove) is)
+  pub snapshot-removed : said_of event text ≡ Ok said.RemoveSnapshot → kept_trigger name (request ∷ past) event ≡ None
+  snapshot-removed is = ap (option_map (instances.kept_as (request ∷ past) event)) (trigger-said (Ok said.RemoveSnapshot) is)
 
   -- what is asked of a table is done to it
   pub asked-table : (asked : Option Action) (number : ℕ) → asked_by name number past request ≡ asked → IsAsked name past request asked number

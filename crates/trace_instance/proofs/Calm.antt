@@ -21,7 +21,7 @@ use Rattle.tracer_specification.specs.Rings.{other_rings, rings, rings_after, ri
 use Rattle.tracer_specification.specs.Settings.{declared_events, is_enabled, is_same, is_tracing, kept_filter, makes, overwrites, set_by, sets_filter, sets_overwrite, sets_tracing, switches}
 use Rattle.tracer_specification.specs.Snapshots.{exchanges, has_spare, sets_spare}
 use Rattle.tracer_specification.specs.Triggers as triggers
-use Rattle.tracer_specification.specs.Triggers.{sets_trigger, times_left, trigger_of}
+use Rattle.tracer_specification.specs.Triggers.{sets_trigger, times_left, snapshot_trigger_of}
 use Rattle.tracer_specification.proofs.EventLists.{map-agrees}
 use Rattle.tracer_specification.proofs.Sides.{rings-stay}
 use Rattle.tracer_specification.proofs.Triggered.{number-before, times_left-same}
@@ -31,7 +31,7 @@ use Rattle.trace_instance.specs.KeptHists.{kept_hists}
 use Rattle.trace_instance.specs.declared.hists.AttachedHist.{AttachedHist}
 use Rattle.trace_instance.specs.declared.change.InstanceChange.{InstanceChange}
 use Rattle.trace_instance.specs.declared.change.InstanceChange.TheVariants.{Keep}
-use Rattle.trace_instance.specs.declared.trigger.Trigger.{Trigger}
+use Rattle.trace_instance.specs.declared.trigger.AttachedSnapshot.{AttachedSnapshot}
 use Rattle.trace_instance.proofs.HistSteps.{KeepsHists, all-hists-calm, fitting-calm, unasked}
 
 -- an event for places outside of a list
@@ -47,7 +47,7 @@ pub record KeepsTrigger (name : Option (List ℕ)) (past : List Request) (reques
   pub quiet : emitted past request ≡ None
 
 pub trigger-stays : (name : Option (List ℕ)) (past : List Request) (request : Request) (event : Definition) → KeepsTrigger name past request event
-    → trigger_of name event (request ∷ past) ≡ trigger_of name event past
+    → snapshot_trigger_of name event (request ∷ past) ≡ snapshot_trigger_of name event past
 trigger-stays name past request event is = rw (is.alive, is.sets) refl
 
 pub kept-as_left : (past : List Request) (request : Request) (event : Definition) (trigger : Option triggers.Trigger)
@@ -60,7 +60,7 @@ pub kept-stays : (name : Option (List ℕ)) (past : List Request) (request : Req
     → kept_trigger name (request ∷ past) event ≡ kept_trigger name past event
 kept-stays name past request event is =
     ap (option_map (kept_as (request ∷ past) event)) (trigger-stays name past request event is)
-    ∙ kept-as_left past request event (trigger_of name event past)
+    ∙ kept-as_left past request event (snapshot_trigger_of name event past)
     (λ t there. times_left-same event t past request (number-before name event past t there) (rw is.quiet refl))
 
 -- ---- the spare that stays
@@ -86,13 +86,13 @@ same_families live lives spare spared rest rests one two three =
 -- the spare and what makes it needed are as they were
 pub spared-stays : (g : Config) (name : Option (List ℕ)) (past : List Request) (request : Request) → has_spare name (request ∷ past) ≡ has_spare name past
     → other_rings g name (request ∷ past) ≡ other_rings g name past
-    → ((j : ℕ) → j < length (declared_events past) → is_some (trigger_of name (get_or (declared_events past) j no_event) (request ∷ past)) ≡ true
-    → is_some (trigger_of name (get_or (declared_events past) j no_event) past) ≡ true)
+    → ((j : ℕ) → j < length (declared_events past) → is_some (snapshot_trigger_of name (get_or (declared_events past) j no_event) (request ∷ past)) ≡ true
+    → is_some (snapshot_trigger_of name (get_or (declared_events past) j no_event) past) ≡ true)
     → IsSpared g name (declared_events past) past → IsSpared g name (declared_events past) (request ∷ past)
 spared-stays g name past request spare rings each spared = record {
   unused = λ none. rings ∙ spared.unused (sym spare ∙ none);
   armed = λ some. spare
-      ∙ spared.armed (any-passes (λ (e : Definition). is_some (trigger_of name e (request ∷ past))) (λ (e : Definition). is_some (trigger_of name e past))
+      ∙ spared.armed (any-passes (λ (e : Definition). is_some (snapshot_trigger_of name e (request ∷ past))) (λ (e : Definition). is_some (snapshot_trigger_of name e past))
       (declared_events past) no_event each some);
 }
 
@@ -111,7 +111,7 @@ pub record IsCalm (name : Option (List ℕ)) (past : List Request) (request : Re
 
 -- such a change
 pub record IsQuiet (change : InstanceChange) : Type 0 where
-  pub triggers : (old : List (Option Trigger)) → triggers_after change old ≡ old
+  pub triggers : (old : List (Option AttachedSnapshot)) → triggers_after change old ≡ old
   pub hists : (old : List (List AttachedHist)) → hists_after change old ≡ old
   pub asks : (table : ℕ) → asks change table ≡ None
   pub joined : (name : Option (List ℕ)) (past : List Request) → IsJoined name past change

@@ -22,7 +22,7 @@ use Rattle.tracer_specification.specs.Rings.{other_rings, rings, spare_rings, wi
 use Rattle.tracer_specification.specs.Settings.{declared_events, overwrites}
 use Rattle.tracer_specification.specs.Snapshots.{has_spare, is_exchanged_by}
 use Rattle.tracer_specification.specs.Triggers as triggers
-use Rattle.tracer_specification.specs.Triggers.{is_left, met_by, passes, times_left, trigger_of}
+use Rattle.tracer_specification.specs.Triggers.{is_left, met_by, passes, times_left, snapshot_trigger_of}
 use Rattle.tracer_specification.proofs.EventLists.{map-set, one_index}
 use Rattle.tracer_specification.proofs.Sides.{rings-exchanged, rings-stay}
 use Rattle.tracer_specification.proofs.Triggered.{number-before, times_left-less, times_left-same}
@@ -38,7 +38,7 @@ use Rattle.trace_instance.proofs.KeptLists.{AllOfEach}
 use Rattle.trace_instance.proofs.TableStands.{table-hit}
 use Rattle.trace_instance.specs.declared.change.Delivery.{Delivery}
 use Rattle.trace_instance.specs.declared.change.Reach.{Reach}
-use Rattle.trace_instance.specs.declared.trigger.Trigger.{Trigger}
+use Rattle.trace_instance.specs.declared.trigger.AttachedSnapshot.{AttachedSnapshot}
 
 -- ---- triggers
 
@@ -77,7 +77,7 @@ kept-at kept_of past kept none ename index event are indexed =
     rw are (get_or-map kept_of (declared_events past) index event none indexed.inside ∙ ap kept_of (sym indexed.there))
 
 -- its trigger
-pub trigger-at : (name : Option (List ℕ)) (past : List Request) (kept : List (Option Trigger)) (ename : List ℕ) (index : ℕ) (event : Definition)
+pub trigger-at : (name : Option (List ℕ)) (past : List Request) (kept : List (Option AttachedSnapshot)) (ename : List ℕ) (index : ℕ) (event : Definition)
     → kept ≡ map (kept_trigger name past) (declared_events past) → IsIndexOf (declared_events past) ename index event
     → get_or kept index None ≡ kept_trigger name past event
 trigger-at name past kept ename index event are indexed = kept-at (kept_trigger name past) past kept None ename index event are indexed
@@ -93,8 +93,8 @@ some-trigger name past e (Some t) acts = refl
 pub spare-there : (g : Config) (name : Option (List ℕ)) (past : List Request) (e : Emitted) (index : ℕ) → IsSpared g name (declared_events past) past
     → IsIndexOf (declared_events past) e.k.event.name index e.k.event → is_exchanged_by name past (Some e) ≡ true → has_spare name past ≡ true
 spare-there g name past e index spared indexed acting =
-    let test : Definition → Bool = λ event. is_some (trigger_of name event past) in
-    let some = some-trigger name past e (trigger_of name e.k.event past) acting in
+    let test : Definition → Bool = λ event. is_some (snapshot_trigger_of name event past) in
+    let some = some-trigger name past e (snapshot_trigger_of name e.k.event past) acting in
     spared.armed (list_any_at test (declared_events past) index e.k.event indexed.inside (ap test (sym indexed.there) ∙ some))
 
 -- an instance whose sides are to be exchanged has a spare
@@ -129,32 +129,32 @@ module _ (name : Option (List ℕ)) (past : List Request) (ename : List ℕ) (cp
   -- it does not meet the trigger of another event
   other-kept : (event : Definition) → bytes_eq event.name e.k.event.name ≡ false → kept_trigger name (request ∷ past) event ≡ kept_trigger name past event
   other-kept event differ =
-      kept-as_left past request event (trigger_of name event past) (λ t there.
+      kept-as_left past request event (snapshot_trigger_of name event past) (λ t there.
       let none : met_by event t.spec.filter (emitted past request) ≡ [] = rw (is, differ) refl in
       times_left-same event t past request (number-before name event past t there) none)
 
   -- nor does that of its own event change which it does not make act
   idle-kept : is_exchanged_by name past (Some e) ≡ false → kept_trigger name (request ∷ past) e.k.event ≡ kept_trigger name past e.k.event
   idle-kept idle =
-      kept-as_left past request e.k.event (trigger_of name e.k.event past) (λ t there.
+      kept-as_left past request e.k.event (snapshot_trigger_of name e.k.event past) (λ t there.
       let no : (is_left (times_left e.k.event t past) && passes t.spec.filter e) ≡ false = rw there at idle in
       idle-left past request e t (times_left e.k.event t past) (passes t.spec.filter e) is (number-before name e.k.event past t there) refl refl no)
 
   -- and one that it makes act is left with one time less
   acting-kept : is_exchanged_by name past (Some e) ≡ true → kept_trigger name (request ∷ past) e.k.event ≡ counted_down (kept_trigger name past e.k.event)
-  acting-kept acting = by (trigger_of name e.k.event past) refl acting
+  acting-kept acting = by (snapshot_trigger_of name e.k.event past) refl acting
     where
-      by : (o : Option triggers.Trigger) → trigger_of name e.k.event past ≡ o → triggers.acts past e o ≡ true
+      by : (o : Option triggers.Trigger) → snapshot_trigger_of name e.k.event past ≡ o → triggers.acts past e o ≡ true
           → option_map (kept_as (request ∷ past) e.k.event) o ≡ counted_down (option_map (kept_as past e.k.event) o)
       by None there acts = refl
       by (Some t) there acts =
           let holds = (and_parts (is_left (times_left e.k.event t past)) (passes t.spec.filter e) acts).1 in
           let one : met_by e.k.event t.spec.filter (emitted past request) ≡ e ∷ [] = rw (is, self e.k.event.name, holds) refl in
-          ap (λ (left : Option ℕ). Some (let kept : Trigger = record { number = t.number; left = left; filter = t.spec.filter } in kept))
+          ap (λ (left : Option ℕ). Some (let kept : AttachedSnapshot = record { number = t.number; left = left; filter = t.spec.filter } in kept))
           (times_left-less e.k.event t past request e (number-before name e.k.event past t there) one)
 
   -- the triggers, by whether it makes its event's act
-  triggers-after : (index : ℕ) (kept : List (Option Trigger)) (fires : Bool) → AreEvents [] (declared_events past)
+  triggers-after : (index : ℕ) (kept : List (Option AttachedSnapshot)) (fires : Bool) → AreEvents [] (declared_events past)
       → IsIndexOf (declared_events past) e.k.event.name index e.k.event → kept ≡ map (kept_trigger name past) (declared_events past)
       → is_exchanged_by name past (Some e) ≡ fires
       → (if fires then set kept index (counted_down (get_or kept index None)) else kept) ≡ map (kept_trigger name (request ∷ past)) (declared_events past)
@@ -162,14 +162,14 @@ module _ (name : Option (List ℕ)) (past : List Request) (ename : List ℕ) (cp
       let events = declared_events past in
       let here = trigger-at name past kept e.k.event.name index e.k.event stood indexed in
       at_place fires
-      ∙ ap (λ (t : Option Trigger). set kept index (if fires then counted_down t else t)) here
-      ∙ ap (λ (l : List (Option Trigger)). set l index own) stood
+      ∙ ap (λ (t : Option AttachedSnapshot). set kept index (if fires then counted_down t else t)) here
+      ∙ ap (λ (l : List (Option AttachedSnapshot)). set l index own) stood
       ∙ sym (map-set (kept_trigger name past) (kept_trigger name (request ∷ past)) own events index e.k.event indexed.inside
       (ap (kept_trigger name (request ∷ past)) (sym indexed.there) ∙ own-kept fires acts)
       (λ j inside other. other-kept (get_or events j e.k.event)
       (differs-at events index j e.k.event e.k.event are indexed.inside indexed.there inside other)))
     where
-      own : Option Trigger
+      own : Option AttachedSnapshot
       own = if fires then counted_down (kept_trigger name past e.k.event) else kept_trigger name past e.k.event
 
       own-kept : (f : Bool) → is_exchanged_by name past (Some e) ≡ f → kept_trigger name (request ∷ past) e.k.event

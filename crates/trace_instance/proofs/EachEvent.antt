@@ -15,7 +15,7 @@ use Rattle.trace_instance.specs.declared.change.FilterChange.{FilterChange}
 use Rattle.trace_instance.specs.declared.event.InstanceEvent.{InstanceEvent}
 use Rattle.trace_instance.specs.declared.instance.Instance.TheInside.{Inside}
 use Rattle.trace_instance.specs.declared.tables.Table.{Table}
-use Rattle.trace_instance.specs.declared.trigger.Trigger.{Trigger}
+use Rattle.trace_instance.specs.declared.trigger.AttachedSnapshot.{AttachedSnapshot}
 
 -- an instance with these events
 abbrev pub seen : List InstanceEvent → List Table → Bool → Bool → SidesSeen → InstanceSeen
@@ -66,11 +66,11 @@ pub counted : (value : InstanceSeen) (old : Inside) (at : ℕ) (one : InstanceEv
     ≡ set (all_triggers old.events.items) at (counted_down (get_or (all_triggers old.events.items) at None))
 counted value old at one new view within is after =
     let events = old.events.items in
-    let snapshot : InstanceEvent → Option Trigger = λ e. e.triggers.snapshot in
+    let snapshot : InstanceEvent → Option AttachedSnapshot = λ e. e.triggers.snapshot in
     let many = ap (λ (v : InstanceSeen). length v.triggers) view in
     let inside : at < length events = omega (arith, many, within, length-map events snapshot) in
     map-set snapshot events at (record one { triggers = new }) ∙ ap (set (all_triggers events) at) after
-    ∙ ap (λ (t : Option Trigger). set (all_triggers events) at (counted_down t)) (read snapshot events at one None is inside)
+    ∙ ap (λ (t : Option AttachedSnapshot). set (all_triggers events) at (counted_down t)) (read snapshot events at one None is inside)
 
 -- ---- each event
 

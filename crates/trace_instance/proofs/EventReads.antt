@@ -21,7 +21,7 @@ use Rattle.trace_trigger.specs.HistSpecs.{SpecSeen}
 use Rattle.tracer_specification.specs.FileTexts.{filter_text, format_of_event, hists_of_event, in_order as in_order_said, shown_hist, shown_trigger, triggers_of_event}
 use Rattle.tracer_specification.specs.HistTriggers.{HistTrigger, hists_of, hits_of}
 use Rattle.tracer_specification.specs.Triggers as history
-use Rattle.tracer_specification.specs.Triggers.{trigger_of}
+use Rattle.tracer_specification.specs.Triggers.{snapshot_trigger_of}
 use Rattle.tracer_specification.specs.Settings.{declared_events, event_named, filter_of, is_enabled, kept_filter}
 use Rattle.record_text.specs.FormatText.{format_text}
 use Rattle.trace_instance.specs.FileAnswers.{IsSource}
@@ -34,7 +34,7 @@ use Rattle.trace_instance.specs.declared.hists.AttachedHist.{AttachedHist}
 use Rattle.trace_instance.specs.declared.read.FileSource.{FileSource}
 use Rattle.trace_instance.specs.declared.tables.Table.{Table}
 use Rattle.trace_instance.specs.declared.trigger.EventTrigger.TheVariants.{Snapshot, Hist}
-use Rattle.trace_instance.specs.declared.trigger.Trigger.{Trigger}
+use Rattle.trace_instance.specs.declared.trigger.AttachedSnapshot.{AttachedSnapshot}
 use Rattle.trace_instance.proofs.Calm.{no_event}
 
 -- the name of the event at an index
@@ -162,10 +162,10 @@ module _ (g : Config) (name : Option (List ℕ)) (past : List Request) (source :
       let tables = source.instance.now.tables in
       let found = named_at (declared_events past) event no_event is.distinct declared in
       let kept : get_or source.instance.now.triggers event None ≡ kept_trigger name past at_place =
-      ap (λ (ts : List (Option Trigger)). get_or ts event None) is.instance.triggers
+      ap (λ (ts : List (Option AttachedSnapshot)). get_or ts event None) is.instance.triggers
       ∙ get_or-map (kept_trigger name past) (declared_events past) event no_event None declared in
       (λ i. trigger_text (map (shown_of tables) (in_order (kept i) (kept-at_place i))))
-      ∙ ap trigger_text (shown-in_order name past tables at_place (trigger_of name at_place past) (hists_of name at_place past) (tables-at_place there))
+      ∙ ap trigger_text (shown-in_order name past tables at_place (snapshot_trigger_of name at_place past) (hists_of name at_place past) (tables-at_place there))
       ∙ sym (ap (λ (n : List ℕ). triggers_of_event name past (event_named n past)) (sym called) ∙ ap (triggers_of_event name past) found)
 
   -- and its histograms

@@ -16,7 +16,7 @@ use Rattle.trace_command.specs.declared.refusal.Refusal.TheVariants as refusal
 use Rattle.tracer_specification.specs.History.{asked_answer, fitting_answer, new_hist_answer, remove_hist_answer, room_answer, trigger_answer, trigger_count}
 use Rattle.tracer_specification.specs.HistTriggers.{HistTrigger, fits_that, has_same, hist_triggers, hists_said, is_of, named_by, says_same as says_same_as, those_of}
 use Rattle.tracer_specification.specs.Triggers as triggers
-use Rattle.tracer_specification.specs.Triggers.{trigger_of}
+use Rattle.tracer_specification.specs.Triggers.{snapshot_trigger_of}
 use Rattle.tracer_specification.proofs.EventHists.{own-left}
 use Rattle.tracer_specification.proofs.Members.{IsIn, in-filter}
 use Rattle.trace_instance.specs.private.Attaching.{AreKept, IsAsked, IsRemovedHist, asked_change, attaches, kept_count, same_left}
@@ -43,12 +43,12 @@ ask-answer : (spec : SpecSeen) (kept : EventTriggers) (written : WrittenText) (s
     → said_of event written.text.now ≡ Ok (said.Hist spec)
     → trigger_answer name past written.append written.text.now event
     ≡ (if same then asked_answer spec.action
-    else new_hist_answer (trigger_of name event past) (own_left name past event written.append) (fits_named name past event written.append spec) spec.action)
+    else new_hist_answer (snapshot_trigger_of name event past) (own_left name past event written.append) (fits_named name past event written.append spec) spec.action)
 ask-answer spec kept written same event name past at are is =
     answered name past event written.append written.text.now (Ok (said.Hist spec)) is
     ∙ ap
     (λ (b : Bool). if b then asked_answer spec.action
-    else new_hist_answer (trigger_of name event past) (own_left name past event written.append) (fits_named name past event written.append spec) spec.action)
+    else new_hist_answer (snapshot_trigger_of name event past) (own_left name past event written.append) (fits_named name past event written.append spec) spec.action)
     (has-same_left name past event kept spec written.append are ∙ at)
 
 ask-refused : (spec : SpecSeen) (kept : EventTriggers) (written : WrittenText) → is_some (same_left spec kept written.append) ≡ true
@@ -122,25 +122,25 @@ pub ask-lacks : (spec : SpecSeen) (kept : EventTriggers) (written : WrittenText)
 ask-lacks spec kept written none lacking = λ event name past number are is.
     refused refusal.NoSuchTrigger (trigger_answer name past written.append written.text.now event)
     (ask-answer spec kept written false event name past (ap is_some none) are is
-    ∙ new-lacks (trigger_of name event past) (own_left name past event written.append) (fits_named name past event written.append spec) spec.action lacking)
+    ∙ new-lacks (snapshot_trigger_of name event past) (own_left name past event written.append) (fits_named name past event written.append spec) spec.action lacking)
 
 room-answer : (spec : SpecSeen) (kept : EventTriggers) (written : WrittenText) (event : Definition) (name : Option (List ℕ)) (past : List Request)
     → same_left spec kept written.append ≡ None → attaches spec.action ≡ true → AreKept name past event kept
     → said_of event written.text.now ≡ Ok (said.Hist spec)
     → trigger_answer name past written.append written.text.now event
-    ≡ fitting_answer (fits_named name past event written.append spec) (room_answer (trigger_of name event past) (own_left name past event written.append))
+    ≡ fitting_answer (fits_named name past event written.append spec) (room_answer (snapshot_trigger_of name event past) (own_left name past event written.append))
 room-answer spec kept written event name past none attaching are is =
     ask-answer spec kept written false event name past (ap is_some none) are is
-    ∙ new-attaches (trigger_of name event past) (own_left name past event written.append) (fits_named name past event written.append spec) spec.action attaching
+    ∙ new-attaches (snapshot_trigger_of name event past) (own_left name past event written.append) (fits_named name past event written.append spec) spec.action attaching
 
 pub ask-full : (spec : SpecSeen) (kept : EventTriggers) (written : WrittenText) → same_left spec kept written.append ≡ None
     → attaches spec.action ≡ true → 4 ≤ kept_count kept written.append → IsAsked spec kept written (Err refusal.TooMany)
 ask-full spec kept written none attaching many = λ event name past number are is.
-    let full : 4 ≤ trigger_count (trigger_of name event past) (own_left name past event written.append) =
+    let full : 4 ≤ trigger_count (snapshot_trigger_of name event past) (own_left name past event written.append) =
     omega (arith, many, count-left name past event kept written.append are) in
     refused refusal.TooMany (trigger_answer name past written.append written.text.now event)
     (room-answer spec kept written event name past none attaching are is
-    ∙ ap (fitting_answer (fits_named name past event written.append spec)) (room-full (trigger_of name event past) (own_left name past event written.append) full))
+    ∙ ap (fitting_answer (fits_named name past event written.append spec)) (room-full (snapshot_trigger_of name event past) (own_left name past event written.append) full))
 
 -- there is room, and it is asked whether the text fits the table that it names
 pub fit-answer : (spec : SpecSeen) (kept : EventTriggers) (written : WrittenText) (event : Definition) (name : Option (List ℕ)) (past : List Request)
@@ -148,10 +148,10 @@ pub fit-answer : (spec : SpecSeen) (kept : EventTriggers) (written : WrittenText
     → said_of event written.text.now ≡ Ok (said.Hist spec)
     → trigger_answer name past written.append written.text.now event ≡ fitting_answer (fits_named name past event written.append spec) (Ok Done)
 fit-answer spec kept written event name past none attaching few are is =
-    let room : trigger_count (trigger_of name event past) (own_left name past event written.append) < 4 =
+    let room : trigger_count (snapshot_trigger_of name event past) (own_left name past event written.append) < 4 =
     omega (arith, few, count-left name past event kept written.append are) in
     room-answer spec kept written event name past none attaching are is
-    ∙ ap (fitting_answer (fits_named name past event written.append spec)) (room-had (trigger_of name event past) (own_left name past event written.append) room)
+    ∙ ap (fitting_answer (fits_named name past event written.append spec)) (room-had (snapshot_trigger_of name event past) (own_left name past event written.append) room)
 
 -- ---- removals
 

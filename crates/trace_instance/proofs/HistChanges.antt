@@ -18,12 +18,12 @@ use Rattle.trace_instance.specs.TriggerLists.{TriggersSeen}
 use Rattle.trace_instance.specs.declared.change.Delivery.{Delivery}
 use Rattle.trace_instance.specs.declared.change.InstanceChange.TheVariants.{Triggers}
 use Rattle.trace_instance.specs.declared.change.TriggerChange.{TriggerChange}
-use Rattle.trace_instance.specs.declared.change.TriggerChange.TheVariants.{Attach, Detach}
+use Rattle.trace_instance.specs.declared.change.TriggerChange.TheVariants.{AttachSnapshot, DetachSnapshot}
 use Rattle.trace_instance.specs.declared.event.InstanceEvent.{InstanceEvent}
 use Rattle.trace_instance.specs.declared.hists.AttachedHist.{AttachedHist}
 use Rattle.trace_instance.specs.declared.instance.Instance.TheInside.{Inside}
 use Rattle.trace_instance.specs.declared.tables.Table.{Table}
-use Rattle.trace_instance.specs.declared.trigger.Trigger.{Trigger}
+use Rattle.trace_instance.specs.declared.trigger.AttachedSnapshot.{AttachedSnapshot}
 use Rattle.trace_instance.proofs.EachEvent.{hists_in, read, seen, still, view_of}
 use Rattle.trace_instance.proofs.LiveSide.{armed_offered, armed_shaped}
 use Rattle.trace_instance.proofs.Lookups.{kept-still, none-kept}
@@ -76,9 +76,9 @@ same_sides at append change s same = record {
   offered = λ most all. all;
 }
 
-pub armed_sides : (at : ℕ) (append : Bool) (trigger : Trigger) (old new : SidesSeen) → new.live ≡ old.live
+pub armed_sides : (at : ℕ) (append : Bool) (trigger : AttachedSnapshot) (old new : SidesSeen) → new.live ≡ old.live
     → ((side : buffers.Seen) → new.spare ≡ Some side → IsSpareOf old old.spare side)
-    → ((f : SideFamilies) → StandsFor old f → StandsFor new (with_spare old.cpus f)) → HasShapeOf old new → AreSidesOf at append (Attach trigger) old new
+    → ((f : SideFamilies) → StandsFor old f → StandsFor new (with_spare old.cpus f)) → HasShapeOf old new → AreSidesOf at append (AttachSnapshot trigger) old new
 armed_sides at append trigger old new live spare stands shape = record {
   stands = stands;
   shaped = λ g is. armed_shaped g old new live spare shape is;
@@ -95,13 +95,13 @@ triggers-changed : (events : List InstanceEvent) (at : ℕ) (append : Bool) (cha
     → all_triggers (set events at (record one { triggers = new })) ≡ triggers_after (Triggers at append change) (all_triggers events)
 triggers-changed events at append change one new is = by change
   where
-    snapshots : (o : Option Trigger) → new.snapshot ≡ o → all_triggers (set events at (record one { triggers = new })) ≡ set (all_triggers events) at o
+    snapshots : (o : Option AttachedSnapshot) → new.snapshot ≡ o → all_triggers (set events at (record one { triggers = new })) ≡ set (all_triggers events) at o
     snapshots o same = map-set (λ (e : InstanceEvent). e.triggers.snapshot) events at (record one { triggers = new }) ∙ ap (set (all_triggers events) at) same
 
     by : (c : TriggerChange) → new.snapshot ≡ trigger_changed c one.triggers.snapshot
         → all_triggers (set events at (record one { triggers = new })) ≡ triggers_after (Triggers at append c) (all_triggers events)
-    by (Attach trigger) same = snapshots (Some trigger) same
-    by Detach same = snapshots None same
+    by (AttachSnapshot trigger) same = snapshots (Some trigger) same
+    by DetachSnapshot same = snapshots None same
     by c same = still (λ (e : InstanceEvent). e.triggers.snapshot) events at one (record one { triggers = new }) is same
 
 -- its hist triggers that a text leaves

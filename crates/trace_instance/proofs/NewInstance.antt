@@ -14,7 +14,7 @@ use Rattle.trace_command.specs.declared.command.Config.{Config}
 use Rattle.tracer_specification.specs.HistTriggers.{HistTrigger, hist_triggers}
 use Rattle.tracer_specification.specs.Rings.{spare_rings}
 use Rattle.tracer_specification.specs.Settings.{declared_events, is_enabled, kept_filter}
-use Rattle.tracer_specification.specs.Triggers.{trigger_of}
+use Rattle.tracer_specification.specs.Triggers.{snapshot_trigger_of}
 use Rattle.tracer_specification.proofs.EventLists.{map-constant}
 use Rattle.tracer_specification.proofs.Sides.{AreMade, rings-made}
 use Rattle.trace_snapshot.specs.Sides.{IsNewSide, SpareStandsFor}
@@ -128,5 +128,5 @@ made-stands g past name i new = record {
     made : AreMade g (Some name) past (MakeInstance (Some name))
     made = rings-made g (Some name) past (MakeInstance (Some name)) itself
 
-    untriggered : (all : List Definition) → list_any (λ (event : Definition). is_some (trigger_of (Some name) event now)) all ≡ false
-    untriggered all = list_any_none (λ (event : Definition). is_some (trigger_of (Some name) event now)) all (λ k event inside. rw itself refl)
+    untriggered : (all : List Definition) → list_any (λ (event : Definition). is_some (snapshot_trigger_of (Some name) event now)) all ≡ false
+    untriggered all = list_any_none (λ (event : Definition). is_some (snapshot_trigger_of (Some name) event now)) all (λ k event inside. rw itself refl)

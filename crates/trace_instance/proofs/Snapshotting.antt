@@ -22,14 +22,14 @@ use Rattle.tracer_specification.specs.History.{snapshot_answer, spare_answer}
 use Rattle.tracer_specification.specs.Rings.{other_rings, rings, rings_after, rings_after_write, spare_after, spare_rings}
 use Rattle.tracer_specification.specs.Settings.{declared_events, filter_of, is_enabled, is_tracing, kept_filter, overwrites}
 use Rattle.tracer_specification.specs.Snapshots.{Empties, Frees, Takes, exchanges, has_spare, live_side, snapshot_write, written_snapshot}
-use Rattle.tracer_specification.specs.Triggers.{has_trigger, trigger_of}
+use Rattle.tracer_specification.specs.Triggers.{has_snapshot_trigger, snapshot_trigger_of}
 use Rattle.tracer_specification.proofs.EventLists.{map-agrees}
 use Rattle.tracer_specification.proofs.Sides.{rings-exchanged, rings-stay, side-has_all_cpus}
 use Rattle.trace_instance.specs.Changes.{IsEffect}
 use Rattle.trace_instance.specs.FileAnswers.{IsWriteChange}
 use Rattle.trace_instance.specs.Instances.{InstanceSeen, InstanceStandsFor, IsSpared, kept_as, kept_trigger}
 use Rattle.trace_instance.specs.declared.change.InstanceChange.TheVariants.{ClearSpare, FreeSpare, TakeSnapshot}
-use Rattle.trace_instance.specs.declared.trigger.Trigger.{Trigger}
+use Rattle.trace_instance.specs.declared.trigger.AttachedSnapshot.{AttachedSnapshot}
 use Rattle.trace_instance.proofs.Calm.{KeepsTrigger, any-passes, kept-stays, no_event, same_families, trigger-stays}
 use Rattle.trace_instance.proofs.Effects.{same_instance}
 use Rattle.trace_instance.proofs.HistSteps.{KeepsHists, all-hists-calm, fitting-calm, unasked}
@@ -48,18 +48,18 @@ there-is (Some x) is = (x, refl)
 -- ---- which triggers there are
 
 any-kept : (name : Option (List ℕ)) (past : List Request) (events : List Definition)
-    → list_any is_some (map (kept_trigger name past) events) ≡ list_any (λ (e : Definition). is_some (trigger_of name e past)) events
+    → list_any is_some (map (kept_trigger name past) events) ≡ list_any (λ (e : Definition). is_some (snapshot_trigger_of name e past)) events
 any-kept name past [] = refl
 any-kept name past (e ∷ events) =
-    let first : is_some (kept_trigger name past e) ≡ is_some (trigger_of name e past) = some-mapped (kept_as past e) (trigger_of name e past) in
+    let first : is_some (kept_trigger name past e) ≡ is_some (snapshot_trigger_of name e past) = some-mapped (kept_as past e) (snapshot_trigger_of name e past) in
     let rest = any-kept name past events in
     cc
 
 -- some event has a trigger where some is kept
 trigger-there : (g : Config) (name : Option (List ℕ)) (past : List Request) (i : InstanceSeen) → InstanceStandsFor g name past i
-    → list_any is_some i.triggers ≡ has_trigger name past
+    → list_any is_some i.triggers ≡ has_snapshot_trigger name past
 trigger-there g name past i stands =
-    ap (λ (ts : List (Option Trigger)). list_any is_some ts) stands.triggers ∙ any-kept name past (declared_events past)
+    ap (λ (ts : List (Option AttachedSnapshot)). list_any is_some ts) stands.triggers ∙ any-kept name past (declared_events past)
 
 -- ---- the spare
 
@@ -153,10 +153,10 @@ module _ (g : Config) (name : Option (List ℕ)) (past : List Request) (append :
   snapshot-keeps_hists = record { alive = refl; unwritten = refl }
 
   -- an event has a trigger after it only where it had one
-  snapshot-has_trigger : list_any (λ (e : Definition). is_some (trigger_of name e (request ∷ past))) (declared_events past) ≡ true
-      → has_trigger name past ≡ true
-  snapshot-has_trigger some =
-      any-passes (λ (e : Definition). is_some (trigger_of name e (request ∷ past))) (λ (e : Definition). is_some (trigger_of name e past))
+  snapshot-has_snapshot_trigger : list_any (λ (e : Definition). is_some (snapshot_trigger_of name e (request ∷ past))) (declared_events past) ≡ true
+      → has_snapshot_trigger name past ≡ true
+  snapshot-has_snapshot_trigger some =
+      any-passes (λ (e : Definition). is_some (snapshot_trigger_of name e (request ∷ past))) (λ (e : Definition). is_some (snapshot_trigger_of name e past))
       (declared_events past) no_event
       (λ j inside one. ap is_some (sym (trigger-stays name past request (get_or (declared_events past) j no_event)
       (snapshot-quiet (get_or (declared_events past) j no_event)))) ∙ one) some
@@ -191,7 +191,7 @@ module _ (g : Config) (name : Option (List ℕ)) (past : List Request) (append :
         spared = λ spared. spared-new g name past request there;
       }
 
-  frees-effect : written_snapshot text ≡ Some Frees → has_trigger name past ≡ false → IsEffect g name past request FreeSpare
+  frees-effect : written_snapshot text ≡ Some Frees → has_snapshot_trigger name past ≡ false → IsEffect g name past request FreeSpare
   frees-effect frees unarmed =
       let same = same_instance name in
       let stays : exchanges name past request ≡ false = rw (same, frees) refl in
@@ -216,7 +216,7 @@ module _ (g : Config) (name : Option (List ℕ)) (past : List Request) (append :
         sides = λ spared. families;
         spared = λ spared. record {
           unused = λ none. rest ∙ emptied g name past;
-          armed = λ some. absurd (false≢true (sym unarmed ∙ snapshot-has_trigger some));
+          armed = λ some. absurd (false≢true (sym unarmed ∙ snapshot-has_snapshot_trigger some));
         };
       }
 
@@ -247,7 +247,7 @@ module _ (g : Config) (name : Option (List ℕ)) (past : List Request) (append :
             (emptied-spare (has_spare name past) (other_rings g name past));
         spared = λ spared. record {
           unused = λ none. rest ∙ emptied g name past;
-          armed = λ some. spare ∙ spared.armed (snapshot-has_trigger some);
+          armed = λ some. spare ∙ spared.armed (snapshot-has_snapshot_trigger some);
         };
       }
 
@@ -258,8 +258,8 @@ module _ (g : Config) (name : Option (List ℕ)) (past : List Request) (append :
   unfolding snapshot_answer
   snapshot-frees i stands number none =
       let is = written-is text 0 number in
-      let unarmed : has_trigger name past ≡ false = sym (trigger-there g name past i stands) ∙ none in (
-        ap (spare_answer (has_trigger name past)) is ∙ ap (λ (in_use : Bool). spare_answer in_use (Some Frees)) unarmed,
+      let unarmed : has_snapshot_trigger name past ≡ false = sym (trigger-there g name past i stands) ∙ none in (
+        ap (spare_answer (has_snapshot_trigger name past)) is ∙ ap (λ (in_use : Bool). spare_answer in_use (Some Frees)) unarmed,
         frees-effect is unarmed,
         λ i stands. tt,
       )
@@ -269,15 +269,15 @@ module _ (g : Config) (name : Option (List ℕ)) (past : List Request) (append :
   unfolding snapshot_answer
   snapshot-busy i stands number some =
       let is = written-is text 0 number in
-      let armed : has_trigger name past ≡ true = sym (trigger-there g name past i stands) ∙ some in
+      let armed : has_snapshot_trigger name past ≡ true = sym (trigger-there g name past i stands) ∙ some in
       refused refusal.Busy (snapshot_answer name past text)
-      (ap (spare_answer (has_trigger name past)) is ∙ ap (λ (in_use : Bool). spare_answer in_use (Some Frees)) armed)
+      (ap (spare_answer (has_snapshot_trigger name past)) is ∙ ap (λ (in_use : Bool). spare_answer in_use (Some Frees)) armed)
 
   pub snapshot-takes : written_number text ≡ Some 1 → IsWriteChange g name past append text (paths.OfInstance top.Snapshot) (Ok TakeSnapshot)
   unfolding snapshot_answer
   snapshot-takes number =
       let is = written-is text 1 number in (
-        ap (spare_answer (has_trigger name past)) is,
+        ap (spare_answer (has_snapshot_trigger name past)) is,
         takes-effect is,
         λ i stands. tt,
       )
@@ -287,7 +287,7 @@ module _ (g : Config) (name : Option (List ℕ)) (past : List Request) (append :
   unfolding snapshot_answer
   snapshot-empties n number none one =
       let is = written-is text n number ∙ ap Some (other-number n none one) in (
-        ap (spare_answer (has_trigger name past)) is,
+        ap (spare_answer (has_snapshot_trigger name past)) is,
         empties-effect is,
         λ i stands. tt,
       )

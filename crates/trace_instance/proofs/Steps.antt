@@ -24,7 +24,7 @@ use Rattle.trace_command.specs.declared.refusal.Refusal.TheVariants.{NoSuchEvent
 use Rattle.tracer_specification.specs.History.{answer_with_room, unless_refused}
 use Rattle.tracer_specification.specs.Settings.{declares, declared_events, event_named, filter_of, is_enabled, is_same, kept_filter, makes, set_by, sets_filter, switches}
 use Rattle.tracer_specification.specs.Triggers as triggers
-use Rattle.tracer_specification.specs.Triggers.{sets_trigger, trigger_of}
+use Rattle.tracer_specification.specs.Triggers.{sets_trigger, snapshot_trigger_of}
 use Rattle.tracer_specification.proofs.Events.{named_in-fewer}
 use Rattle.trace_trigger.specs.declared.spec.Action.{Action}
 use Rattle.tracer_specification.specs.HistTriggers.{HistTrigger, Written, hist_triggers, hists_of}
@@ -40,7 +40,7 @@ use Rattle.trace_instance.specs.Instances.{InstanceSeen, InstanceStandsFor, IsSp
 use Rattle.trace_instance.specs.declared.change.InstanceChange.{InstanceChange}
 use Rattle.trace_instance.specs.declared.change.InstanceChange.TheVariants.{Keep, Triggers}
 use Rattle.trace_instance.specs.declared.change.TriggerChange.TheVariants.{AttachHist, MakeHist}
-use Rattle.trace_instance.specs.declared.trigger.Trigger.{Trigger}
+use Rattle.trace_instance.specs.declared.trigger.AttachedSnapshot.{AttachedSnapshot}
 use Rattle.trace_instance.proofs.KeptLists.{AllOfEach, OfNew, after-all, kept-all, kept-one, used-all}
 use Rattle.trace_instance.proofs.LiveSide.{offered_more}
 use Rattle.trace_instance.proofs.OneSays.{or-none}
@@ -140,10 +140,10 @@ unfiltered_after g past request reply name event given none is =
     (not_set g past request reply name (sets_filter event past) given (λ file text. file-sets_none past file text event none)) is
 
 pub untriggered_after : (g : Config) (past : List Request) (request : Request) (reply : Reply) (name : Option (List ℕ)) (event : Definition)
-    → answer_with_room g past request ≡ Ok reply → event_named event.name past ≡ None → trigger_of name event past ≡ None
-    → trigger_of name event (request ∷ past) ≡ None
+    → answer_with_room g past request ≡ Ok reply → event_named event.name past ≡ None → snapshot_trigger_of name event past ≡ None
+    → snapshot_trigger_of name event (request ∷ past) ≡ None
 untriggered_after g past request reply name event given none is =
-    cond_default (makes name request) None (set_by name (sets_trigger event past) request) (trigger_of name event past)
+    cond_default (makes name request) None (set_by name (sets_trigger event past) request) (snapshot_trigger_of name event past)
     (not_set g past request reply name (sets_trigger event past) given (λ file text. file-triggers_none past file text event none)) is
 
 pub unwatched_after : (g : Config) (past : List Request) (request : Request) (reply : Reply) (name : Option (List ℕ)) (event : Definition)
@@ -283,7 +283,7 @@ pub kept-stands : (g : Config) (name : Option (List ℕ)) (past : List Request) 
 kept-stands g name past request i nothing effect stands = effect-stands g name past request Keep i i nothing effect stands (keeps i)
 
 -- one more event without a trigger
-spared-more : (g : Config) (name : Option (List ℕ)) (past : List Request) (events : List Definition) (event : Definition) → trigger_of name event past ≡ None
+spared-more : (g : Config) (name : Option (List ℕ)) (past : List Request) (events : List Definition) (event : Definition) → snapshot_trigger_of name event past ≡ None
     → IsSpared g name events past → IsSpared g name (events ++ event ∷ []) past
 spared-more g name past events event none spared = record {
   unused = spared.unused;
@@ -291,7 +291,7 @@ spared-more g name past events event none spared = record {
 }
   where
     test : Definition → Bool
-    test e = is_some (trigger_of name e past)
+    test e = is_some (snapshot_trigger_of name e past)
 
     last : list_any test (event ∷ []) ≡ false
     last = rw none refl
@@ -306,7 +306,7 @@ used-more number hists = list_any-append (uses_table number) hists ([] ∷ []) �
 -- one more event is declared
 pub declared-stands : (g : Config) (name : Option (List ℕ)) (past : List Request) (request : Request) (event : Definition) (i : InstanceSeen)
     → declares request ≡ Some event → IsEffect g name past request Keep → is_enabled name event.name (request ∷ past) ≡ false
-    → filter_of name event.name (request ∷ past) ≡ None → trigger_of name event (request ∷ past) ≡ None
+    → filter_of name event.name (request ∷ past) ≡ None → snapshot_trigger_of name event (request ∷ past) ≡ None
     → hists_of name event (request ∷ past) ≡ [] → InstanceStandsFor g name past i → InstanceStandsFor g name (request ∷ past) (with_event i)
 declared-stands g name past request event i declared effect off none idle unwatched stands = record {
   enabled = rw (declared, map-append)
@@ -316,7 +316,7 @@ declared-stands g name past request event i declared effect off none idle unwatc
       (ap (λ (filters : List (Option Parsed)). filters ++ None ∷ []) (stands.filters ∙ sym effect.filters)
       ∙ ap (λ (text : Option (List ℕ)). map (kept_filter name (request ∷ past)) (declared_events past) ++ option_map (parsed_of event) text ∷ []) (sym none));
   triggers = rw (declared, map-append)
-      (ap (λ (kept : List (Option Trigger)). kept ++ None ∷ []) (stands.triggers ∙ sym effect.triggers)
+      (ap (λ (kept : List (Option AttachedSnapshot)). kept ++ None ∷ []) (stands.triggers ∙ sym effect.triggers)
       ∙ ap (λ (t : Option triggers.Trigger). map (kept_trigger name (request ∷ past)) (declared_events past) ++ option_map (kept_as (request ∷ past) event) t ∷ [])
       (sym idle));
   hists = rw declared (ap (λ (hists : List (List AttachedHist)). hists ++ [] ∷ []) (stands.hists ∙ sym effect.hists)

@@ -16,18 +16,18 @@ use Rattle.trace_instance.specs.declared.hists.AttachedHist.{AttachedHist}
 use Rattle.trace_instance.specs.declared.tables.Table.{Table}
 use Rattle.trace_instance.specs.declared.trigger.EventTrigger.{EventTrigger}
 use Rattle.trace_instance.specs.declared.trigger.EventTrigger.TheVariants.{Snapshot, Hist}
-use Rattle.trace_instance.specs.declared.trigger.Trigger.{Trigger}
+use Rattle.trace_instance.specs.declared.trigger.AttachedSnapshot.{AttachedSnapshot}
 
 -- it is its triggers of each kind in order of their numbers
 abbrev pub IsOrdered : List EventTrigger → Type 0
 IsOrdered list = list ≡ in_order (snapshot_in list) (hists_in list)
 
 -- a list that has these in that order
-pub record Holds (list : List EventTrigger) (snapshot : Option Trigger) (hists : List AttachedHist) : Type 0 where
+pub record Holds (list : List EventTrigger) (snapshot : Option AttachedSnapshot) (hists : List AttachedHist) : Type 0 where
   pub order : list ≡ in_order snapshot hists
   pub those : hists_in list ≡ hists
 
-after-older : (t : Trigger) (older newer : List AttachedHist) → snapshot_in (map Hist older ++ Snapshot t ∷ map Hist newer) ≡ Some t
+after-older : (t : AttachedSnapshot) (older newer : List AttachedHist) → snapshot_in (map Hist older ++ Snapshot t ∷ map Hist newer) ≡ Some t
 after-older t [] newer = refl
 after-older t (a ∷ older) newer = after-older t older newer
 
@@ -35,21 +35,21 @@ none-in : (hists : List AttachedHist) → snapshot_in (map Hist hists) ≡ None
 none-in [] = refl
 none-in (a ∷ hists) = none-in hists
 
-in-order : (snapshot : Option Trigger) (hists : List AttachedHist) → snapshot_in (in_order snapshot hists) ≡ snapshot
+in-order : (snapshot : Option AttachedSnapshot) (hists : List AttachedHist) → snapshot_in (in_order snapshot hists) ≡ snapshot
 in-order None hists = none-in hists
 in-order (Some t) hists = after-older t (filter (λ (a : AttachedHist). nat_lt a.number t.number) hists) (filter (λ (a : AttachedHist). not (nat_lt a.number t.number)) hists)
 
-pub snapshot-held : (list : List EventTrigger) (snapshot : Option Trigger) (hists : List AttachedHist) → Holds list snapshot hists → snapshot_in list ≡ snapshot
+pub snapshot-held : (list : List EventTrigger) (snapshot : Option AttachedSnapshot) (hists : List AttachedHist) → Holds list snapshot hists → snapshot_in list ≡ snapshot
 snapshot-held list snapshot hists is = ap snapshot_in is.order ∙ in-order snapshot hists
 
 -- the `invariant` of such a list
 abbrev pub IsKept : List EventTrigger → Type 0
 IsKept list = (length (hists_in list) ≤ 4) × IsOrdered list
 
-ordered : (list : List EventTrigger) (snapshot : Option Trigger) (hists : List AttachedHist) → Holds list snapshot hists → IsOrdered list
+ordered : (list : List EventTrigger) (snapshot : Option AttachedSnapshot) (hists : List AttachedHist) → Holds list snapshot hists → IsOrdered list
 ordered list snapshot hists is = is.order ∙ (λ i. in_order (sym (snapshot-held list snapshot hists is) i) (sym is.those i))
 
-pub kept : (list : List EventTrigger) (snapshot : Option Trigger) (hists : List AttachedHist) → Holds list snapshot hists → length hists ≤ 4 → IsKept list
+pub kept : (list : List EventTrigger) (snapshot : Option AttachedSnapshot) (hists : List AttachedHist) → Holds list snapshot hists → length hists ≤ 4 → IsKept list
 kept list snapshot hists is few = let many = ap length is.those in (omega (arith, few, many), ordered list snapshot hists is)
 
 -- ---- one of them
@@ -116,7 +116,7 @@ filters p q (a ∷ hists) = by (p a) refl (q a) refl (filters p q hists)
     by false is true also rest = rw is rest
     by false is false also rest = rest
 
-without-order : (test : AttachedHist → Bool) (snapshot : Option Trigger) (hists : List AttachedHist)
+without-order : (test : AttachedHist → Bool) (snapshot : Option AttachedSnapshot) (hists : List AttachedHist)
     → without test (in_order snapshot hists) ≡ in_order snapshot (others test hists)
 without-order test None hists = without-hists test hists
 without-order test (Some t) hists =
@@ -171,7 +171,7 @@ newer-than m n less = first_of (search (rules, tests), grind (arith, nat_tests, 
 older-than : (m n : ℕ) → m < n → nat_lt m n ≡ true
 older-than m n less = first_of (search (rules, tests), grind (arith, nat_tests, less))
 
-hist-last : (snapshot : Option Trigger) (hists : List AttachedHist) (a : AttachedHist) → IfSome snapshot (λ t. t.number < a.number)
+hist-last : (snapshot : Option AttachedSnapshot) (hists : List AttachedHist) (a : AttachedHist) → IfSome snapshot (λ t. t.number < a.number)
     → in_order snapshot hists ++ Hist a ∷ [] ≡ in_order snapshot (hists ++ a ∷ [])
 hist-last None hists a after = sym (map-append Hist hists (a ∷ []))
 hist-last (Some t) hists a after =
@@ -181,7 +181,7 @@ hist-last (Some t) hists a after =
     rw (filter-append older hists (a ∷ []), filter-append newer hists (a ∷ []), last, append-nil, map-append Hist (filter newer hists) (a ∷ []))
     (append_assoc (map Hist (filter older hists)) (Snapshot t ∷ map Hist (filter newer hists)) (Hist a ∷ []))
 
-all-older : (t : Trigger) (hists : List AttachedHist) → All (λ (a : AttachedHist). a.number < t.number) hists → in_order (Some t) hists ≡ map Hist hists ++ Snapshot t ∷ []
+all-older : (t : AttachedSnapshot) (hists : List AttachedHist) → All (λ (a : AttachedHist). a.number < t.number) hists → in_order (Some t) hists ≡ map Hist hists ++ Snapshot t ∷ []
 all-older t [] all = refl
 all-older t (a ∷ hists) all =
     let less : nat_lt a.number t.number ≡ true = older-than a.number t.number (All-head (λ (b : AttachedHist). b.number < t.number) a hists all) in
@@ -191,7 +191,7 @@ all-older t (a ∷ hists) all =
 pub one-more : (list : List EventTrigger) (one : EventTrigger) → IsNewest (number_of one) (snapshot_in list) (hists_in list) → IsOnly one (snapshot_in list)
     → IsOrdered list → Holds (list ++ one ∷ []) (with_snapshot one (snapshot_in list)) (hists_in list ++ hists_in (one ∷ []))
 one-more list (Snapshot t) newest none is = record {
-  order = ap (λ (l : List EventTrigger). l ++ Snapshot t ∷ []) (is ∙ ap (λ (s : Option Trigger). in_order s (hists_in list)) none)
+  order = ap (λ (l : List EventTrigger). l ++ Snapshot t ∷ []) (is ∙ ap (λ (s : Option AttachedSnapshot). in_order s (hists_in list)) none)
       ∙ sym (all-older t (hists_in list) newest.after_hists) ∙ ap (in_order (Some t)) (sym (append-nil (hists_in list)));
   those = filter_map-append hist_of list (Snapshot t ∷ []);
 }
@@ -215,7 +215,7 @@ counted-hists : (hists : List AttachedHist) → map counted (map Hist hists) ≡
 counted-hists [] = refl
 counted-hists (a ∷ hists) = ap (λ (l : List EventTrigger). Hist a ∷ l) (counted-hists hists)
 
-counted-order : (snapshot : Option Trigger) (hists : List AttachedHist) → map counted (in_order snapshot hists) ≡ in_order (counted_down snapshot) hists
+counted-order : (snapshot : Option AttachedSnapshot) (hists : List AttachedHist) → map counted (in_order snapshot hists) ≡ in_order (counted_down snapshot) hists
 counted-order None hists = counted-hists hists
 counted-order (Some t) hists =
     let older : List AttachedHist = filter (λ (b : AttachedHist). nat_lt b.number t.number) hists in
@@ -237,7 +237,7 @@ many-hists hists = length-map hists Hist
 pub many-there : (list : List EventTrigger) → IsOrdered list → length list ≡ length (hists_in list) + (if is_some (snapshot_in list) then 1 else 0)
 many-there list is = ap length is ∙ by (snapshot_in list) (hists_in list)
   where
-    by : (snapshot : Option Trigger) (hists : List AttachedHist) → length (in_order snapshot hists) ≡ length hists + (if is_some snapshot then 1 else 0)
+    by : (snapshot : Option AttachedSnapshot) (hists : List AttachedHist) → length (in_order snapshot hists) ≡ length hists + (if is_some snapshot then 1 else 0)
     by None hists = omega (arith, many-hists hists)
     by (Some t) hists =
         let older : AttachedHist → Bool = λ a. nat_lt a.number t.number in
@@ -257,7 +257,7 @@ pub record IsAt (list : List EventTrigger) (hists : List AttachedHist) (i k : �
   pub left : drop k hists ≡ hists_in (drop i list)
   pub few : length hists ≤ 4
 
-pub past-snapshot : {list : List EventTrigger} {hists : List AttachedHist} {i k : ℕ} {one : EventTrigger} {t : Trigger} → IsAt list hists i k
+pub past-snapshot : {list : List EventTrigger} {hists : List AttachedHist} {i k : ℕ} {one : EventTrigger} {t : AttachedSnapshot} → IsAt list hists i k
     → i < length list → one ≡ get_or list i one → one ≡ Snapshot t → IsAt list hists (i + 1) k
 past-snapshot {list} {hists} {i} {k} {one} {t} at inside is snapshot = record {
   left = at.left ∙ at_drop_more hists_in list i one inside ∙ ap (λ (u : EventTrigger). hists_in (u ∷ drop (i + 1) list)) (sym is ∙ snapshot);

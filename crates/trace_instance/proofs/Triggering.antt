@@ -21,7 +21,7 @@ use Rattle.tracer_specification.specs.HistTriggers.{Written, hist_triggers, hist
 use Rattle.tracer_specification.specs.Rings.{other_rings, rings, rings_after, rings_after_write}
 use Rattle.tracer_specification.specs.Settings.{NumberedEvent, declared_events, event_named, set_by}
 use Rattle.tracer_specification.specs.Snapshots.{has_spare, sets_spare, spare_armed}
-use Rattle.tracer_specification.specs.Triggers.{trigger_of}
+use Rattle.tracer_specification.specs.Triggers.{snapshot_trigger_of}
 use Rattle.tracer_specification.proofs.EventHists.{hists_of-after, own_after}
 use Rattle.tracer_specification.proofs.EventLists.{map-set, named_at}
 use Rattle.tracer_specification.proofs.OwnFiles.{own-none, own_written}
@@ -36,9 +36,9 @@ use Rattle.trace_instance.specs.EventLists.{all_hists}
 use Rattle.trace_instance.specs.declared.attach.EventTriggers.{EventTriggers}
 use Rattle.trace_instance.specs.declared.change.InstanceChange.TheVariants.{Triggers}
 use Rattle.trace_instance.specs.declared.change.TriggerChange.{TriggerChange}
-use Rattle.trace_instance.specs.declared.change.TriggerChange.TheVariants.{Attach, Detach}
+use Rattle.trace_instance.specs.declared.change.TriggerChange.TheVariants.{AttachSnapshot, DetachSnapshot}
 use Rattle.trace_instance.specs.declared.hists.AttachedHist.{AttachedHist}
-use Rattle.trace_instance.specs.declared.trigger.Trigger.{Trigger}
+use Rattle.trace_instance.specs.declared.trigger.AttachedSnapshot.{AttachedSnapshot}
 use Rattle.trace_instance.specs.declared.write.WrittenText.{WrittenText}
 use Rattle.trace_instance.proofs.Calm.{KeepsTrigger, kept-stays, no_event, same_families, spared-stays, trigger-stays}
 use Rattle.trace_instance.proofs.Effects.{same_instance}
@@ -99,16 +99,16 @@ trigger-live g name past event append text family = rw (same_instance name) (tri
 -- ---- what changes
 
 -- the triggers after a change of one
-set-changed : (index : ℕ) (append : Bool) (change : TriggerChange) (olds : List (Option Trigger)) (old : Option Trigger) → get_or olds index None ≡ old
+set-changed : (index : ℕ) (append : Bool) (change : TriggerChange) (olds : List (Option AttachedSnapshot)) (old : Option AttachedSnapshot) → get_or olds index None ≡ old
     → set olds index (trigger_changed change old) ≡ triggers_after (Triggers index append change) olds
-set-changed index append (Attach trigger) olds old is = refl
-set-changed index append Detach olds old is = refl
+set-changed index append (AttachSnapshot trigger) olds old is = refl
+set-changed index append DetachSnapshot olds old is = refl
 set-changed index append change olds old is = ap (set olds index) (sym is) ∙ set-get_or olds index None
 
 -- a trigger for snapshots that is there after a change that attaches none was there before it
-some-before : (change : TriggerChange) (old : Option Trigger) → arms change ≡ None → is_some (trigger_changed change old) ≡ true → is_some old ≡ true
-some-before (Attach trigger) old none some = absurd (cc)
-some-before Detach old none some = absurd (cc)
+some-before : (change : TriggerChange) (old : Option AttachedSnapshot) → arms change ≡ None → is_some (trigger_changed change old) ≡ true → is_some old ≡ true
+some-before (AttachSnapshot trigger) old none some = absurd (cc)
+some-before DetachSnapshot old none some = absurd (cc)
 some-before change old none some = some
 
 pub trigger-effect : (g : Config) (name : Option (List ℕ)) (past : List Request) (index : ℕ) (written : WrittenText) (change : TriggerChange)
@@ -192,18 +192,18 @@ trigger-effect g name past index written change distinct inside is = record {
     sides : (c : TriggerChange) → set_by name (sets_spare past) request ≡ arms c → IsSpared g name (declared_events past) past
         → side_families g name (request ∷ past)
         ≡ sides_changed g.cpus g.pages g.page_bytes (Triggers index append c) (side_families g name past)
-    sides (Attach trigger) sets spared =
+    sides (AttachSnapshot trigger) sets spared =
         new_sides sets
         ∙ ap (λ (l : List (List Event)). (let f : SideFamilies = record { live = rings g name past; spare = Some l } in f)) (sym (spare-or-new g name past spared))
     sides c sets spared = same_sides sets
 
     -- this event has a trigger after it only where it had one
     was_there : (c : TriggerChange) → arms c ≡ None → kept_trigger name (request ∷ past) here ≡ trigger_changed c (kept_trigger name past here)
-        → is_some (trigger_of name here (request ∷ past)) ≡ true → is_some (trigger_of name here past) ≡ true
+        → is_some (snapshot_trigger_of name here (request ∷ past)) ≡ true → is_some (snapshot_trigger_of name here past) ≡ true
     was_there c none snapshot some =
-        sym (some-mapped (kept_as past here) (trigger_of name here past))
+        sym (some-mapped (kept_as past here) (snapshot_trigger_of name here past))
         ∙ some-before c (kept_trigger name past here) none
-        (ap is_some (sym snapshot) ∙ some-mapped (kept_as (request ∷ past) here) (trigger_of name here (request ∷ past)) ∙ some)
+        (ap is_some (sym snapshot) ∙ some-mapped (kept_as (request ∷ past) here) (snapshot_trigger_of name here (request ∷ past)) ∙ some)
 
     unarmed : (c : TriggerChange) → arms c ≡ None → set_by name (sets_spare past) request ≡ None
         → kept_trigger name (request ∷ past) here ≡ trigger_changed c (kept_trigger name past here)
@@ -211,12 +211,12 @@ trigger-effect g name past index written change distinct inside is = record {
     unarmed c none sets snapshot =
         spared-stays g name past request (same sets) staying.spare (λ j within some. by j within some (j == index) refl)
       where
-        by : (j : ℕ) → j < length (declared_events past) → is_some (trigger_of name (event_at past j) (request ∷ past)) ≡ true
-            → (at_index : Bool) → (j == index) ≡ at_index → is_some (trigger_of name (event_at past j) past) ≡ true
+        by : (j : ℕ) → j < length (declared_events past) → is_some (snapshot_trigger_of name (event_at past j) (request ∷ past)) ≡ true
+            → (at_index : Bool) → (j == index) ≡ at_index → is_some (snapshot_trigger_of name (event_at past j) past) ≡ true
         by j within some true at =
             let e = eqb-true j index at in
-            ap (λ (k : ℕ). is_some (trigger_of name (event_at past k) past)) e
-            ∙ was_there c none snapshot (ap (λ (k : ℕ). is_some (trigger_of name (event_at past k) (request ∷ past))) (sym e) ∙ some)
+            ap (λ (k : ℕ). is_some (snapshot_trigger_of name (event_at past k) past)) e
+            ∙ was_there c none snapshot (ap (λ (k : ℕ). is_some (snapshot_trigger_of name (event_at past k) (request ∷ past))) (sym e) ∙ some)
         by j within some false at =
             let stays = others-stay name past index append text distinct inside j within (λ e. absurd (false≢true (sym at ∙ eq-eqb j index e))) in
             ap is_some (sym (trigger-stays name past request (event_at past j) stays)) ∙ some
@@ -224,7 +224,7 @@ trigger-effect g name past index written change distinct inside is = record {
     spared : (c : TriggerChange) → set_by name (sets_spare past) request ≡ arms c
         → kept_trigger name (request ∷ past) here ≡ trigger_changed c (kept_trigger name past here)
         → IsSpared g name (declared_events past) past → IsSpared g name (declared_events past) (request ∷ past)
-    spared (Attach trigger) sets snapshot = λ before. spared-new g name past request (there sets)
+    spared (AttachSnapshot trigger) sets snapshot = λ before. spared-new g name past request (there sets)
     spared c sets snapshot = unarmed c refl sets snapshot
 
 -- ---- what it answers
@@ -251,7 +251,7 @@ kept-there g name past i index stands inside =
 snapshot-there : (g : Config) (name : Option (List ℕ)) (past : List Request) (i : InstanceSeen) (index : ℕ) → InstanceStandsFor g name past i
     → index < length (declared_events past) → get_or i.triggers index None ≡ kept_trigger name past (event_at past index)
 snapshot-there g name past i index stands inside =
-    ap (λ (ts : List (Option Trigger)). get_or ts index None) stands.triggers
+    ap (λ (ts : List (Option AttachedSnapshot)). get_or ts index None) stands.triggers
     ∙ get_or-map (kept_trigger name past) (declared_events past) index no_event None inside
 
 pub trigger-written : (g : Config) (name : Option (List ℕ)) (past : List Request) (index : ℕ) (event : Definition) (written : WrittenText) (change : TriggerChange)

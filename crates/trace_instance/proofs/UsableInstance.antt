@@ -28,7 +28,7 @@ use Rattle.tracer_specification.specs.History.{trigger_count}
 use Rattle.tracer_specification.specs.Pasts.{AreDone}
 use Rattle.tracer_specification.specs.HistTriggers.{HistTrigger, asked_by, counted_by, empties, hist_triggers, hists_of, hits_of, is_of, is_paused, those_of}
 use Rattle.tracer_specification.specs.Triggers as triggers
-use Rattle.tracer_specification.specs.Triggers.{trigger_of}
+use Rattle.tracer_specification.specs.Triggers.{snapshot_trigger_of}
 use Rattle.tracer_specification.proofs.SaidHists.{said-spec}
 use Rattle.tracer_specification.proofs.AttachedHists.{hist_triggers_are_those_attached}
 use Rattle.tracer_specification.proofs.FewTriggers.{few-triggers}
@@ -38,7 +38,7 @@ use Rattle.tracer_specification.proofs.TableSteps.{nothing-counted, rows-few}
 use Rattle.trace_instance.specs.KeptHists.{HasRoomToCount, KeptTable, KeysAgree, TableStandsFor, attached_as, kept_hists, kept_table, table_numbered}
 use Rattle.trace_instance.specs.declared.hists.AttachedHist.{AttachedHist}
 use Rattle.trace_instance.specs.declared.tables.Table.{Table}
-use Rattle.trace_instance.specs.declared.trigger.Trigger.{Trigger}
+use Rattle.trace_instance.specs.declared.trigger.AttachedSnapshot.{AttachedSnapshot}
 
 -- ---- tables
 
@@ -106,7 +106,7 @@ pub usable-stands : (g : Config) (name : Option (List ℕ)) (past : List Request
 usable-stands g name past i stands = record {
   enabled = ap (λ (l : List Bool). length l) stands.enabled ∙ length-map (declared_events past) (λ (event : Definition). is_enabled name event.name past);
   filters = ap (λ (l : List (Option Parsed)). length l) stands.filters ∙ length-map (declared_events past) (kept_filter name past);
-  triggers = ap (λ (l : List (Option Trigger)). length l) stands.triggers ∙ length-map (declared_events past) (kept_trigger name past);
+  triggers = ap (λ (l : List (Option AttachedSnapshot)). length l) stands.triggers ∙ length-map (declared_events past) (kept_trigger name past);
   hists = ap (λ (l : List (List AttachedHist)). length l) stands.hists ∙ length-map (declared_events past) (kept_hists name past);
   tables = λ k d inside j e within.
       let table = stands.tables k d inside j e within in
@@ -157,7 +157,7 @@ few_counted g name table false past request None done is =
 few_counted g name table false past request (Some e) done is =
     let named = emitted-named past request e is in
     let all = few-triggers g past name named.0 e.k done named.1 in
-    let few = hists-few (trigger_of name e.k.event past) (hists_of name e.k.event past) all in
+    let few = hists-few (snapshot_trigger_of name e.k.event past) (hists_of name e.k.event past) all in
     let rows = rows-few table e (hist_triggers name past) in
     omega (arith, few, rows)
 

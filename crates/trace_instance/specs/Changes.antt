@@ -20,11 +20,11 @@ use Rattle.tracer_specification.specs.Settings.{can_take, declared_events, is_en
 use Rattle.trace_instance.specs.Instances.{InstanceSeen, IsShaped, IsSpared, TablesFit, WereOffered, kept_trigger, side_families}
 use Rattle.trace_instance.specs.KeptHists.{KeptTable, asked_if, is_used, kept_at, kept_hists, kept_table, without_same}
 use Rattle.trace_instance.specs.declared.hists.AttachedHist.{AttachedHist}
-use Rattle.trace_instance.specs.declared.trigger.Trigger.{Trigger}
+use Rattle.trace_instance.specs.declared.trigger.AttachedSnapshot.{AttachedSnapshot}
 use Rattle.trace_instance.specs.declared.change.InstanceChange.{InstanceChange}
 use Rattle.trace_instance.specs.declared.change.InstanceChange.TheVariants.{Switch, SwitchAll, SetFilter, SetFilters, ClearFilters, Triggers, SetOverwrite, SetTracing, Clear, ClearCpu, Take, TakeCpu, TakeSnapshot, FreeSpare, ClearSpare}
 use Rattle.trace_instance.specs.declared.change.TriggerChange.{TriggerChange}
-use Rattle.trace_instance.specs.declared.change.TriggerChange.TheVariants.{Attach, Detach, AttachHist, MakeHist, DetachHist, AskTable}
+use Rattle.trace_instance.specs.declared.change.TriggerChange.TheVariants.{AttachSnapshot, DetachSnapshot, AttachHist, MakeHist, DetachHist, AskTable}
 use Rattle.trace_instance.specs.declared.change.FilterChange.{FilterChange}
 use Rattle.trace_instance.specs.declared.change.FilterChange.TheVariants as filter
 
@@ -60,15 +60,15 @@ filters_after ClearFilters filters = replicate (length filters) None
 filters_after change filters = filters
 
 -- an event's trigger for snapshots after a change of its triggers
-abbrev pub trigger_changed : TriggerChange → Option Trigger → Option Trigger
-trigger_changed (Attach trigger) old = Some trigger
-trigger_changed Detach old = None
+abbrev pub trigger_changed : TriggerChange → Option AttachedSnapshot → Option AttachedSnapshot
+trigger_changed (AttachSnapshot trigger) old = Some trigger
+trigger_changed DetachSnapshot old = None
 trigger_changed change old = old
 
 -- the triggers after a change
-abbrev pub triggers_after : InstanceChange → List (Option Trigger) → List (Option Trigger)
-triggers_after (Triggers index append (Attach trigger)) triggers = slice_set triggers index (Some trigger)
-triggers_after (Triggers index append Detach) triggers = slice_set triggers index None
+abbrev pub triggers_after : InstanceChange → List (Option AttachedSnapshot) → List (Option AttachedSnapshot)
+triggers_after (Triggers index append (AttachSnapshot trigger)) triggers = slice_set triggers index (Some trigger)
+triggers_after (Triggers index append DetachSnapshot) triggers = slice_set triggers index None
 triggers_after change triggers = triggers
 
 -- the hist triggers of an event after a change, of those that `>` or `>>` left
@@ -127,21 +127,21 @@ rings_changed pages page_bytes change family = family
 
 -- both sides after a change
 abbrev pub sides_changed : ℕ → ℕ → ℕ → InstanceChange → SideFamilies → SideFamilies
-sides_changed cpus pages page_bytes (Triggers index append (Attach trigger)) f = with_spare cpus f
+sides_changed cpus pages page_bytes (Triggers index append (AttachSnapshot trigger)) f = with_spare cpus f
 sides_changed cpus pages page_bytes TakeSnapshot f = exchanged (with_spare cpus f)
 sides_changed cpus pages page_bytes FreeSpare f = without_spare f
 sides_changed cpus pages page_bytes ClearSpare f = spare_cleared f
 sides_changed cpus pages page_bytes change f = record { live = rings_changed pages page_bytes change f.live; spare = f.spare }
 
 -- a trigger with this number can be attached where these are left: there is room, and each of these was attached before it
-pub record IsNewest (number : ℕ) (trigger : Option Trigger) (hists : List AttachedHist) : Type 0 where
+pub record IsNewest (number : ℕ) (trigger : Option AttachedSnapshot) (hists : List AttachedHist) : Type 0 where
   pub few : length hists + (if is_some trigger then 1 else 0) < 4
   pub after_snapshot : IfSome trigger (λ t. t.number < number)
   pub after_hists : All (λ a. a.number < number) hists
 
 -- a change of an event's triggers can be made where these are left
-abbrev pub IsPossible : TriggerChange → Option Trigger → List AttachedHist → Type 0
-IsPossible (Attach new) trigger hists = (trigger ≡ None) × IsNewest new.number trigger hists
+abbrev pub IsPossible : TriggerChange → Option AttachedSnapshot → List AttachedHist → Type 0
+IsPossible (AttachSnapshot new) trigger hists = (trigger ≡ None) × IsNewest new.number trigger hists
 IsPossible (AttachHist attached) trigger hists = IsNewest attached.number trigger hists
 IsPossible (MakeHist made) trigger hists = IsNewest made.value.attached.number trigger hists
 IsPossible change trigger hists = ⊤

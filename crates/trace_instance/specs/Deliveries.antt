@@ -16,15 +16,15 @@ use Rattle.trace_instance.specs.declared.hists.AttachedHist.{AttachedHist}
 use Rattle.trace_instance.specs.Instances.{InstanceSeen, IsShaped, WereOffered}
 use Rattle.trace_instance.specs.declared.change.Delivery.{Delivery}
 use Rattle.trace_instance.specs.declared.change.Reach.{Reach}
-use Rattle.trace_instance.specs.declared.trigger.Trigger.{Trigger}
+use Rattle.trace_instance.specs.declared.trigger.AttachedSnapshot.{AttachedSnapshot}
 
 -- ---- what it does there
 
 -- a trigger that acted acts once less
-abbrev pub acted_once : Trigger → Trigger
+abbrev pub acted_once : AttachedSnapshot → AttachedSnapshot
 acted_once t = record { number = t.number; left = option_map (λ times. times - 1) t.left; filter = t.filter }
 
-abbrev pub counted_down : Option Trigger → Option Trigger
+abbrev pub counted_down : Option AttachedSnapshot → Option AttachedSnapshot
 counted_down trigger = option_map acted_once trigger
 
 -- the live side's rings after an emission: with its record, if it is written here

@@ -5,7 +5,7 @@ use Rattle.trace_instance.specs.Changes.{changed_filter}
 use Rattle.trace_instance.specs.declared.change.FilterChange.{FilterChange}
 use Rattle.trace_instance.specs.declared.event.InstanceEvent.{InstanceEvent}
 use Rattle.trace_instance.specs.declared.hists.AttachedHist.{AttachedHist}
-use Rattle.trace_instance.specs.declared.trigger.Trigger.{Trigger}
+use Rattle.trace_instance.specs.declared.trigger.AttachedSnapshot.{AttachedSnapshot}
 
 abbrev pub all_enabled : List InstanceEvent → List Bool
 all_enabled events = map (λ (e : InstanceEvent). e.enabled) events
@@ -13,7 +13,7 @@ all_enabled events = map (λ (e : InstanceEvent). e.enabled) events
 abbrev pub all_filters : List InstanceEvent → List (Option Parsed)
 all_filters events = map (λ (e : InstanceEvent). e.filter) events
 
-abbrev pub all_triggers : List InstanceEvent → List (Option Trigger)
+abbrev pub all_triggers : List InstanceEvent → List (Option AttachedSnapshot)
 all_triggers events = map (λ (e : InstanceEvent). e.triggers.snapshot) events
 
 abbrev pub all_hists : List InstanceEvent → List (List AttachedHist)

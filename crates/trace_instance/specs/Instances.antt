@@ -15,9 +15,9 @@ use Rattle.tracer_specification.specs.Snapshots.{has_spare}
 use Rattle.tracer_specification.specs.HistTriggers.{HistTrigger, hist_triggers}
 use Rattle.tracer_specification.specs.Triggers as triggers
 use Rattle.trace_trigger.specs.FittingSpecs.{is_fitting}
-use Rattle.tracer_specification.specs.Triggers.{times_left, trigger_of}
+use Rattle.tracer_specification.specs.Triggers.{times_left, snapshot_trigger_of}
 use Rattle.trace_instance.specs.declared.hists.AttachedHist.{AttachedHist}
-use Rattle.trace_instance.specs.declared.trigger.Trigger.{Trigger}
+use Rattle.trace_instance.specs.declared.trigger.AttachedSnapshot.{AttachedSnapshot}
 use Rattle.trace_format.specs.Operands.{Emission}
 use Rattle.trace_instance.specs.KeptHists.{TableStandsFor, is_used, kept_at, kept_hists, passed, KeysAgree, table_numbered}
 use Rattle.trace_instance.specs.declared.tables.Table.{Table}
@@ -27,7 +27,7 @@ use Rattle.trace_instance.specs.declared.tables.Table.{Table}
 pub record InstanceSeen : Type 0 where
   pub enabled : List Bool
   pub filters : List (Option Parsed)
-  pub triggers : List (Option Trigger)
+  pub triggers : List (Option AttachedSnapshot)
   pub hists : List (List AttachedHist)
   pub tables : List Table
   pub overwrite : Bool
@@ -58,11 +58,11 @@ WereOffered most s = WasOffered most s.live × IfSome s.spare (WasOffered most)
 -- ---- what the requests say
 
 -- a trigger as an instance keeps it
-abbrev pub kept_as : List Request → Definition → triggers.Trigger → Trigger
+abbrev pub kept_as : List Request → Definition → triggers.Trigger → AttachedSnapshot
 kept_as past event t = record { number = t.number; left = times_left event t past; filter = t.spec.filter }
 
-abbrev pub kept_trigger : Option (List ℕ) → List Request → Definition → Option Trigger
-kept_trigger name past event = option_map (kept_as past event) (trigger_of name event past)
+abbrev pub kept_trigger : Option (List ℕ) → List Request → Definition → Option AttachedSnapshot
+kept_trigger name past event = option_map (kept_as past event) (snapshot_trigger_of name event past)
 
 -- the filters of which hist triggers of the event at an index an emission passes
 abbrev pub passed_in : Emission → ℕ → InstanceSeen → List Bool
@@ -75,7 +75,7 @@ side_families g name past = record { live = rings g name past; spare = spare_rin
 -- a side that is no spare is empty, and there is a spare where one of these events has a trigger for snapshots
 pub record IsSpared (g : Config) (name : Option (List ℕ)) (events : List Definition) (past : List Request) : Type 0 where
   pub unused : has_spare name past ≡ false → other_rings g name past ≡ replicate g.cpus []
-  pub armed : list_any (λ event. is_some (trigger_of name event past)) events ≡ true → has_spare name past ≡ true
+  pub armed : list_any (λ event. is_some (snapshot_trigger_of name event past)) events ≡ true → has_spare name past ≡ true
 
 -- the hist triggers of an instance that share a table fit each other
 abbrev pub TablesFit : Option (List ℕ) → List Request → Type 0

@@ -13,13 +13,13 @@ use Rattle.trace_instance.specs.Instances.{InstanceSeen}
 use Rattle.trace_instance.specs.declared.change.InstanceChange.{InstanceChange}
 use Rattle.trace_instance.specs.declared.change.InstanceChange.TheVariants.{Triggers, TakeSnapshot}
 use Rattle.trace_instance.specs.declared.change.TriggerChange.{TriggerChange}
-use Rattle.trace_instance.specs.declared.change.TriggerChange.TheVariants.{Attach, AttachHist, MakeHist}
+use Rattle.trace_instance.specs.declared.change.TriggerChange.TheVariants.{AttachSnapshot, AttachHist, MakeHist}
 
 -- ---- changes
 
 -- a change of an event's triggers takes memory for one that it attaches
 abbrev pub TriggersTakeMemory : TriggerChange → Type 0
-TriggersTakeMemory (Attach trigger) = ⊤
+TriggersTakeMemory (AttachSnapshot trigger) = ⊤
 TriggersTakeMemory (AttachHist attached) = ⊤
 TriggersTakeMemory (MakeHist made) = ⊤
 TriggersTakeMemory change = ⊥

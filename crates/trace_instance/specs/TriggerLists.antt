@@ -7,17 +7,17 @@ use Rattle.trace_instance.specs.declared.hists.AttachedHist.{AttachedHist}
 use Rattle.trace_instance.specs.declared.tables.Table.{Table}
 use Rattle.trace_instance.specs.declared.trigger.EventTrigger.{EventTrigger}
 use Rattle.trace_instance.specs.declared.trigger.EventTrigger.TheVariants.{Snapshot, Hist}
-use Rattle.trace_instance.specs.declared.trigger.Trigger.{Trigger}
+use Rattle.trace_instance.specs.declared.trigger.AttachedSnapshot.{AttachedSnapshot}
 
 -- the triggers of each kind, and how many more there is memory for
 pub record TriggersSeen : Type 0 where
-  pub snapshot : Option Trigger
+  pub snapshot : Option AttachedSnapshot
   pub hists : List AttachedHist
   pub room : ℕ
 
 -- ---- one trigger
 
-abbrev pub snapshot_of : EventTrigger → Option Trigger
+abbrev pub snapshot_of : EventTrigger → Option AttachedSnapshot
 snapshot_of (Snapshot t) = Some t
 snapshot_of (Hist a) = None
 
@@ -43,12 +43,12 @@ HasTable tables (Snapshot t) = ⊤
 HasTable tables (Hist a) = is_some (table_numbered a.table tables) ≡ true
 
 -- if it is for snapshots, there is none yet
-abbrev pub IsOnly : EventTrigger → Option Trigger → Type 0
+abbrev pub IsOnly : EventTrigger → Option AttachedSnapshot → Type 0
 IsOnly (Snapshot t) old = old ≡ None
 IsOnly (Hist a) old = ⊤
 
 -- the one for snapshots once this one is attached
-abbrev pub with_snapshot : EventTrigger → Option Trigger → Option Trigger
+abbrev pub with_snapshot : EventTrigger → Option AttachedSnapshot → Option AttachedSnapshot
 with_snapshot (Snapshot t) old = Some t
 with_snapshot (Hist a) old = old
 
@@ -59,7 +59,7 @@ counted (Hist a) = Hist a
 
 -- ---- a list of them
 
-abbrev pub snapshot_in : List EventTrigger → Option Trigger
+abbrev pub snapshot_in : List EventTrigger → Option AttachedSnapshot
 snapshot_in [] = None
 snapshot_in (Snapshot t ∷ list) = Some t
 snapshot_in (Hist a ∷ list) = snapshot_in list
@@ -68,7 +68,7 @@ abbrev pub hists_in : List EventTrigger → List AttachedHist
 hists_in list = filter_map hist_of list
 
 -- the triggers of each kind in the order in which they were attached
-abbrev pub in_order : Option Trigger → List AttachedHist → List EventTrigger
+abbrev pub in_order : Option AttachedSnapshot → List AttachedHist → List EventTrigger
 in_order None hists = map Hist hists
 in_order (Some t) hists =
     map Hist (filter (λ (a : AttachedHist). nat_lt a.number t.number) hists)

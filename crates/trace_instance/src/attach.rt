@@ -12,7 +12,7 @@ use crate::change::{NewHist, TriggerChange};
 use crate::event::InstanceEvent;
 use crate::hists::{AttachedHist, MOST_TRIGGERS};
 use crate::instance::Instance;
-use crate::trigger::Trigger;
+use crate::trigger::AttachedSnapshot;
 use crate::write::WrittenText;
 use std::alloc::Global;
 use trace_command::Refusal;
@@ -60,11 +60,11 @@ impl<'a> EventTriggers<'a> {
     {
         match TriggerText::parse(alloc, written.text, event)? {
             TriggerText::Nothing => Ok(TriggerChange::Keep),
-            TriggerText::Attach(trigger) => self.attached(written, trigger),
-            TriggerText::Remove if self.own.triggers.snapshot().is_some() => Ok(
-                TriggerChange::Detach,
+            TriggerText::AttachSnapshot(trigger) => self.attached(written, trigger),
+            TriggerText::RemoveSnapshot if self.own.triggers.snapshot().is_some() => Ok(
+                TriggerChange::DetachSnapshot,
             ),
-            TriggerText::Remove => Err(Refusal::NoSuchTrigger),
+            TriggerText::RemoveSnapshot => Err(Refusal::NoSuchTrigger),
             TriggerText::Hist(spec) => self.asked(alloc, written, spec),
             TriggerText::RemoveHist(spec) => self.removed(alloc, written, spec),
         }
@@ -83,7 +83,7 @@ impl<'a> EventTriggers<'a> {
             return Err(Refusal::TriggerExists);
         }
         self.check_room(written.append)?;
-        Ok(TriggerChange::Attach(Trigger::new(written.number, trigger)))
+        Ok(TriggerChange::AttachSnapshot(AttachedSnapshot::new(written.number, trigger)))
     }
 
     // A hist trigger: the string's action on the table of the matching one, or a new one if none matches.

@@ -4,7 +4,7 @@ ghost use Rattle.std.specs.Prelude.{◌≡◌};
 ghost use Rattle.trace_instance.specs.Changes as changes;
 
 use crate::hists::{AttachedHist, MOST_TRIGGERS, Passed};
-use crate::trigger::Trigger;
+use crate::trigger::AttachedSnapshot;
 use std::alloc::Global;
 use trace_buffer::CPUS;
 use trace_filter::Filter;
@@ -55,9 +55,9 @@ pub enum InstanceChange {
 pub enum TriggerChange {
     Keep,
     /// Attaches this snapshot trigger, making a spare side if there is none.
-    Attach(Trigger),
+    AttachSnapshot(AttachedSnapshot),
     /// Removes the snapshot trigger.
-    Detach,
+    DetachSnapshot,
     /// Attaches a hist trigger to an existing table.
     AttachHist(AttachedHist),
     /// Attaches a hist trigger with a table of its own.

@@ -12,7 +12,7 @@ use crate::trigger::passes;
 use crate::trigger_list::TriggerList;
 use std::alloc::Global;
 use trace_filter::Filter;
-use trace_format::Row;
+use trace_format::Emission;
 
 /// An event in an instance: whether it is enabled, its filter and its triggers. An emission reads one of these in each instance.
 #[derive(Drop)]
@@ -36,19 +36,19 @@ impl InstanceEvent {
 
     /// Whether an emission is recorded, if the instance records: the event is enabled and its filter passes.
     #[inline(always)]
-    pub(crate) fn records(&self, row: &Row, cpu: u32, pid: i32) -> bool
-        ensures { result ≡ (self.now.enabled && kept_holds self.now.filter row.now cpu pid) }
+    pub(crate) fn records(&self, emission: &Emission) -> bool
+        ensures { result ≡ (self.now.enabled && kept_holds self.now.filter emission.now) }
     {
-        self.enabled && passes(self.filter.as_ref(), row, cpu, pid)
+        self.enabled && passes(self.filter.as_ref(), emission)
     }
 
     /// Whether an emission makes the snapshot trigger act.
     #[inline(always)]
-    pub(crate) fn fires(&self, row: &Row, cpu: u32, pid: i32) -> bool
-        ensures { result ≡ kept_acts self.now.triggers.snapshot row.now cpu pid }
+    pub(crate) fn fires(&self, emission: &Emission) -> bool
+        ensures { result ≡ kept_acts self.now.triggers.snapshot emission.now }
     {
         match self.triggers.snapshot() {
-            Some(trigger) => trigger.acts(row, cpu, pid),
+            Some(trigger) => trigger.acts(emission),
             None => false,
         }
     }
@@ -69,7 +69,7 @@ pub(crate) fn some_off(events: &[InstanceEvent]) -> bool
 }
 
 /// Whether any event has a snapshot trigger.
-pub(crate) fn has_trigger(events: &[InstanceEvent]) -> bool
+pub(crate) fn has_snapshot_trigger(events: &[InstanceEvent]) -> bool
     ensures { result ≡ list_any (λ (e : Kept). is_some e.triggers.snapshot) events.now }
 {
     events

@@ -1,6 +1,7 @@
 //! A hist trigger as an instance keeps it (histogram.rst, "hist triggers").
 
 ghost use Rattle.std.specs.Prelude.{◌≡◌, true, is_some};
+ghost use Rattle.trace_trigger.specs.SameSpecs.{is_passed};
 ghost use Rattle.trace_instance.specs.private.Commands.{shown_attached};
 ghost use Rattle.trace_instance.specs.private.SharedTables as sharing;
 ghost use Rattle.trace_instance.specs.KeptHists as kept;
@@ -9,6 +10,7 @@ ghost use Rattle.trace_text.specs.ShownTriggers.{shown_trigger};
 
 use crate::tables;
 use crate::tables::Table;
+use trace_format::Emission;
 use trace_hist::{HistSpec, SharedSpec};
 use trace_text::Shown;
 
@@ -38,6 +40,13 @@ impl AttachedHist {
             Some(hist) => Shown::Hist(&self.spec, hist),
             None => unreachable!(),
         }
+    }
+
+    /// Whether an emission of its event passes its filter, if it has one.
+    pub(crate) fn passes(&self, emission: &Emission) -> bool
+        ensures { result ≡ is_passed self.now.spec.filter emission.now }
+    {
+        self.spec.passes(emission.row, emission.cpu, emission.pid)
     }
 
     /// Whether it matches: the same name, keys, values, sort keys and filter.

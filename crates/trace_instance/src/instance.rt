@@ -19,7 +19,7 @@ use crate::change::{InstanceChange, NewHist, TriggerChange};
 use crate::event::InstanceEvent;
 use crate::hists::AttachedHist;
 use crate::tables::Table;
-use crate::trigger::{EventTrigger, Trigger};
+use crate::trigger::{AttachedSnapshot, EventTrigger};
 use crate::{event, tables};
 use page_ring::RingStats;
 use std::alloc::{AllocError, Global};
@@ -146,10 +146,10 @@ impl Instance {
 
     /// Whether any event has a snapshot trigger.
     #[tactic(auto, using(crate::proofs::EachEvent::each_event))]
-    pub(crate) fn has_trigger(&self) -> bool
+    pub(crate) fn has_snapshot_trigger(&self) -> bool
         ensures { result ≡ list_any is_some self.now.triggers }
     {
-        event::has_trigger(&self.events)
+        event::has_snapshot_trigger(&self.events)
     }
 
     /// Whether records may overwrite older ones.
@@ -287,8 +287,8 @@ impl Instance {
     {
         match change {
             TriggerChange::Keep => self.events[event].triggers.keep(append),
-            TriggerChange::Attach(trigger) => self.arm(event, append, trigger)?,
-            TriggerChange::Detach => self.events[event].triggers.detach(append),
+            TriggerChange::AttachSnapshot(trigger) => self.arm(event, append, trigger)?,
+            TriggerChange::DetachSnapshot => self.events[event].triggers.detach_snapshot(append),
             TriggerChange::AttachHist(attached) => self.join(event, append, attached)?,
             TriggerChange::MakeHist(made) => self.make(event, append, made)?,
             TriggerChange::DetachHist(spec) => {
@@ -303,11 +303,16 @@ impl Instance {
     }
 
     // Attaches a snapshot trigger, making a spare side if there is none.
-    fn arm(&mut self, event: usize, append: bool, trigger: Trigger) -> Result<(), AllocError>
+    fn arm(
+        &mut self,
+        event: usize,
+        append: bool,
+        trigger: AttachedSnapshot,
+    ) -> Result<(), AllocError>
         requires triggers { event < length self.old.triggers }
         requires hists { event < length self.old.hists }
-        requires possible { changes.IsPossible (attaching.Attach trigger) (slice_index_or self.old.triggers event None) (if append then slice_index_or self.old.hists event [] else []) }
-        ensures armed { OnOk result (AreSet event append (attaching.Attach trigger) self.old self.new) }
+        requires possible { changes.IsPossible (attaching.AttachSnapshot trigger) (slice_index_or self.old.triggers event None) (if append then slice_index_or self.old.hists event [] else []) }
+        ensures armed { OnOk result (AreSet event append (attaching.AttachSnapshot trigger) self.old self.new) }
         ensures refused { OnErr result (self.new ≡ self.old) }
     {
         let triggers = &mut self.events[event].triggers;

@@ -25,6 +25,6 @@ pub use instance::Instance;
 pub use plan::{Plan, Touched};
 pub use read::{FileSource, Shown, declarations, read_file};
 pub use tables::Table;
-pub use trigger::Trigger;
+pub use trigger::AttachedSnapshot;
 pub use waiting::has_waiting;
 pub use write::{WrittenText, written_change};

@@ -22,8 +22,10 @@ ghost use Rattle.trace_instance.specs.Files.{IsThere, file_at, name_at};
 use crate::change::InstanceChange;
 use crate::file::{File, event_at};
 use crate::instance::Instance;
-use crate::text::{filter_text, flag_text, mixture_text, option_text, push_declarations};
-use record_text::{format_text, pipe_text, snapshot_text, stats_text, trace_text};
+use crate::text::{filter_text, flag_text, mixture_text, option_text};
+use record_text::{
+    declaration_text, format_text, pipe_text, snapshot_text, stats_text, trace_text,
+};
 use std::alloc::{AllocError, Global};
 use trace_buffer::count_each;
 use trace_command::{CpuFile, EventFile, Refusal, Reply, TopFile};
@@ -151,15 +153,7 @@ fn trace(alloc: Global, source: FileSource<'_>, cpu: Option<u32>) -> Result<Text
         → IsSource g name past source.entry
         → IfOk result (λ text. text ≡ file_texts.shown_trace g name past cpu) }
 {
-    let mut out = Vec::new(alloc);
-    trace_text(
-        alloc,
-        source.catalog,
-        source.instance.buffer(),
-        cpu,
-        &mut out,
-    )?;
-    Ok(Text::from(out))
+    trace_text(alloc, source.catalog, source.instance.buffer(), cpu)
 }
 
 #[tactic(auto, unfolding(tracer_specification::specs::FileTexts::cpu_stats_text))]
@@ -169,9 +163,7 @@ fn stats(alloc: Global, source: FileSource<'_>, cpu: u32) -> Result<Text, AllocE
         → IsSource g name past source.entry
         → IfOk result (λ text. text ≡ file_texts.cpu_stats_text g name past cpu) }
 {
-    let mut out = Vec::new(alloc);
-    stats_text(alloc, source.instance.stats(cpu), source.clock, &mut out)?;
-    Ok(Text::from(out))
+    stats_text(alloc, source.instance.stats(cpu), source.clock)
 }
 
 fn format(alloc: Global, catalog: &Catalog, event: usize) -> Result<Text, AllocError>
@@ -180,9 +172,7 @@ fn format(alloc: Global, catalog: &Catalog, event: usize) -> Result<Text, AllocE
     ensures { (d : Definition) → IfOk result (λ text. text
         ≡ texts.format_text (event + 1) (slice_index_or catalog.now event d)) }
 {
-    let mut out = Vec::new(alloc);
-    format_text(alloc, event as u16 + 1, event_at(catalog, event), &mut out)?;
-    Ok(Text::from(out))
+    format_text(alloc, event as u16 + 1, event_at(catalog, event))
 }
 
 // What the spare side holds.
@@ -192,9 +182,7 @@ fn snapshot(alloc: Global, source: FileSource<'_>) -> Result<Text, AllocError>
         → IsSource g name past source.entry
         → IfOk result (λ text. text ≡ file_texts.shown_snapshot g name past) }
 {
-    let mut out = Vec::new(alloc);
-    snapshot_text(alloc, source.catalog, source.instance.sides(), &mut out)?;
-    Ok(Text::from(out))
+    snapshot_text(alloc, source.catalog, source.instance.sides())
 }
 
 // The triggers of an event, in the order in which they were attached.
@@ -207,9 +195,7 @@ fn triggers(alloc: Global, instance: &Instance, event: usize) -> Result<Text, Al
 {
     let kept = instance.event(event);
     let shown = kept.triggers.shown(alloc, instance.tables())?;
-    let mut out = Vec::new(alloc);
-    trigger_text(alloc, &shown, &mut out)?;
-    Ok(Text::from(out))
+    trigger_text(alloc, &shown)
 }
 
 // The hist triggers of an event with their entries and totals.
@@ -221,9 +207,7 @@ fn histograms(alloc: Global, instance: &Instance, event: usize) -> Result<Text, 
 {
     let kept = instance.event(event);
     let shown = kept.triggers.shown(alloc, instance.tables())?;
-    let mut out = Vec::new(alloc);
-    hist_text(alloc, &shown, &mut out)?;
-    Ok(Text::from(out))
+    hist_text(alloc, &shown)
 }
 
 /// The declarations of all events, one on each line.
@@ -234,7 +218,10 @@ pub fn declarations(alloc: Global, catalog: &Catalog) -> Result<Text, AllocError
         → IfOk result (λ text. text ≡ file_texts.declarations_text past) }
 {
     let mut out = Vec::new(alloc);
-    push_declarations(alloc, catalog, &mut out)?;
+    for i in 0..catalog.len() {
+        let line = declaration_text(alloc, event_at(catalog, i))?;
+        out.extend_from_slice(line.as_bytes())?;
+    }
     Ok(Text::from(out))
 }
 
@@ -253,11 +240,10 @@ fn read_pipe(alloc: Global, source: FileSource<'_>, limit: Option<u64>) -> Resul
     let _cpus = buffer.cpus();
     let most = limit.unwrap_or(u64::MAX);
     let taken = buffer.preview_any(most)?;
-    let mut out = Vec::new(alloc);
-    pipe_text(alloc, source.catalog, &taken, &mut out)?;
+    let text = pipe_text(alloc, source.catalog, &taken)?;
     Ok(Shown {
         change: InstanceChange::Take(count_each(&taken)),
-        reply: Reply::Text(Text::from(out)),
+        reply: Reply::Text(text),
     })
 }
 
@@ -276,10 +262,9 @@ fn read_cpu_pipe(
 {
     let most = limit.unwrap_or(u64::MAX);
     let taken = source.instance.buffer().preview_cpu(cpu, most)?;
-    let mut out = Vec::new(alloc);
-    pipe_text(alloc, source.catalog, &taken, &mut out)?;
+    let text = pipe_text(alloc, source.catalog, &taken)?;
     Ok(Shown {
         change: InstanceChange::TakeCpu(cpu, most),
-        reply: Reply::Text(Text::from(out)),
+        reply: Reply::Text(text),
     })
 }

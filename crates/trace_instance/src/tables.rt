@@ -12,7 +12,7 @@ ghost use Rattle.trace_instance.specs.declared.tables.Table.{Table as TableSeen}
 use crate::event;
 use crate::event::InstanceEvent;
 use std::alloc::AllocError;
-use trace_format::Row;
+use trace_format::Emission;
 use trace_hist::{Action, Hist, HistSpec};
 
 /// A table, with the number by which triggers know it: that of the request that made it with its first trigger.
@@ -67,34 +67,30 @@ pub(crate) fn reserve(
     tables: &mut [Table],
     number: u64,
     by: &HistSpec,
-    row: &Row,
-    cpu: u32,
-    pid: i32,
+    emission: &Emission,
 ) -> Result<(), AllocError>
     ensures alike { (other : ℕ) → kept_at other tables.new ≡ kept_at other tables.old }
     ensures others { (other : ℕ) → (other ≡ number → ⊥) → table_numbered other tables.new ≡ table_numbered other tables.old }
     ensures ready { OnOk result (IfSome (table_numbered number tables.new)
-        (λ hist. IsReservedAs hist by.now (record { values = row.now.values; cpu = cpu; pid = pid }))) }
-    ensures memory { OnErr result (kept.NeedsMemoryIn by.now (record { values = row.now.values; cpu = cpu; pid = pid })
-        (table_numbered number tables.old)) }
+        (λ hist. IsReservedAs hist by.now emission.now)) }
+    ensures memory { OnErr result (kept.NeedsMemoryIn by.now emission.now (table_numbered number tables.old)) }
 {
     let Some(index) = index_of(tables, number) else {
         return Ok(());
     };
-    tables[index].hist.reserve_hit_as(by, row, cpu, pid)
+    tables[index].hist.reserve_hit_as(by, emission)
 }
 
 /// Counts a row in the table with this number, as a trigger reads it.
-pub(crate) fn hit(tables: &mut [Table], number: u64, by: &HistSpec, row: &Row, cpu: u32, pid: i32)
+pub(crate) fn hit(tables: &mut [Table], number: u64, by: &HistSpec, emission: &Emission)
     requires ready { IfSome (table_numbered number tables.old)
-        (λ hist. IsReservedAs hist by.now (record { values = row.now.values; cpu = cpu; pid = pid })) }
+        (λ hist. IsReservedAs hist by.now emission.now) }
     requires few { IfSome (table_numbered number tables.old) HasRoom }
-    ensures hit { steps.IsCounted by.now (record { values = row.now.values; cpu = cpu; pid = pid })
-        (table_numbered number tables.old) (table_numbered number tables.new) }
+    ensures hit { steps.IsCounted by.now emission.now (table_numbered number tables.old) (table_numbered number tables.new) }
     ensures others { (other : ℕ) → (other ≡ number → ⊥) → table_numbered other tables.new ≡ table_numbered other tables.old }
 {
     if let Some(index) = index_of(tables, number) {
-        tables[index].hist.hit_as(by, row, cpu, pid);
+        tables[index].hist.hit_as(by, emission);
     }
 }
 

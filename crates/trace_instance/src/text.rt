@@ -1,16 +1,11 @@
 //! The short strings that files show.
 
-ghost use Rattle.std.specs.Prelude.{◌≡◌, ◌≤◌, ◌++◌, length, option_copied, IfOk, OnOk};
-ghost use Rattle.std.specs.List.{flat_map};
+ghost use Rattle.std.specs.Prelude.{◌≡◌, option_copied, IfOk};
 ghost use Rattle.tracer_specification.specs.FileTexts as file_texts;
-ghost use Rattle.record_text.specs.DeclarationText as texts;
 ghost use Rattle.trace_instance.specs.private.Commands.{shown_filter};
 
-use crate::file::event_at;
-use record_text::declaration_text;
 use std::alloc::{AllocError, Global};
 use trace_filter::Filter;
-use trace_format::Catalog;
 use trace_lex::Text;
 
 /// The text of a switch.
@@ -61,19 +56,4 @@ pub(crate) fn filter_text(alloc: Global, filter: Option<&Filter>) -> Result<Text
     let mut text = Vec::from_slice(alloc, filter.text())?;
     text.push(b'\n')?;
     Ok(Text::from(text))
-}
-
-/// Appends the declarations of all events.
-pub(crate) fn push_declarations(
-    alloc: Global,
-    events: &Catalog,
-    out: &mut Vec<u8>,
-) -> Result<(), AllocError>
-    requires { length events.now ≤ 64 }
-    ensures { OnOk result (out.new.items ≡ out.old.items ++ flat_map texts.declaration_text events.now) }
-{
-    for i in 0..events.len() {
-        declaration_text(alloc, event_at(events, i), out)?;
-    }
-    Ok(())
 }

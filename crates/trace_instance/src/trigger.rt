@@ -12,25 +12,25 @@ ghost use Rattle.trace_text.specs.ShownTriggers.{shown_trigger};
 use crate::hists::AttachedHist;
 use crate::tables::Table;
 use trace_filter::Filter;
-use trace_format::Row;
+use trace_format::Emission;
 use trace_text::Shown;
 use trace_trigger::SnapshotTrigger;
 
 /// A trigger that takes a snapshot for each emission of its event that passes its filter: this many more times, or without limit.
 #[derive(Drop)]
-pub struct Trigger {
+pub struct AttachedSnapshot {
     /// How many requests had been done before the one that attached it.
     pub number: u64,
     pub left: Option<u32>,
     pub filter: Option<Filter>,
 }
 
-impl Trigger {
+impl AttachedSnapshot {
     /// The trigger that a string describes, attached by the request with this number.
-    pub(crate) fn new(number: u64, written: SnapshotTrigger) -> Trigger
+    pub(crate) fn new(number: u64, written: SnapshotTrigger) -> AttachedSnapshot
         ensures { result ≡ record { number = number; left = written.count; filter = written.filter } }
     {
-        Trigger {
+        AttachedSnapshot {
             number,
             left: written.count,
             filter: written.filter,
@@ -48,10 +48,10 @@ impl Trigger {
     }
 
     /// Whether the trigger acts on an emission of its event.
-    pub(crate) fn acts(&self, row: &Row, cpu: u32, pid: i32) -> bool
-        ensures { result ≡ kept_acts (Some self.now) row.now cpu pid }
+    pub(crate) fn acts(&self, emission: &Emission) -> bool
+        ensures { result ≡ kept_acts (Some self.now) emission.now }
     {
-        is_left(self.left) && passes(self.filter.as_ref(), row, cpu, pid)
+        is_left(self.left) && passes(self.filter.as_ref(), emission)
     }
 
     /// Counts down after the trigger acted.
@@ -67,13 +67,13 @@ impl Trigger {
 /// A trigger of either kind.
 #[derive(Drop)]
 pub(crate) enum EventTrigger {
-    Snapshot(Trigger),
+    Snapshot(AttachedSnapshot),
     Hist(AttachedHist),
 }
 
 impl EventTrigger {
     /// The snapshot trigger, if one was found.
-    pub(crate) fn snapshot(found: Option<&EventTrigger>) -> Option<&Trigger>
+    pub(crate) fn snapshot(found: Option<&EventTrigger>) -> Option<&AttachedSnapshot>
         ensures { option_copied result ≡ option_and_then lists.snapshot_of (option_copied found.entry) }
     {
         match found {
@@ -128,11 +128,11 @@ fn is_left(left: Option<u32>) -> bool
 
 /// Whether an emission passes a filter, if there is one.
 #[tactic(auto, unfolding(crate::specs::Rows::kept_holds))]
-pub(crate) fn passes(filter: Option<&Filter>, row: &Row, cpu: u32, pid: i32) -> bool
-    ensures { result ≡ kept_holds (option_copied filter.entry) row.now cpu pid }
+pub(crate) fn passes(filter: Option<&Filter>, emission: &Emission) -> bool
+    ensures { result ≡ kept_holds (option_copied filter.entry) emission.now }
 {
     match filter {
-        Some(filter) => filter.passes(row, cpu, pid),
+        Some(filter) => filter.passes(emission.row, emission.cpu, emission.pid),
         None => true,
     }
 }

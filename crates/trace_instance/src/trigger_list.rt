@@ -16,10 +16,10 @@ ghost use Rattle.trace_text.specs.ShownTriggers.{shown_trigger};
 use crate::hists::{AttachedHist, MOST_TRIGGERS, Passed};
 use crate::tables;
 use crate::tables::Table;
-use crate::trigger::{EventTrigger, Trigger};
+use crate::trigger::{AttachedSnapshot, EventTrigger};
 use std::alloc::{AllocError, Global};
 use std::marker::Model;
-use trace_format::Row;
+use trace_format::Emission;
 use trace_hist::HistSpec;
 use trace_text::Shown;
 
@@ -75,7 +75,7 @@ impl TriggerList {
         }
     }
 
-    pub(crate) fn snapshot(&self) -> Option<&Trigger>
+    pub(crate) fn snapshot(&self) -> Option<&AttachedSnapshot>
         ensures { option_copied result ≡ self.now.snapshot }
     {
         EventTrigger::snapshot(self.triggers.iter().find(|trigger| trigger.is_snapshot()))
@@ -124,7 +124,7 @@ impl TriggerList {
     }
 
     /// Removes the snapshot trigger, and the hist triggers unless the string is appended.
-    pub(crate) fn detach(&mut self, append: bool)
+    pub(crate) fn detach_snapshot(&mut self, append: bool)
         ensures snapshot { self.new.snapshot ≡ None }
         ensures hists { self.new.hists ≡ (if append then self.old.hists else []) }
     {
@@ -198,16 +198,14 @@ impl TriggerList {
     pub(crate) fn reserve(
         &self,
         tables: &mut [Table],
-        row: &Row,
-        cpu: u32,
-        pid: i32,
+        emission: &Emission,
     ) -> Result<Passed, AllocError>
         requires agree { kept.KeysAgree self.now.hists }
-        ensures passed { IfOk result (λ passed. passed ≡ kept.passed (record { values = row.now.values; cpu = cpu; pid = pid }) self.now.hists) }
+        ensures passed { IfOk result (λ passed. passed ≡ kept.passed emission.now self.now.hists) }
         ensures alike { (number : ℕ) → kept_at number tables.new ≡ kept_at number tables.old }
-        ensures ready { OnOk result (All (kept.CanCount (record { values = row.now.values; cpu = cpu; pid = pid }) tables.new) self.now.hists) }
+        ensures ready { OnOk result (All (kept.CanCount emission.now tables.new) self.now.hists) }
         // Memory is taken, and may be refused, only for a new entry in the table of one of them.
-        ensures memory { OnErr result (Any (kept.NeedsMemory (record { values = row.now.values; cpu = cpu; pid = pid }) tables.old) self.now.hists) }
+        ensures memory { OnErr result (Any (kept.NeedsMemory emission.now tables.old) self.now.hists) }
     {
         let mut passed = [false; MOST_TRIGGERS];
         let mut k = 0;
@@ -215,9 +213,9 @@ impl TriggerList {
             match trigger {
                 EventTrigger::Snapshot(_) => {}
                 EventTrigger::Hist(hist) => {
-                    let passes = hist.spec.passes(row, cpu, pid);
+                    let passes = hist.passes(emission);
                     if passes {
-                        tables::reserve(tables, hist.table, &hist.spec, row, cpu, pid)?;
+                        tables::reserve(tables, hist.table, &hist.spec, emission)?;
                     }
                     passed[k] = passes;
                     k += 1;
@@ -228,12 +226,12 @@ impl TriggerList {
     }
 
     /// Counts a row in the table of each hist trigger whose filter it passes, unless that table is paused.
-    pub(crate) fn hit(&self, tables: &mut [Table], passed: &Passed, row: &Row, cpu: u32, pid: i32)
+    pub(crate) fn hit(&self, tables: &mut [Table], passed: &Passed, emission: &Emission)
         requires agree { kept.KeysAgree self.now.hists }
-        requires passed { passed.now ≡ kept.passed (record { values = row.now.values; cpu = cpu; pid = pid }) self.now.hists }
-        requires ready { All (kept.CanCount (record { values = row.now.values; cpu = cpu; pid = pid }) tables.old) self.now.hists }
+        requires passed { passed.now ≡ kept.passed emission.now self.now.hists }
+        requires ready { All (kept.CanCount emission.now tables.old) self.now.hists }
         requires few { All (kept.HasRoomToCount tables.old) self.now.hists }
-        ensures { kept.AreHit (record { values = row.now.values; cpu = cpu; pid = pid }) self.now.hists tables.old tables.new }
+        ensures { kept.AreHit emission.now self.now.hists tables.old tables.new }
     {
         let mut k = 0;
         for trigger in &self.triggers {
@@ -241,7 +239,7 @@ impl TriggerList {
                 EventTrigger::Snapshot(_) => {}
                 EventTrigger::Hist(hist) => {
                     if passed[k] {
-                        tables::hit(tables, hist.table, &hist.spec, row, cpu, pid);
+                        tables::hit(tables, hist.table, &hist.spec, emission);
                     }
                     k += 1;
                 }

@@ -184,7 +184,7 @@ fn written_snapshot(instance: &Instance, text: &[u8]) -> Result<InstanceChange, 
 {
     match written_number(text) {
         None => Err(Refusal::BadValue),
-        Some(0) if instance.has_trigger() => Err(Refusal::Busy),
+        Some(0) if instance.has_snapshot_trigger() => Err(Refusal::Busy),
         Some(0) => Ok(InstanceChange::FreeSpare),
         Some(1) => Ok(InstanceChange::TakeSnapshot),
         Some(_) => Ok(InstanceChange::ClearSpare),

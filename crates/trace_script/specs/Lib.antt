@@ -2,6 +2,7 @@ pub mod Outcomes
 pub mod Tokens
 pub mod Grammar
 pub mod Lines
+pub mod Changes
 pub mod Commands
 pub mod PlainEmissions
 pub mod PlainReads

@@ -2,6 +2,7 @@
 #![tactic(auto)]
 
 mod bytes;
+mod change;
 mod command;
 mod emission;
 mod fault;
@@ -17,6 +18,7 @@ mod token;
 mod tokens;
 mod word;
 
+pub use change::{Change, change_of};
 pub use command::writes_are_as_written;
 pub use emission::{EmissionHead, plain_emission};
 pub use fault::{LineError, ScriptFault};

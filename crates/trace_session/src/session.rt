@@ -16,7 +16,7 @@ use crate::device::Sink;
 use crate::environment::Environment;
 use crate::replies::Replies;
 use crate::status::Status;
-use crate::step::{do_emission, do_item, do_read};
+use crate::step::{EmissionItem, do_emission, do_item, do_read};
 use script_reader::item::next_item;
 use script_reader::plain::{plain_item, read_item};
 use script_reader::{MOST_SCRIPT_BYTES, Source, Stop, read_script};
@@ -81,15 +81,13 @@ fn do_items<B: SharedBook + Send, R: Threads + Wait + Sync, W: Sink, G: Gate + S
             return Err(Stop::Memory);
         };
         if let Some(plain) = found {
-            let (back, done) = do_emission(
-                env,
-                pass,
+            let item = EmissionItem {
                 number,
-                &plain,
-                pairs.as_slice(),
-                replies,
-                writer,
-            );
+                line: plain.line,
+                head: plain.head,
+                pairs: pairs.as_slice(),
+            };
+            let (back, done) = do_emission(env, pass, &item, replies, writer);
             pass = back;
             status = with_item(status, done?);
             number += 1;

@@ -34,7 +34,7 @@ use script_reader::Stop;
 use script_reader::item::ItemRead;
 use script_reader::part::FaultAt;
 use script_reader::part_line::PartLine;
-use script_reader::plain::{PlainItem, ReadItem};
+use script_reader::plain::ReadItem;
 use shared_book::SharedBook;
 use std::alloc::Global;
 use std::sync::Wait;
@@ -42,8 +42,24 @@ use std::thread;
 use ticket_lock::Pass;
 use trace_command::{Refusal, Reply};
 use trace_format::BorrowedPair;
-use trace_script::{Line, Outcome, ScriptFault};
+use trace_script::{EmissionHead, Line, Outcome, ScriptFault};
 use trace_workers::Gate;
+
+/// A line, or the lines of a part, with the number of the first.
+#[derive(Clone, Copy)]
+struct NumberedText<'a> {
+    number: usize,
+    text: &'a [u8],
+}
+
+/// An emission by itself, with the number of its line.
+#[derive(Drop)]
+pub(crate) struct EmissionItem<'a> {
+    pub number: usize,
+    pub line: &'a [u8],
+    pub head: EmissionHead<'a>,
+    pub pairs: &'a [BorrowedPair<'a>],
+}
 
 /// Whether a command was done and has nothing to show, and the writer hears nothing.
 #[inline(always)]
@@ -61,28 +77,26 @@ fn is_silent<W: Sink>(answer: &Result<Reply, Refusal>, writer: &W) -> bool
 pub(crate) fn do_emission<B: SharedBook, R: Wait, W: Sink, G>(
     env: &Environment<'_, B, R, G>,
     pass: Pass<B>,
-    number: usize,
-    plain: &PlainItem<'_>,
-    pairs: &[BorrowedPair<'_>],
+    item: &EmissionItem<'_>,
     replies: &mut Replies,
     writer: &mut W,
 ) -> (Pass<B>, Result<Status, Stop>)
     requires of { IsOf env.now.lock.now pass }
     requires session { (g : Config) × IsSessionPass g (view_of pass) }
-    requires says { line_of plain.now.line.now ≡ emission_said plain.now.head pairs.now }
+    requires says { line_of item.now.line.now ≡ emission_said item.now.head item.now.pairs.now }
     ensures of { IsOf env.now.lock.now result.0 }
     ensures session { (g : Config) → IsSessionPass g (view_of pass) → IsSessionPass g (view_of result.0) }
-    ensures run { IsLineRun W.wants_first number plain.now.line.now
+    ensures run { IsLineRun W.wants_first item.now.number item.now.line.now
         (λ g. IsSessionPass g (view_of pass)) (progress_of (view_of pass)) (progress_of (view_of result.0))
         (outlet (W.contents writer.old) (W.failures writer.old) (W.heard writer.old) replies.old)
         (outlet (W.contents writer.new) (W.failures writer.new) (W.heard writer.new) replies.new) result.1 }
     ensures faultless { IfOk result.1 (λ status. status ≢ Status.Fault) }
 {
-    let (pass, answer) = ask_emission_line(env.rt, env.lock, pass, plain.head, pairs);
+    let (pass, answer) = ask_emission_line(env.rt, env.lock, pass, item.head, item.pairs);
     if is_silent(&answer, writer) {
         return (pass, Ok(Status::Done));
     }
-    let given = give_answer(env.alloc, number, plain.line, answer, replies, writer);
+    let given = give_answer(env.alloc, item.number, item.line, answer, replies, writer);
     (pass, given)
 }
 
@@ -122,18 +136,17 @@ pub(crate) fn do_read<B: SharedBook, R: Wait, W: Sink, G>(
 fn do_line<B: SharedBook, R: Wait, W: Sink, G>(
     env: &Environment<'_, B, R, G>,
     pass: Pass<B>,
-    number: usize,
-    line: &[u8],
+    line: NumberedText<'_>,
     said: Result<Line, ScriptFault>,
     replies: &mut Replies,
     writer: &mut W,
 ) -> (Pass<B>, Result<Status, Stop>)
     requires of { IsOf env.now.lock.now pass }
     requires session { (g : Config) × IsSessionPass g (view_of pass) }
-    requires says { said ≡ line_of line.now }
+    requires says { said ≡ line_of line.text.now }
     ensures of { IsOf env.now.lock.now result.0 }
     ensures session { (g : Config) → IsSessionPass g (view_of pass) → IsSessionPass g (view_of result.0) }
-    ensures run { IsLineRun W.wants_first number line.now
+    ensures run { IsLineRun W.wants_first line.entry.number line.entry.text.now
         (λ g. IsSessionPass g (view_of pass)) (progress_of (view_of pass)) (progress_of (view_of result.0))
         (outlet (W.contents writer.old) (W.failures writer.old) (W.heard writer.old) replies.old)
         (outlet (W.contents writer.new) (W.failures writer.new) (W.heard writer.new) replies.new) result.1 }
@@ -142,19 +155,18 @@ fn do_line<B: SharedBook, R: Wait, W: Sink, G>(
     match asked {
         Ok(outcome) => (
             pass,
-            give(env.alloc, number, line, &outcome, replies, writer),
+            give(env.alloc, line.number, line.text, &outcome, replies, writer),
         ),
         Err(stop) => (pass, Err(stop)),
     }
 }
 
-/// Runs a part, and writes its output once all its commands have run. The string begins with the part's first line, which has this number.
+/// Runs a part, and writes its output once all its commands have run. The number is that of the part's first line.
 #[tactic(auto, using(crate::proofs::Hearing::told_in_order))]
 fn do_part<B: SharedBook + Send, R: thread::Threads + Wait + Sync, W: Sink, G: Gate + Sync>(
     env: &Environment<'_, B, R, G>,
     pass: Pass<B>,
-    number: usize,
-    text: &[u8],
+    part: NumberedText<'_>,
     threads: Vec<Vec<PartLine<'_>>>,
     replies: &mut Replies,
     writer: &mut W,
@@ -162,11 +174,11 @@ fn do_part<B: SharedBook + Send, R: thread::Threads + Wait + Sync, W: Sink, G: G
     requires of { IsOf env.now.lock.now pass }
     requires session { (g : Config) × IsSessionPass g (view_of pass) }
     requires few { vec_len threads ≤ 8 }
-    requires lines { AreInOrder number number (lines_of text.now) (numbers_in (commands_in threads.items)) }
+    requires lines { AreInOrder part.number part.number (lines_of part.text.now) (numbers_in (commands_in threads.items)) }
     ensures of { IsOf env.now.lock.now result.0 }
     ensures session { (g : Config) → IsSessionPass g (view_of pass) → IsSessionPass g (view_of result.0) }
     ensures done { IfOk result.1 (λ status. (g : Config) → IsSessionPass g (view_of pass)
-        → GivesItem g W.wants_first number (reads.Threads text.entry threads.entry) (progress_of (view_of pass)) (progress_of (view_of result.0)) status
+        → GivesItem g W.wants_first part.entry.number (reads.Threads part.entry.text threads.entry) (progress_of (view_of pass)) (progress_of (view_of result.0)) status
         (W.contents writer.old) replies.old (W.contents writer.new) replies.new (W.heard writer.old) (W.heard writer.new)) }
     ensures failures { OnOk result.1 (W.failures writer.new ≡ W.failures writer.old) }
     ensures memory { IsErrOf result.1 Stop.Memory
@@ -189,7 +201,10 @@ fn do_part<B: SharedBook + Send, R: thread::Threads + Wait + Sync, W: Sink, G: G
 {
     let (pass, ran) = run_part(env, pass, threads, writer.hears());
     match ran {
-        Ok(written) => (pass, give_part(number, text, written, replies, writer)),
+        Ok(written) => (
+            pass,
+            give_part(part.number, part.text, written, replies, writer),
+        ),
         Err(stop) => (pass, Err(stop)),
     }
 }
@@ -266,9 +281,13 @@ pub(crate) fn do_item<
     ensures unheard { OnErr result.1 (W.heard writer.new ≡ W.heard writer.old) }
 {
     match item {
-        ItemRead::Line { line, said } => do_line(env, pass, number, line, said, replies, writer),
+        ItemRead::Line { line, said } => {
+            let line = NumberedText { number, text: line };
+            do_line(env, pass, line, said, replies, writer)
+        }
         ItemRead::Threads { text, threads } => {
-            do_part(env, pass, number, text, threads, replies, writer)
+            let part = NumberedText { number, text };
+            do_part(env, pass, part, threads, replies, writer)
         }
         ItemRead::Fault { at, line } => (pass, do_fault(env.alloc, at, line, replies, writer)),
     }

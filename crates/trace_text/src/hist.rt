@@ -1,6 +1,6 @@
 //! The text of an event's `hist` file.
 
-ghost use Rattle.std.specs.Prelude.{◌≡◌, ◌++◌, codes, map, OnOk, OnErr};
+ghost use Rattle.std.specs.Prelude.{◌≡◌, ◌++◌, codes, map, IfOk, OnOk};
 ghost use Rattle.std.specs.List.{flat_map, filter_map, join_by};
 ghost use Rattle.hist_entries.specs.PrintOrder.{row_in, printed};
 ghost use Rattle.trace_text.specs.EntryText.{entry_line};
@@ -10,8 +10,9 @@ ghost use Rattle.trace_text.specs.ShownTriggers.{shown_hist, shown_trigger};
 use crate::entry::push_entry_line;
 use crate::hist_line::push_hist_line;
 use crate::trigger::Shown;
-use record_text::append::{append_text, push, push_number, push_three};
+use record_text::append::{push, push_number, push_three};
 use std::alloc::{AllocError, Global};
+use trace_format::Text;
 use trace_hist::{Hist, HistRow, HistSpec};
 
 /// Appends the lines before the entries, which show the trigger.
@@ -98,18 +99,14 @@ fn push_hists(out: &mut Vec<u8>, shown: &[Shown<'_>]) -> Result<(), AllocError>
     Ok(())
 }
 
-/// Appends what an event's `hist` file shows ("hist triggers" of histogram.rst): each hist trigger of `shown` with its entries in print order and
+/// What an event's `hist` file shows ("hist triggers" of histogram.rst): each hist trigger of `shown` with its entries in print order and
 /// its totals, with an empty line between each two, in the order of `shown`, which is to be that in which they were attached. Without a hist
-/// trigger it appends nothing.
-///
-/// It is refused only if it runs out of memory, and `out` is then as it was.
+/// trigger it is empty.
 #[tactic(auto, unfolding(crate::specs::HistText::hist_text))]
-pub fn hist_text(alloc: Global, shown: &[Shown<'_>], out: &mut Vec<u8>) -> Result<(), AllocError>
-    ensures text { OnOk result (out.new.items
-        ≡ out.old.items ++ texts.hist_text (map shown_trigger shown.now)) }
-    ensures refused { OnErr result (out.new.items ≡ out.old.items) }
+pub fn hist_text(alloc: Global, shown: &[Shown<'_>]) -> Result<Text, AllocError>
+    ensures { IfOk result (λ text. text ≡ texts.hist_text (map shown_trigger shown.now)) }
 {
     let mut text = Vec::new(alloc);
     push_hists(&mut text, shown)?;
-    append_text(out, text)
+    Ok(Text::from(text))
 }

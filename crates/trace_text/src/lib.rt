@@ -1,7 +1,7 @@
 //! The texts of a tracer's files: an event's `trigger` and `hist`, after "Event triggers" of events.rst and "hist triggers" of histogram.rst, and all
 //! those of record_text.
 //!
-//! Each call appends its text to a vector. Where memory is refused, the vector is left as it was.
+//! Each call returns its text.
 #![tactic(auto)]
 
 mod entry;

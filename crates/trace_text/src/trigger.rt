@@ -1,13 +1,14 @@
 //! The text of an event's `trigger` file.
 
-ghost use Rattle.std.specs.Prelude.{◌≡◌, ◌++◌, map, codes, option_copied, OnOk, OnErr};
+ghost use Rattle.std.specs.Prelude.{◌≡◌, ◌++◌, map, codes, option_copied, IfOk, OnOk};
 ghost use Rattle.std.specs.List.{flat_map};
 ghost use Rattle.trace_text.specs.ShownTriggers.{shown_trigger};
 ghost use Rattle.trace_text.specs.TriggerText as texts;
 
 use crate::hist_line::{push_condition, push_hist_line};
-use record_text::append::{append_text, push, push_with_number};
+use record_text::append::{push, push_with_number};
 use std::alloc::{AllocError, Global};
+use trace_format::Text;
 use trace_hist::{Hist, HistSpec};
 
 /// A trigger as its event's files show it, `trigger` and `hist`.
@@ -73,31 +74,29 @@ fn push_trigger_lines(out: &mut Vec<u8>, shown: &[Shown<'_>]) -> Result<(), Allo
     Ok(())
 }
 
-/// Appends the lines of an event without a trigger, which name the kinds of triggers.
+/// The lines of an event without a trigger, which name the kinds of triggers.
 #[tactic(auto, unfolding(crate::specs::TriggerText::available_triggers))]
-fn push_available_triggers(out: &mut Vec<u8>) -> Result<(), AllocError>
-    ensures text { OnOk result (out.new.items ≡ out.old.items ++ texts.available_triggers) }
-    ensures refused { OnErr result (out.new.items ≡ out.old.items) }
+fn available_triggers(alloc: Global) -> Result<Text, AllocError>
+    ensures { IfOk result (λ text. text ≡ texts.available_triggers) }
 {
-    push(out, b"# Available triggers:\n# hist snapshot\n")
+    Text::from_slice(
+        alloc,
+        b"# Available triggers:\n# hist snapshot\n".as_slice(),
+    )
 }
 
-/// Appends what an event's `trigger` file shows ("Event triggers" of events.rst): a line for each trigger, in the order of `shown`, which is to be
+/// What an event's `trigger` file shows ("Event triggers" of events.rst): a line for each trigger, in the order of `shown`, which is to be
 /// that in which they were attached; or, if there is none, two lines that name the kinds of triggers. A hist trigger's line has the name of its table,
 /// if it has one, its lists as they were written, with `hitcount` first among the values, the size as it was rounded up, the filter, and whether it is
 /// paused.
-///
-/// It is refused only if it runs out of memory, and `out` is then as it was.
 #[tactic(auto, unfolding(crate::specs::TriggerText::trigger_text))]
-pub fn trigger_text(alloc: Global, shown: &[Shown<'_>], out: &mut Vec<u8>) -> Result<(), AllocError>
-    ensures text { OnOk result (out.new.items
-        ≡ out.old.items ++ texts.trigger_text (map shown_trigger shown.now)) }
-    ensures refused { OnErr result (out.new.items ≡ out.old.items) }
+pub fn trigger_text(alloc: Global, shown: &[Shown<'_>]) -> Result<Text, AllocError>
+    ensures { IfOk result (λ text. text ≡ texts.trigger_text (map shown_trigger shown.now)) }
 {
     if shown.is_empty() {
-        return push_available_triggers(out);
+        return available_triggers(alloc);
     }
     let mut text = Vec::new(alloc);
     push_trigger_lines(&mut text, shown)?;
-    append_text(out, text)
+    Ok(Text::from(text))
 }

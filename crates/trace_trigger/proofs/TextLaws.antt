@@ -15,8 +15,8 @@ use Rattle.trace_trigger.specs.declared.fault.TriggerFault.{TriggerFault}
 use Rattle.trace_trigger.specs.declared.fault.TriggerFault.TheVariants.{BadText}
 use Rattle.trace_trigger.specs.declared.trigger.SnapshotTrigger.{SnapshotTrigger}
 use Rattle.trace_trigger.specs.declared.trigger.TriggerText.{TriggerText}
-use Rattle.trace_trigger.specs.declared.trigger.TriggerText.TheVariants.{Nothing, Attach, Remove, Hist, RemoveHist}
-use Rattle.trace_trigger.specs.TriggerTexts.{after, word_of, after_word, count_of, condition_of, trigger_of, said_after, snapshot_said, begins, said_of}
+use Rattle.trace_trigger.specs.declared.trigger.TriggerText.TheVariants.{Nothing, AttachSnapshot, RemoveSnapshot, Hist, RemoveHist}
+use Rattle.trace_trigger.specs.TriggerTexts.{after, word_of, after_word, count_of, condition_of, snapshot_trigger_of, said_after, snapshot_said, begins, said_of}
 use Rattle.trace_trigger.specs.TriggerGrammar.{IsWritten, Writes}
 use Rattle.trace_trigger.specs.Laws.{WritesRemoval, IsBad}
 use Rattle.trace_trigger.proofs.FilterLaws.{filter_given, filter_refused, filter_found}
@@ -38,8 +38,8 @@ module _ (definition : Definition) (text : List ℕ) where
   trigger_as count read = record { count = count; filter = read }
 
   abbrev text_as : Bool → Option ℕ → Option Parsed → TriggerText
-  text_as true count read = Remove
-  text_as false count read = Attach (trigger_as count read)
+  text_as true count read = RemoveSnapshot
+  text_as false count read = AttachSnapshot (trigger_as count read)
 
   abbrev said_as : Bool → Option ℕ → Result (Option Parsed) TriggerFault → Result TriggerText TriggerFault
   said_as removes count read = read >>= λ only_if. Ok (text_as removes count only_if)
@@ -53,17 +53,17 @@ module _ (definition : Definition) (text : List ℕ) where
 
   -- ---- what is written so is read
 
-  trigger_is : (body : List ℕ) (count : Option ℕ) (condition : Option (List ℕ)) → IsBody body count condition → trigger_of definition text body ≡ (filter_of definition text condition >>= λ only_if. Ok (trigger_as count only_if))
-  unfolding trigger_of
+  trigger_is : (body : List ℕ) (count : Option ℕ) (condition : Option (List ℕ)) → IsBody body count condition → snapshot_trigger_of definition text body ≡ (filter_of definition text condition >>= λ only_if. Ok (trigger_as count only_if))
+  unfolding snapshot_trigger_of
   trigger_is body count condition is =
       (λ i. body_counts body count condition is i >>= λ count. condition_of (after_word body) >>= λ condition. filter_of definition text condition >>= λ only_if. Ok (trigger_as count only_if))
       ∙ (λ i. body_conditions body count condition is i >>= λ condition. filter_of definition text condition >>= λ only_if. Ok (trigger_as count only_if))
 
-  both_attach : (count : Option ℕ) (read : Result (Option Parsed) TriggerFault) → ((read >>= λ only_if. Ok (trigger_as count only_if)) >>= λ trigger. Ok (Attach trigger)) ≡ said_as false count read
+  both_attach : (count : Option ℕ) (read : Result (Option Parsed) TriggerFault) → ((read >>= λ only_if. Ok (trigger_as count only_if)) >>= λ trigger. Ok (AttachSnapshot trigger)) ≡ said_as false count read
   both_attach count (Ok read) = refl
   both_attach count (Err fault) = refl
 
-  both_remove : (count : Option ℕ) (read : Result (Option Parsed) TriggerFault) → ((read >>= λ only_if. Ok (trigger_as count only_if)) >>= λ trigger. Ok Remove) ≡ said_as true count read
+  both_remove : (count : Option ℕ) (read : Result (Option Parsed) TriggerFault) → ((read >>= λ only_if. Ok (trigger_as count only_if)) >>= λ trigger. Ok RemoveSnapshot) ≡ said_as true count read
   both_remove count (Ok read) = refl
   both_remove count (Err fault) = refl
 
@@ -118,12 +118,12 @@ module _ (definition : Definition) (text : List ℕ) where
   written_is true count condition is =
       let body : List ℕ = is.word ++ is.tail in
       apart_is (Some body) (is_apart true count condition is) (ap (after (codes "!")) (marked count condition is) ∙ after_append (codes "!") body)
-      ∙ ap (λ (r : Result SnapshotTrigger TriggerFault). r >>= λ trigger. Ok Remove) (trigger_is body count condition (body_of true count condition is))
+      ∙ ap (λ (r : Result SnapshotTrigger TriggerFault). r >>= λ trigger. Ok RemoveSnapshot) (trigger_is body count condition (body_of true count condition is))
       ∙ both_remove count (filter_of definition text condition)
   written_is false count condition is =
       let itself : IsBody text count condition = record { word = is.word; tail = is.tail; cut = is.cut; counted = is.counted; conditional = is.conditional } in
       apart_is None (is_apart false count condition is) (ap (after (codes "!")) (unmarked count condition is).cut)
-      ∙ ap (λ (r : Result SnapshotTrigger TriggerFault). r >>= λ trigger. Ok (Attach trigger)) (trigger_is text count condition itself)
+      ∙ ap (λ (r : Result SnapshotTrigger TriggerFault). r >>= λ trigger. Ok (AttachSnapshot trigger)) (trigger_is text count condition itself)
       ∙ both_attach count (filter_of definition text condition)
 
   blank_is : list_all is_blank text ≡ true → said_of definition text ≡ Ok Nothing
@@ -169,8 +169,8 @@ module _ (definition : Definition) (text : List ℕ) where
     condition : Option (List ℕ)
     is : IsBody body count condition
 
-  body_or_bad : (body : List ℕ) → HasBody body ⊎ (trigger_of definition text body ≡ Err BadText)
-  unfolding trigger_of
+  body_or_bad : (body : List ℕ) → HasBody body ⊎ (snapshot_trigger_of definition text body ≡ Err BadText)
+  unfolding snapshot_trigger_of
   body_or_bad body = by (count_of (word_of body)) (condition_of (after_word body)) refl refl
     where
       by : (counted : Result (Option ℕ) TriggerFault) (conditional : Result (Option (List ℕ)) TriggerFault) → count_of (word_of body) ≡ counted → condition_of (after_word body) ≡ conditional
@@ -209,18 +209,18 @@ module _ (definition : Definition) (text : List ℕ) where
   apart_kind : IsApart → Kind
   apart_kind apart = by (after (codes "!") text) refl
     where
-      marked_by : (body : List ℕ) → after (codes "!") text ≡ Some body → HasBody body ⊎ (trigger_of definition text body ≡ Err BadText) → Kind
+      marked_by : (body : List ℕ) → after (codes "!") text ≡ Some body → HasBody body ⊎ (snapshot_trigger_of definition text body ≡ Err BadText) → Kind
       marked_by body e (inl has) = is_written (marked_so body e has)
       marked_by body e (inr wrong) = is_bad (record {
         no_hist = apart_no_hist apart;
-        is = apart_is (Some body) apart e ∙ ap (λ (r : Result SnapshotTrigger TriggerFault). r >>= λ trigger. Ok Remove) wrong;
+        is = apart_is (Some body) apart e ∙ ap (λ (r : Result SnapshotTrigger TriggerFault). r >>= λ trigger. Ok RemoveSnapshot) wrong;
       })
 
-      unmarked_by : after (codes "!") text ≡ None → HasBody text ⊎ (trigger_of definition text text ≡ Err BadText) → Kind
+      unmarked_by : after (codes "!") text ≡ None → HasBody text ⊎ (snapshot_trigger_of definition text text ≡ Err BadText) → Kind
       unmarked_by e (inl has) = is_written (unmarked_so has)
       unmarked_by e (inr wrong) = is_bad (record {
         no_hist = apart_no_hist apart;
-        is = apart_is None apart e ∙ ap (λ (r : Result SnapshotTrigger TriggerFault). r >>= λ trigger. Ok (Attach trigger)) wrong;
+        is = apart_is None apart e ∙ ap (λ (r : Result SnapshotTrigger TriggerFault). r >>= λ trigger. Ok (AttachSnapshot trigger)) wrong;
       })
 
       by : (rest : Option (List ℕ)) → after (codes "!") text ≡ rest → Kind
@@ -240,22 +240,22 @@ module _ (definition : Definition) (text : List ℕ) where
 
   abbrev OfSnapshot : TriggerText → Type 0
   OfSnapshot Nothing = ⊥
-  OfSnapshot (Attach trigger) = Unit {0}
-  OfSnapshot Remove = Unit {0}
+  OfSnapshot (AttachSnapshot trigger) = Unit {0}
+  OfSnapshot RemoveSnapshot = Unit {0}
   OfSnapshot (Hist spec) = ⊥
   OfSnapshot (RemoveHist spec) = ⊥
 
   abbrev OfHist : TriggerText → Type 0
   OfHist Nothing = ⊥
-  OfHist (Attach trigger) = ⊥
-  OfHist Remove = ⊥
+  OfHist (AttachSnapshot trigger) = ⊥
+  OfHist RemoveSnapshot = ⊥
   OfHist (Hist spec) = Unit {0}
   OfHist (RemoveHist spec) = Unit {0}
 
   written_says : (said : TriggerText) (removes : Bool) (count : Option ℕ) (read : Result (Option Parsed) TriggerFault) → said_as removes count read ≡ Ok said → OfSnapshot said
   written_says said removes count (Err fault) is = absurd (cc)
-  written_says said true count (Ok read) is = let same : Remove ≡ said = cc in subst OfSnapshot same tt
-  written_says said false count (Ok read) is = let same : Attach (trigger_as count read) ≡ said = cc in subst OfSnapshot same tt
+  written_says said true count (Ok read) is = let same : RemoveSnapshot ≡ said = cc in subst OfSnapshot same tt
+  written_says said false count (Ok read) is = let same : AttachSnapshot (trigger_as count read) ≡ said = cc in subst OfSnapshot same tt
 
   hist_says : (said : TriggerText) (removes : Bool) (read : Result SpecSeen TriggerFault) → hist_as removes read ≡ Ok said → OfHist said
   hist_says said removes (Err fault) is = absurd (cc)
@@ -318,7 +318,7 @@ module _ (definition : Definition) (text : List ℕ) where
 
   -- what a written text attaches or removes
   attached : (trigger : SnapshotTrigger) (removes : Bool) (count : Option ℕ) (condition : Option (List ℕ)) (read : Result (Option Parsed) TriggerFault) → IsWritten text removes count condition → filter_of definition text condition ≡ read
-      → said_as removes count read ≡ Ok (Attach trigger) → Writes definition text false trigger.count trigger.filter
+      → said_as removes count read ≡ Ok (AttachSnapshot trigger) → Writes definition text false trigger.count trigger.filter
   attached trigger removes count condition (Err fault) written found is = absurd (cc)
   attached trigger true count condition (Ok read) written found is = absurd (cc)
   attached trigger false count condition (Ok read) written found is =
@@ -327,34 +327,34 @@ module _ (definition : Definition) (text : List ℕ) where
       subst (λ (t : SnapshotTrigger). Writes definition text false t.count t.filter) same writes
 
   removed : (removes : Bool) (count : Option ℕ) (condition : Option (List ℕ)) (read : Result (Option Parsed) TriggerFault) → IsWritten text removes count condition → filter_of definition text condition ≡ read
-      → said_as removes count read ≡ Ok Remove → WritesRemoval definition text
+      → said_as removes count read ≡ Ok RemoveSnapshot → WritesRemoval definition text
   removed removes count condition (Err fault) written found is = absurd (cc)
   removed false count condition (Ok read) written found is = absurd (cc)
   removed true count condition (Ok read) written found is = record { count = count; filter = read; writes = record { condition = condition; written = written; filtered = filter_found definition text condition read found } }
 
-  pub attach_is_written : (trigger : SnapshotTrigger) → (said_of definition text ≡ Ok (Attach trigger)) ↔ Writes definition text false trigger.count trigger.filter
+  pub attach_is_written : (trigger : SnapshotTrigger) → (said_of definition text ≡ Ok (AttachSnapshot trigger)) ↔ Writes definition text false trigger.count trigger.filter
   attach_is_written trigger = (
     λ is. by is kind,
     λ writes. written_is false trigger.count writes.condition writes.written ∙ ap (said_as false trigger.count) (filter_given definition text writes.condition trigger.filter writes.filtered),
   )
     where
-      by : said_of definition text ≡ Ok (Attach trigger) → Kind → Writes definition text false trigger.count trigger.filter
-      by is (is_blank_text blanks) = let same = blanks_say (Attach trigger) blanks is in absurd (cc)
-      by is (is_hist_text it) = absurd (of_hist_said (Attach trigger) it is)
+      by : said_of definition text ≡ Ok (AttachSnapshot trigger) → Kind → Writes definition text false trigger.count trigger.filter
+      by is (is_blank_text blanks) = let same = blanks_say (AttachSnapshot trigger) blanks is in absurd (cc)
+      by is (is_hist_text it) = absurd (of_hist_said (AttachSnapshot trigger) it is)
       by is (is_written it) = attached trigger it.removes it.count it.condition (filter_of definition text it.condition) it.written refl (sym it.is ∙ is)
-      by is (is_bad it) = absurd (bad_never (Attach trigger) it is)
+      by is (is_bad it) = absurd (bad_never (AttachSnapshot trigger) it is)
 
-  pub remove_is_written : (said_of definition text ≡ Ok Remove) ↔ WritesRemoval definition text
+  pub remove_is_written : (said_of definition text ≡ Ok RemoveSnapshot) ↔ WritesRemoval definition text
   remove_is_written = (
     λ is. by is kind,
     λ is. written_is true is.count is.writes.condition is.writes.written ∙ ap (said_as true is.count) (filter_given definition text is.writes.condition is.filter is.writes.filtered),
   )
     where
-      by : said_of definition text ≡ Ok Remove → Kind → WritesRemoval definition text
-      by is (is_blank_text blanks) = let same = blanks_say Remove blanks is in absurd (cc)
-      by is (is_hist_text it) = absurd (of_hist_said Remove it is)
+      by : said_of definition text ≡ Ok RemoveSnapshot → Kind → WritesRemoval definition text
+      by is (is_blank_text blanks) = let same = blanks_say RemoveSnapshot blanks is in absurd (cc)
+      by is (is_hist_text it) = absurd (of_hist_said RemoveSnapshot it is)
       by is (is_written it) = removed it.removes it.count it.condition (filter_of definition text it.condition) it.written refl (sym it.is ∙ is)
-      by is (is_bad it) = absurd (bad_never Remove it is)
+      by is (is_bad it) = absurd (bad_never RemoveSnapshot it is)
 
   -- which trigger a text of a hist trigger names
   hist_named : (spec : SpecSeen) (removes : Bool) (read : Result SpecSeen TriggerFault) → BeginsHist removes → hist_as removes read ≡ Ok (Hist spec) → (take 5 text ≡ codes "hist:") × (read ≡ Ok spec)

@@ -9,7 +9,7 @@ use Rattle.trace_trigger.specs.HistTexts.{IsHistText, spec_of}
 use Rattle.trace_trigger.specs.declared.fault.TriggerFault.{TriggerFault}
 use Rattle.trace_trigger.specs.declared.fault.TriggerFault.TheVariants.{BadText}
 use Rattle.trace_trigger.specs.declared.trigger.SnapshotTrigger.{SnapshotTrigger}
-use Rattle.trace_trigger.specs.declared.trigger.TriggerText.TheVariants.{Nothing, Attach, Remove, Hist, RemoveHist}
+use Rattle.trace_trigger.specs.declared.trigger.TriggerText.TheVariants.{Nothing, AttachSnapshot, RemoveSnapshot, Hist, RemoveHist}
 use Rattle.trace_trigger.specs.Frames.{moved}
 use Rattle.trace_trigger.specs.TriggerTexts.{said_of}
 use Rattle.trace_trigger.specs.TriggerGrammar.{IsWritten, Writes}
@@ -21,7 +21,7 @@ NothingIsBlanks = (definition : Definition) → (text : List ℕ) → (said_of d
 -- it says that a snapshot trigger is to be attached exactly where it is written so, without a `!`
 abbrev pub AttachIsWritten : Type 0
 AttachIsWritten = (definition : Definition) → (text : List ℕ) → (trigger : SnapshotTrigger)
-    → (said_of definition text ≡ Ok (Attach trigger)) ↔ Writes definition text false trigger.count trigger.filter
+    → (said_of definition text ≡ Ok (AttachSnapshot trigger)) ↔ Writes definition text false trigger.count trigger.filter
 
 -- a text that is written so with a `!`
 pub record WritesRemoval (definition : Definition) (text : List ℕ) : Type 0 where
@@ -31,7 +31,7 @@ pub record WritesRemoval (definition : Definition) (text : List ℕ) : Type 0 wh
 
 -- and that it is to be removed exactly where it is written so with a `!`, whatever its count and its filter
 abbrev pub RemoveIsWritten : Type 0
-RemoveIsWritten = (definition : Definition) → (text : List ℕ) → (said_of definition text ≡ Ok Remove) ↔ WritesRemoval definition text
+RemoveIsWritten = (definition : Definition) → (text : List ℕ) → (said_of definition text ≡ Ok RemoveSnapshot) ↔ WritesRemoval definition text
 
 -- it says that a hist trigger is to be attached exactly where it begins with `hist:` and says this trigger
 abbrev pub HistIsRead : Type 0

@@ -12,7 +12,7 @@ use Rattle.trace_trigger.specs.declared.fault.TriggerFault.{TriggerFault}
 use Rattle.trace_trigger.specs.declared.fault.TriggerFault.TheVariants.{BadText}
 use Rattle.trace_trigger.specs.declared.trigger.SnapshotTrigger.{SnapshotTrigger}
 use Rattle.trace_trigger.specs.declared.trigger.TriggerText.{TriggerText}
-use Rattle.trace_trigger.specs.declared.trigger.TriggerText.TheVariants.{Nothing, Attach, Remove, Hist, RemoveHist}
+use Rattle.trace_trigger.specs.declared.trigger.TriggerText.TheVariants.{Nothing, AttachSnapshot, RemoveSnapshot, Hist, RemoveHist}
 
 -- ---- how a text is cut
 
@@ -61,15 +61,15 @@ condition_of text = if list_all is_blank text then Ok None else condition_after 
 -- ---- the whole text
 
 -- a trigger, of a text that ends with the bytes after a `!`, or that has no `!`
-unfoldable pub trigger_of : Definition → List ℕ → List ℕ → Result SnapshotTrigger TriggerFault
-trigger_of definition text body =
+unfoldable pub snapshot_trigger_of : Definition → List ℕ → List ℕ → Result SnapshotTrigger TriggerFault
+snapshot_trigger_of definition text body =
     count_of (word_of body) >>= λ count. condition_of (after_word body) >>= λ condition. filter_of definition text condition
     >>= λ only_if. Ok (record { count = count; filter = only_if })
 
 -- by what follows a `!`, if there is one
 abbrev pub said_after : Definition → List ℕ → Option (List ℕ) → Result TriggerText TriggerFault
-said_after definition text None = trigger_of definition text text >>= λ trigger. Ok (Attach trigger)
-said_after definition text (Some body) = trigger_of definition text body >>= λ trigger. Ok Remove
+said_after definition text None = snapshot_trigger_of definition text text >>= λ trigger. Ok (AttachSnapshot trigger)
+said_after definition text (Some body) = snapshot_trigger_of definition text body >>= λ trigger. Ok RemoveSnapshot
 
 -- what a text says of an event's snapshot trigger
 unfoldable pub snapshot_said : Definition → List ℕ → Result TriggerText TriggerFault

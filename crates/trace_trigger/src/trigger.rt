@@ -2,7 +2,7 @@
 
 ghost use Rattle.std.specs.Prelude.{◌≡◌, ◌⊎◌, true, ◌≤◌, Err, length};
 ghost use Rattle.trace_trigger.specs.TriggerAnswers.{IsAnswered};
-ghost use Rattle.trace_trigger.specs.TriggerTexts.{is_hist_text, IsFilterWritten, HasFilter, after_word, condition_of, trigger_of, snapshot_said, said_of};
+ghost use Rattle.trace_trigger.specs.TriggerTexts.{is_hist_text, IsFilterWritten, HasFilter, after_word, condition_of, snapshot_trigger_of, snapshot_said, said_of};
 
 use crate::condition::read_filter;
 use crate::fault::TriggerFault;
@@ -25,10 +25,10 @@ pub struct SnapshotTrigger {
 pub enum TriggerText {
     /// Nothing is attached or removed: the text has nothing but blanks.
     Nothing,
-    /// A trigger is to be attached.
-    Attach(SnapshotTrigger),
+    /// A snapshot trigger is to be attached.
+    AttachSnapshot(SnapshotTrigger),
     /// The event's snapshot trigger is to be removed, whatever its count and its filter.
-    Remove,
+    RemoveSnapshot,
     /// A hist trigger is to be attached; or, where the same one is attached, what the text asks for is to be done to it.
     Hist(HistSpec),
     /// The same hist trigger is to be removed.
@@ -77,17 +77,17 @@ fn read_snapshot(alloc: Global, text: &[u8], event: &EventDef) -> Result<Trigger
     match text.strip_prefix(b"!".as_slice()) {
         Some(body) => {
             let _removed = read_trigger(alloc, text, body, event)?;
-            Ok(TriggerText::Remove)
+            Ok(TriggerText::RemoveSnapshot)
         }
         None => match read_trigger(alloc, text, text, event) {
-            Ok(trigger) => Ok(TriggerText::Attach(trigger)),
+            Ok(trigger) => Ok(TriggerText::AttachSnapshot(trigger)),
             Err(fault) => Err(fault),
         },
     }
 }
 
 /// The trigger of a text, of which `body` is all, or what follows a `!`.
-#[tactic(auto, unfolding(crate::specs::TriggerTexts::trigger_of, crate::specs::Frames::filter_of))]
+#[tactic(auto, unfolding(crate::specs::TriggerTexts::snapshot_trigger_of, crate::specs::Frames::filter_of))]
 fn read_trigger(
     alloc: Global,
     text: &[u8],
@@ -95,8 +95,8 @@ fn read_trigger(
     event: &EventDef,
 ) -> Result<SnapshotTrigger, TriggerFault>
     requires { length body.now ≤ length text.now }
-    ensures exact { IsAnswered result (trigger_of event.now text.now body.now) }
-    ensures early { trigger_of event.now text.now body.now ≡ Err TriggerFault.BadText → result ≡ Err TriggerFault.BadText }
+    ensures exact { IsAnswered result (snapshot_trigger_of event.now text.now body.now) }
+    ensures early { snapshot_trigger_of event.now text.now body.now ≡ Err TriggerFault.BadText → result ≡ Err TriggerFault.BadText }
     ensures memory { result ≡ Err TriggerFault.Memory → IsFilterWritten (condition_of (after_word body.now)) }
 {
     let (word, rest) = cut_word(body);

@@ -24,6 +24,7 @@ ghost use Rattle.trace_workers.specs.declared.fault.BlockFault.{BlockFault};
 ghost use Rattle.trace_workers.specs.declared.fault.BlockFault.TheVariants.{Stopped};
 
 use crate::asked::Asked;
+use crate::environment::Environment;
 use crate::fault::{BlockFault, first_of};
 use crate::gate::Gate;
 use crate::part::Part;
@@ -61,32 +62,28 @@ fn run_parts<
     C: Asked + Send + Drop + 's,
 >(
     scope: &Scope<'s, E>,
-    rt: &'s R,
-    alloc: Global,
-    lock: &'s TicketLock<B>,
+    env: &Environment<'s, B, R, G>,
     pass: Pass<B>,
     mut parts: Vec<Vec<C>>,
     done: Vec<Part>,
-    gate: &'s G,
-    missed: &'s AtomicBool,
 ) -> Ended<B>
-    requires of { IsOf lock.now pass }
+    requires of { IsOf env.now.lock.now pass }
     requires names { 2 ^ vec_len parts ≤ (view_of pass).end - (view_of pass).low }
     requires few { vec_len parts ≤ 8 }
     requires empty { done.items ≡ [] }
     requires room { vec_len done + vec_len parts ≤ vec_capacity done }
-    ensures of { IsOf lock.now result.pass }
+    ensures of { IsOf env.now.lock.now result.pass }
     ensures run { HasRun (view_of pass) (view_of result.pass) (begun_trails (commands_of C.command parts.items) result.done.items) }
     ensures length { length result.done.items ≡ length parts.items }
     ensures room { (vec_len result.done ≡ vec_len done + vec_len parts) × (vec_capacity result.done ≡ vec_capacity done) }
     ensures whole { result.fault ≡ None → AreWhole (commands_of C.command parts.items) result.done.items }
     ensures callers { SeesCallers (view_of pass) (view_of result.pass) }
-    ensures open { G.is_open gate.now ≡ true → result.fault ≢ Some Stopped }
-    ensures begun { LetsBegunPass (G.may_answer gate.now) (begun_trails (commands_of C.command parts.items) result.done.items) }
-    ensures gate { result.fault ≡ None → LetsAllPass (G.may_answer gate.now) (commands_of C.command parts.items) }
-    ensures stopped { result.fault ≡ Some Stopped → StopsOne (G.may_answer gate.now) (commands_of C.command parts.items) }
+    ensures open { G.is_open env.now.gate.now ≡ true → result.fault ≢ Some Stopped }
+    ensures begun { LetsBegunPass (G.may_answer env.now.gate.now) (begun_trails (commands_of C.command parts.items) result.done.items) }
+    ensures gate { result.fault ≡ None → LetsAllPass (G.may_answer env.now.gate.now) (commands_of C.command parts.items) }
+    ensures stopped { result.fault ≡ Some Stopped → StopsOne (G.may_answer env.now.gate.now) (commands_of C.command parts.items) }
     ensures ends { (ends : List (Option BlockFault)) × (result.fault ≡ reported ends)
-        × EndAs (G.may_answer gate.now) 0 (commands_of C.command parts.items) (begun_trails (commands_of C.command parts.items) result.done.items) ends }
+        × EndAs (G.may_answer env.now.gate.now) 0 (commands_of C.command parts.items) (begun_trails (commands_of C.command parts.items) result.done.items) ends }
 {
     let Some(commands) = parts.pop() else {
         return Ended {
@@ -95,6 +92,13 @@ fn run_parts<
             fault: None,
         };
     };
+    let Environment {
+        rt,
+        alloc,
+        lock,
+        gate,
+        missed,
+    } = *env;
     let Ok((lower, upper)) = lock.split(pass) else {
         unreachable!()
     };
@@ -115,12 +119,21 @@ fn run_parts<
                 × HasAsked (view_of upper) (view_of result.pass) (map C.command commands.items) result.part.replies.items result.fault
                 × (G.is_open gate.entry.now ≡ true → result.fault ≢ Some Stopped)
                 × IsGated (G.may_answer gate.entry.now thread) (map C.command commands.items) result.part.replies.items result.fault }
-        { run_part(rt, alloc, lock, upper, commands, thread, gate, missed) },
+        {
+            let env = Environment {
+                rt,
+                alloc,
+                lock,
+                gate,
+                missed,
+            };
+            run_part(&env, upper, commands, thread)
+        },
     );
     if started.is_err() {
         missed.store(true, Ordering::SeqCst);
     }
-    let others = run_parts(scope, rt, alloc, lock, lower, parts, done, gate, missed);
+    let others = run_parts(scope, env, lower, parts, done);
     let returned = match started {
         Ok(handle) => handle.join(rt),
         Err(refused) => (refused.value)(),
@@ -158,15 +171,16 @@ fn room_for_results(alloc: Global, parts: usize) -> Result<Vec<Part>, AllocError
 /// Runs a block as [`run_block`] does, whose parts keep their commands in a form of their own: what is said there of the commands is said here of
 /// the commands that the parts ask for.
 pub fn run_block_of<
+    'a,
     B: SharedBook + Send,
     R: Threads + Wait + Sync,
     G: Gate + Sync,
     C: Asked + Send + Drop,
 >(
-    rt: &R,
+    rt: &'a R,
     alloc: Global,
-    lock: &TicketLock<B>,
-    gate: &G,
+    lock: &'a TicketLock<B>,
+    gate: &'a G,
     root: Pass<B>,
     parts: Vec<Vec<C>>,
 ) -> (Pass<B>, Result<Vec<Part>, BlockFault>)
@@ -188,27 +202,34 @@ pub fn run_block_of<
     let Ok(done) = room_for_results(alloc, parts.len()) else {
         return (root, Err(BlockFault::Memory));
     };
-    let flag = AtomicBool::new(false);
-    let missed = &flag;
+    let missed = AtomicBool::new(false);
+    let block = Environment {
+        rt,
+        alloc,
+        lock,
+        gate,
+        missed: &missed,
+    };
+    let env = &block;
     let ended = thread::scope(
         thread::scope_env(),
         rt,
         |scope| -> Ended<B>
-            requires { IsOf lock.now root × HasAllNames (view_of root) × (vec_len parts ≤ 8) × (done.items ≡ [])
+            requires { IsOf env.now.lock.now root × HasAllNames (view_of root) × (vec_len parts ≤ 8) × (done.items ≡ [])
                 × (vec_len done + vec_len parts ≤ vec_capacity done) }
-            ensures { IsOf lock.entry.now result.pass
+            ensures { IsOf env.entry.now.lock.now result.pass
                 × HasRun (view_of root) (view_of result.pass) (begun_trails (commands_of C.command parts.items) result.done.items)
                 × (length result.done.items ≡ length parts.items)
                 × (vec_len result.done ≡ vec_len done + vec_len parts)
                 × (result.fault ≡ None → AreWhole (commands_of C.command parts.items) result.done.items)
                 × SeesCallers (view_of root) (view_of result.pass)
-                × (G.is_open gate.entry.now ≡ true → result.fault ≢ Some Stopped)
-                × LetsBegunPass (G.may_answer gate.entry.now) (begun_trails (commands_of C.command parts.items) result.done.items)
-                × (result.fault ≡ None → LetsAllPass (G.may_answer gate.entry.now) (commands_of C.command parts.items))
-                × (result.fault ≡ Some Stopped → StopsOne (G.may_answer gate.entry.now) (commands_of C.command parts.items))
-                × ((ends : List (Option BlockFault)) × (result.fault ≡ reported ends) × EndAs (G.may_answer gate.entry.now) 0
+                × (G.is_open env.entry.now.gate.now ≡ true → result.fault ≢ Some Stopped)
+                × LetsBegunPass (G.may_answer env.entry.now.gate.now) (begun_trails (commands_of C.command parts.items) result.done.items)
+                × (result.fault ≡ None → LetsAllPass (G.may_answer env.entry.now.gate.now) (commands_of C.command parts.items))
+                × (result.fault ≡ Some Stopped → StopsOne (G.may_answer env.entry.now.gate.now) (commands_of C.command parts.items))
+                × ((ends : List (Option BlockFault)) × (result.fault ≡ reported ends) × EndAs (G.may_answer env.entry.now.gate.now) 0
                 (commands_of C.command parts.items) (begun_trails (commands_of C.command parts.items) result.done.items) ends) }
-        { run_parts(scope, rt, alloc, lock, root, parts, done, gate, missed) },
+        { run_parts(scope, env, root, parts, done) },
     );
     let Ended { pass, done, fault } = ended;
     match fault {

@@ -4,6 +4,7 @@
 mod asked;
 mod block;
 mod call;
+mod environment;
 mod fault;
 mod gate;
 mod part;

@@ -6,6 +6,7 @@ ghost use Rattle.trace_workers.specs.PartRuns.{HasAsked, IsGated};
 ghost use Rattle.trace_workers.specs.declared.fault.BlockFault.TheVariants.{Stopped};
 
 use crate::asked::Asked;
+use crate::environment::Environment;
 use crate::fault::BlockFault;
 use crate::gate::Gate;
 use crate::part::Part;
@@ -76,30 +77,24 @@ fn room_for(
 
 /// Runs the commands of a part. If the block has failed to start a thread, it runs none and returns the pass, so that no names are lost.
 pub fn run_part<B: SharedBook, R: Wait, G: Gate, C: Asked + Drop>(
-    rt: &R,
-    alloc: Global,
-    lock: &TicketLock<B>,
+    env: &Environment<'_, B, R, G>,
     pass: Pass<B>,
     commands: Vec<C>,
     thread: u32,
-    gate: &G,
-    missed: &AtomicBool,
 ) -> Returned<B>
-    requires of { IsOf lock.now pass }
+    requires of { IsOf env.now.lock.now pass }
     requires named { (view_of pass).low < (view_of pass).end }
-    ensures of { IsOf lock.now result.pass }
+    ensures of { IsOf env.now.lock.now result.pass }
     ensures by { result.part.by ≡ (view_of pass).low }
     ensures asked { HasAsked (view_of pass) (view_of result.pass) (map C.command commands.items) result.part.replies.items result.fault }
-    ensures open { G.is_open gate.now ≡ true → result.fault ≢ Some Stopped }
-    ensures gate { IsGated (G.may_answer gate.now thread) (map C.command commands.items) result.part.replies.items result.fault }
+    ensures open { G.is_open env.now.gate.now ≡ true → result.fault ≢ Some Stopped }
+    ensures gate { IsGated (G.may_answer env.now.gate.now thread) (map C.command commands.items) result.part.replies.items result.fault }
 {
     let by = pass.names().start;
-    match room_for(alloc, commands.len(), missed) {
+    match room_for(env.alloc, commands.len(), env.missed) {
         Ok(replies) => {
             let worker = Worker { pass, replies };
-            let (Worker { pass, replies }, fault) = ask_part(
-                rt, alloc, lock, worker, commands, thread, gate,
-            );
+            let (Worker { pass, replies }, fault) = ask_part(env, worker, commands, thread);
             Returned {
                 pass,
                 part: Part { by, replies },
@@ -107,7 +102,7 @@ pub fn run_part<B: SharedBook, R: Wait, G: Gate, C: Asked + Drop>(
             }
         }
         Err(fault) => {
-            let replies = Vec::new(alloc);
+            let replies = Vec::new(env.alloc);
             Returned {
                 pass,
                 part: Part { by, replies },

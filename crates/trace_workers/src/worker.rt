@@ -11,12 +11,12 @@ ghost use Rattle.trace_command.specs.declared.refusal.Refusal.TheVariants.{Memor
 
 use crate::asked::Asked;
 use crate::call::ask_in;
+use crate::environment::Environment;
 use crate::fault::BlockFault;
 use crate::gate::{Gate, Point};
 use shared_book::SharedBook;
-use std::alloc::Global;
 use std::sync::Wait;
-use ticket_lock::{Pass, TicketLock};
+use ticket_lock::Pass;
 use trace_command::{Refusal, Reply};
 
 /// A worker between two calls: its pass, and the replies so far.
@@ -38,35 +38,32 @@ fn is_memory(answer: &Result<Reply, Refusal>) -> bool
 
 // Runs one command of a part. The gate is asked before and after it, never while the lock is held. Nor is it held as the command is read.
 fn take_turn<B: SharedBook, R: Wait, G: Gate, C: Asked + Drop>(
-    rt: &R,
-    alloc: Global,
-    lock: &TicketLock<B>,
+    env: &Environment<'_, B, R, G>,
     worker: Worker<B>,
     command: C,
     thread: u32,
-    gate: &G,
 ) -> (Worker<B>, Option<BlockFault>)
-    requires of { IsOf lock.now worker.pass }
+    requires of { IsOf env.now.lock.now worker.pass }
     requires named { (view_of worker.pass).low < (view_of worker.pass).end }
     requires room { vec_len worker.replies < vec_capacity worker.replies }
-    ensures of { IsOf lock.now result.0.pass }
+    ensures of { IsOf env.now.lock.now result.0.pass }
     ensures capacity { vec_capacity result.0.replies ≡ vec_capacity worker.replies }
     ensures len { result.1 ≡ None → vec_len result.0.replies ≡ vec_len worker.replies + 1 }
     ensures asked { (answers : List (Result Reply Refusal)) × (result.0.replies.items ≡ worker.replies.items ++ answers)
         × HasAsked (view_of worker.pass) (view_of result.0.pass) (C.command command ∷ []) answers result.1 }
-    ensures open { G.is_open gate.now ≡ true → result.1 ≢ Some Stopped }
+    ensures open { G.is_open env.now.gate.now ≡ true → result.1 ≢ Some Stopped }
     // As many commands were run before this one as there are replies.
     ensures gate { (asked : List Command) → length asked ≡ vec_len worker.replies
-        → IsGated (G.may_answer gate.now thread) asked worker.replies.items None
-        → IsGated (G.may_answer gate.now thread) (asked ++ C.command command ∷ []) result.0.replies.items result.1 }
+        → IsGated (G.may_answer env.now.gate.now thread) asked worker.replies.items None
+        → IsGated (G.may_answer env.now.gate.now thread) (asked ++ C.command command ∷ []) result.0.replies.items result.1 }
 {
     let Worker { pass, mut replies } = worker;
     let call = replies.len() as u64;
-    if !gate.arrive(thread, call, Point::Asking) {
+    if !env.gate.arrive(thread, call, Point::Asking) {
         return (Worker { pass, replies }, Some(BlockFault::Stopped));
     }
-    let (pass, answer) = ask_in(rt, alloc, lock, pass, command);
-    let goes_on = gate.arrive(thread, call, Point::Answered);
+    let (pass, answer) = ask_in(env.rt, env.alloc, env.lock, pass, command);
+    let goes_on = env.gate.arrive(thread, call, Point::Answered);
     if is_memory(&answer) {
         return (Worker { pass, replies }, Some(BlockFault::Memory));
     }
@@ -81,26 +78,23 @@ fn take_turn<B: SharedBook, R: Wait, G: Gate, C: Asked + Drop>(
 
 /// Runs the commands of a part in order, and stops at the first fault. The replies have room reserved.
 pub fn ask_part<B: SharedBook, R: Wait, G: Gate, C: Asked + Drop>(
-    rt: &R,
-    alloc: Global,
-    lock: &TicketLock<B>,
+    env: &Environment<'_, B, R, G>,
     worker: Worker<B>,
     commands: Vec<C>,
     thread: u32,
-    gate: &G,
 ) -> (Worker<B>, Option<BlockFault>)
-    requires of { IsOf lock.now worker.pass }
+    requires of { IsOf env.now.lock.now worker.pass }
     requires named { (view_of worker.pass).low < (view_of worker.pass).end }
     requires empty { worker.replies.items ≡ [] }
     requires room { vec_len worker.replies + vec_len commands ≤ vec_capacity worker.replies }
-    ensures of { IsOf lock.now result.0.pass }
+    ensures of { IsOf env.now.lock.now result.0.pass }
     ensures asked { HasAsked (view_of worker.pass) (view_of result.0.pass) (map C.command commands.items) result.0.replies.items result.1 }
-    ensures open { G.is_open gate.now ≡ true → result.1 ≢ Some Stopped }
-    ensures gate { IsGated (G.may_answer gate.now thread) (map C.command commands.items) result.0.replies.items result.1 }
+    ensures open { G.is_open env.now.gate.now ≡ true → result.1 ≢ Some Stopped }
+    ensures gate { IsGated (G.may_answer env.now.gate.now thread) (map C.command commands.items) result.0.replies.items result.1 }
 {
     let mut mine = worker;
     for command in commands {
-        let (next, fault) = take_turn(rt, alloc, lock, mine, command, thread, gate);
+        let (next, fault) = take_turn(env, mine, command, thread);
         mine = next;
         if let Some(fault) = fault {
             return (mine, Some(fault));

@@ -5,7 +5,7 @@ use Rattle.trace_trigger.specs.HistSpecs.{SpecSeen}
 use Rattle.trace_trigger.specs.TriggerTexts.{said_of}
 use Rattle.trace_trigger.specs.declared.fault.TriggerFault.{TriggerFault}
 use Rattle.trace_trigger.specs.declared.trigger.TriggerText.{TriggerText}
-use Rattle.trace_trigger.specs.declared.trigger.TriggerText.TheVariants.{Nothing, Attach, Remove, Hist, RemoveHist}
+use Rattle.trace_trigger.specs.declared.trigger.TriggerText.TheVariants.{Nothing, AttachSnapshot, RemoveSnapshot, Hist, RemoveHist}
 use Rattle.trace_command.specs.Requests.{Request}
 use Rattle.tracer_specification.specs.HistTriggers.{HistTrigger, Written, has_same, hist_triggers, hists_after, hists_said, is_of, left_by, new_hist, says_same, those_of, written_to}
 use Rattle.tracer_specification.specs.Laws.{HistTriggersAreThoseAttached, IsAttached, IsAttachedBy, removes, some_later, takes, takes_away}
@@ -47,8 +47,8 @@ said-in number event hists (Ok (Hist spec)) t there = by (has_same spec (those_o
 said-in number event hists (Ok (RemoveHist spec)) t there =
     let older = in-filter t (λ u. not (is_of event u && says_same spec u)) hists there in
     inl (older.0, not-true (is_of event t && says_same spec t) older.1)
-said-in number event hists (Ok (Attach spec)) t there = inl (there, and-nothing (is_of event t))
-said-in number event hists (Ok Remove) t there = inl (there, and-nothing (is_of event t))
+said-in number event hists (Ok (AttachSnapshot spec)) t there = inl (there, and-nothing (is_of event t))
+said-in number event hists (Ok RemoveSnapshot) t there = inl (there, and-nothing (is_of event t))
 said-in number event hists (Ok Nothing) t there = inl (there, and-nothing (is_of event t))
 said-in number event hists (Err fault) t there = inl (there, and-nothing (is_of event t))
 
@@ -61,8 +61,8 @@ in-said number event hists (Ok (Hist spec)) t there stays = by (has_same spec (t
     by false = push-old t (new_hist number event hists spec) hists there
 in-said number event hists (Ok (RemoveHist spec)) t there stays =
     filter-in t (λ u. not (is_of event u && says_same spec u)) hists there (not-false (is_of event t && says_same spec t) stays)
-in-said number event hists (Ok (Attach spec)) t there stays = there
-in-said number event hists (Ok Remove) t there stays = there
+in-said number event hists (Ok (AttachSnapshot spec)) t there stays = there
+in-said number event hists (Ok RemoveSnapshot) t there stays = there
 in-said number event hists (Ok Nothing) t there stays = there
 in-said number event hists (Err fault) t there stays = there
 

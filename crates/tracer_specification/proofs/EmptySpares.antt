@@ -16,7 +16,7 @@ use Rattle.tracer_specification.specs.Laws.{SparesBeginEmpty}
 use Rattle.tracer_specification.specs.Rings.{new_rings, spare_after, other_rings}
 use Rattle.tracer_specification.specs.Settings.{NumberedEvent, is_same, makes, set_by, event_named, now_of}
 use Rattle.tracer_specification.specs.Snapshots.{SnapshotWrite, Frees, Takes, Empties, written_snapshot, takes_snapshot, clears_spare, spare_written, sets_spare, has_spare, is_exchanged_by, exchanges, live_side}
-use Rattle.tracer_specification.specs.Triggers.{Trigger, trigger_of, has_trigger, acts}
+use Rattle.tracer_specification.specs.Triggers.{Trigger, snapshot_trigger_of, has_snapshot_trigger, acts}
 use Rattle.tracer_specification.proofs.PipeReads.{is_same-self}
 use Rattle.tracer_specification.proofs.Spares.{IsFreed, left, named-passes, set-freed, triggers_have_their_spare}
 use Rattle.tracer_specification.proofs.Sides.{rings-stay, rings-made, side-has_all_cpus}
@@ -97,31 +97,31 @@ empty-after g instance past request acting before without = by_life (makes insta
     by_life false alive h = by_exchange (exchanges instance past request) alive refl h
 
 -- an emission on which a trigger acts is one of a declared event that has it
-pub acting-has_trigger : (instance : Option (List ℕ)) (past : List Request) (request : Request)
-    → is_exchanged_by instance past (emitted past request) ≡ true → has_trigger instance past ≡ true
-acting-has_trigger instance past (Emission name cpu pid pairs) is = by (event_named name past) refl is
+pub acting-has_snapshot_trigger : (instance : Option (List ℕ)) (past : List Request) (request : Request)
+    → is_exchanged_by instance past (emitted past request) ≡ true → has_snapshot_trigger instance past ≡ true
+acting-has_snapshot_trigger instance past (Emission name cpu pid pairs) is = by (event_named name past) refl is
   where
-    by_trigger : (e : Emitted) (o : Option Trigger) → trigger_of instance e.k.event past ≡ o → event_named name past ≡ Some e.k
-        → acts past e o ≡ true → has_trigger instance past ≡ true
+    by_trigger : (e : Emitted) (o : Option Trigger) → snapshot_trigger_of instance e.k.event past ≡ o → event_named name past ≡ Some e.k
+        → acts past e o ≡ true → has_snapshot_trigger instance past ≡ true
     by_trigger e None was there h = absurd (false≢true h)
     by_trigger e (Some t) was there h =
-        named-passes (λ (event : Definition). is_some (trigger_of instance event past)) past name e.k there (ap is_some was)
+        named-passes (λ (event : Definition). is_some (snapshot_trigger_of instance event past)) past name e.k there (ap is_some was)
 
     by_row : (k : NumberedEvent) (row : Result Cells (List ℕ)) → event_named name past ≡ Some k
-        → is_exchanged_by instance past (emitted_row (now_of past + 1) cpu pid k row) ≡ true → has_trigger instance past ≡ true
+        → is_exchanged_by instance past (emitted_row (now_of past + 1) cpu pid k row) ≡ true → has_snapshot_trigger instance past ≡ true
     by_row k (Err missing) there h = absurd (false≢true h)
     by_row k (Ok row) there h =
-        by_trigger (record { k = k; row = row; cpu = cpu; pid = pid; timestamp = now_of past + 1 }) (trigger_of instance k.event past) refl there h
+        by_trigger (record { k = k; row = row; cpu = cpu; pid = pid; timestamp = now_of past + 1 }) (snapshot_trigger_of instance k.event past) refl there h
 
     by : (found : Option NumberedEvent) → event_named name past ≡ found
-        → is_exchanged_by instance past (emitted_event (now_of past + 1) cpu pid pairs found) ≡ true → has_trigger instance past ≡ true
+        → is_exchanged_by instance past (emitted_event (now_of past + 1) cpu pid pairs found) ≡ true → has_snapshot_trigger instance past ≡ true
     by None none h = absurd (false≢true h)
     by (Some k) there h = by_row k (row_of k.event pairs) there h
-acting-has_trigger instance past _ is = absurd (false≢true is)
+acting-has_snapshot_trigger instance past _ is = absurd (false≢true is)
 
 pub spares_begin_empty : SparesBeginEmpty
 spares_begin_empty g [] instance done without = refl
 spares_begin_empty g (request ∷ past) instance done without =
     empty-after g instance past request
-    (λ acting. triggers_have_their_spare g past instance done.1 (acting-has_trigger instance past request acting))
+    (λ acting. triggers_have_their_spare g past instance done.1 (acting-has_snapshot_trigger instance past request acting))
     (spares_begin_empty g past instance done.1) without

@@ -8,7 +8,7 @@ use Rattle.trace_format.specs.Definitions.{Definition}
 use Rattle.trace_trigger.specs.TriggerTexts.{said_of}
 use Rattle.trace_trigger.specs.declared.fault.TriggerFault.{TriggerFault}
 use Rattle.trace_trigger.specs.declared.trigger.TriggerText.{TriggerText}
-use Rattle.trace_trigger.specs.declared.trigger.TriggerText.TheVariants.{Nothing, Attach, Remove, Hist, RemoveHist}
+use Rattle.trace_trigger.specs.declared.trigger.TriggerText.TheVariants.{Nothing, AttachSnapshot, RemoveSnapshot, Hist, RemoveHist}
 use Rattle.trace_command.specs.Requests.{Request}
 use Rattle.tracer_specification.specs.HistTriggers.{HistTrigger, Written, has_same, hist_triggers, hists_after, hists_of, hists_said, is_of, kept_by, left_by, new_hist, says_same, those_of, written_for, written_to}
 use Rattle.tracer_specification.specs.Settings.{makes}
@@ -119,8 +119,8 @@ said-own number event hists (Ok (Hist spec)) = by (has_same spec (those_of event
 said-own number event hists (Ok (RemoveHist spec)) =
     filter-swap (is_of event) (λ t. not (is_of event t && says_same spec t)) (λ t. not (says_same spec t))
     (λ t is. and-of (is_of event t) (says_same spec t) is) hists
-said-own number event hists (Ok (Attach trigger)) = refl
-said-own number event hists (Ok Remove) = refl
+said-own number event hists (Ok (AttachSnapshot trigger)) = refl
+said-own number event hists (Ok RemoveSnapshot) = refl
 said-own number event hists (Ok Nothing) = refl
 said-own number event hists (Err fault) = refl
 
@@ -151,8 +151,8 @@ said-other number other event hists (Ok (Hist spec)) differ = by (has_same spec 
 said-other number other event hists (Ok (RemoveHist spec)) differ =
     filter-kept (is_of event) (λ t. not (is_of other t && says_same spec t))
     (λ t is. ap (λ (b : Bool). not (b && says_same spec t)) (other-event other event differ t is)) hists
-said-other number other event hists (Ok (Attach trigger)) differ = refl
-said-other number other event hists (Ok Remove) differ = refl
+said-other number other event hists (Ok (AttachSnapshot trigger)) differ = refl
+said-other number other event hists (Ok RemoveSnapshot) differ = refl
 said-other number other event hists (Ok Nothing) differ = refl
 said-other number other event hists (Err fault) differ = refl
 
@@ -223,8 +223,8 @@ tables-said number event hists (Ok (Hist spec)) have = by (has_same spec (those_
     }
 tables-said number event hists (Ok (RemoveHist spec)) have =
     tables-later number (filter (λ t. not (is_of event t && says_same spec t)) hists) (tables-filter number (λ t. not (is_of event t && says_same spec t)) hists have)
-tables-said number event hists (Ok (Attach trigger)) have = tables-later number hists have
-tables-said number event hists (Ok Remove) have = tables-later number hists have
+tables-said number event hists (Ok (AttachSnapshot trigger)) have = tables-later number hists have
+tables-said number event hists (Ok RemoveSnapshot) have = tables-later number hists have
 tables-said number event hists (Ok Nothing) have = tables-later number hists have
 tables-said number event hists (Err fault) have = tables-later number hists have
 

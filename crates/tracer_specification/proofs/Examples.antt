@@ -23,7 +23,7 @@ use Rattle.record_text.specs.TraceText.{lost_line, trace_title, trace_head}
 use Rattle.trace_text.specs.TriggerText.{trigger_line, available_triggers, trigger_text}
 use Rattle.trace_trigger.specs.Frames.{filter_of}
 use Rattle.trace_trigger.specs.TriggerTexts.{count_of, condition_of, snapshot_said, said_of}
-use Rattle.trace_trigger.specs.TriggerTexts.{trigger_of as said_trigger}
+use Rattle.trace_trigger.specs.TriggerTexts.{snapshot_trigger_of as said_trigger}
 use Rattle.trace_command.specs.Paths.{top_file, option_file, events_file, system_file, cpu_file, event_file, mount_point, below_mount_point, address_of, instance_of}
 use Rattle.tracer_specification.specs.FileTexts.{flag_text, cpu_stats_text, shown_trace, shown_pipe, shown_cpu_pipe, shown_snapshot, option_text, declarations_text, mixture_text, filter_text}
 use Rattle.tracer_specification.specs.History.{emission_answer, declaration_answer, switch_answer, filter_answer, filter_of_all_answer, option_answer, tracing_answer, snapshot_answer, trigger_answer, named_answer, answer}

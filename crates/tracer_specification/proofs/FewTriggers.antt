@@ -14,7 +14,7 @@ use Rattle.trace_trigger.specs.declared.spec.Action.TheVariants as action
 use Rattle.trace_trigger.specs.TriggerTexts.{said_of}
 use Rattle.trace_trigger.specs.declared.fault.TriggerFault.{TriggerFault}
 use Rattle.trace_trigger.specs.declared.trigger.TriggerText.{TriggerText}
-use Rattle.trace_trigger.specs.declared.trigger.TriggerText.TheVariants.{Nothing, Attach, Remove, Hist, RemoveHist}
+use Rattle.trace_trigger.specs.declared.trigger.TriggerText.TheVariants.{Nothing, AttachSnapshot, RemoveSnapshot, Hist, RemoveHist}
 use Rattle.trace_command.specs.Paths.{OfEvent}
 use Rattle.trace_command.specs.Requests.{Request, WriteFile}
 use Rattle.trace_command.specs.declared.command.Config.{Config}
@@ -26,11 +26,11 @@ use Rattle.tracer_specification.specs.HistTriggers.{HistTrigger, Written, fits_t
 use Rattle.tracer_specification.specs.Laws.{AtMostFourTriggers}
 use Rattle.tracer_specification.specs.Pasts.{AreDone}
 use Rattle.tracer_specification.specs.Settings.{NumberedEvent, is_same, makes, event_named, declares, declared_events}
-use Rattle.tracer_specification.specs.Triggers.{Trigger, written_trigger, trigger_of}
+use Rattle.tracer_specification.specs.Triggers.{Trigger, written_trigger, snapshot_trigger_of}
 use Rattle.tracer_specification.proofs.EventHists.{hists_of-after, hists_of-made, own_after, own_said}
 use Rattle.tracer_specification.proofs.Events.{named_in-fewer, index_of_id}
 use Rattle.tracer_specification.proofs.LegalEvents.{asked-done, named_in-more, named-is_numbered}
-use Rattle.tracer_specification.proofs.OwnFiles.{OwnWritten, as_written, own-declared, own-none, own_written, trigger_after, trigger_of-after}
+use Rattle.tracer_specification.proofs.OwnFiles.{OwnWritten, as_written, own-declared, own-none, own_written, trigger_after, snapshot_trigger_of-after}
 use Rattle.tracer_specification.proofs.Spares.{same-instance}
 
 -- ---- what is written to a trigger file and done
@@ -38,7 +38,7 @@ use Rattle.tracer_specification.proofs.Spares.{same-instance}
 -- what a text that is written for an event is answered
 abbrev pub said_here : Option (List ℕ) → List Request → Definition → Bool → List ℕ → Result Reply Refusal
 said_here instance past event append text =
-    said_answer append (trigger_of instance event past) (kept_by append (hists_of instance event past))
+    said_answer append (snapshot_trigger_of instance event past) (kept_by append (hists_of instance event past))
     (left_by event append (hist_triggers instance past)) (said_of event text)
 
 pub written-said : (g : Config) (instance : Option (List ℕ)) (past : List Request) (request : Request) (k : NumberedEvent) (w : OwnWritten)
@@ -171,10 +171,10 @@ few-said : (append : Bool) (number : ℕ) (event : Definition) (attached : Optio
     → IsOk (said_answer append attached hists all said) → IsFew (unwrap_or (written_trigger number said) attached) (own_said number event all hists said)
 few-said append number event attached all hists (Err fault) few done = absurd (cc)
 few-said append number event attached all hists (Ok Nothing) few done = few
-few-said append number event None all hists (Ok (Attach spec)) few done = let less = room-had None hists done in omega (arith, less)
-few-said append number event (Some t) all hists (Ok (Attach spec)) few done = absurd (cc)
-few-said append number event None all hists (Ok Remove) few done = absurd (cc)
-few-said append number event (Some t) all hists (Ok Remove) few done = omega (arith, few)
+few-said append number event None all hists (Ok (AttachSnapshot spec)) few done = let less = room-had None hists done in omega (arith, less)
+few-said append number event (Some t) all hists (Ok (AttachSnapshot spec)) few done = absurd (cc)
+few-said append number event None all hists (Ok RemoveSnapshot) few done = absurd (cc)
+few-said append number event (Some t) all hists (Ok RemoveSnapshot) few done = omega (arith, few)
 few-said append number event attached all hists (Ok (Hist spec)) few done = by (has_same spec hists) refl
   where
     new : HistTrigger
@@ -194,9 +194,9 @@ few-said append number event attached all hists (Ok (RemoveHist spec)) few done 
 
 -- an event has no triggers before it is declared, and few after that
 record AreFew (instance : Option (List ℕ)) (past : List Request) (k : NumberedEvent) : Type 0 where
-  no_trigger : event_named k.event.name past ≡ None → trigger_of instance k.event past ≡ None
+  no_trigger : event_named k.event.name past ≡ None → snapshot_trigger_of instance k.event past ≡ None
   no_hists : event_named k.event.name past ≡ None → hists_of instance k.event past ≡ []
-  few : event_named k.event.name past ≡ Some k → IsFew (trigger_of instance k.event past) (hists_of instance k.event past)
+  few : event_named k.event.name past ≡ Some k → IsFew (snapshot_trigger_of instance k.event past) (hists_of instance k.event past)
 
 few-after : (g : Config) (instance : Option (List ℕ)) (past : List Request) (request : Request) (k : NumberedEvent) → IsOk (answer_with_room g past request)
     → AreFew instance past k → AreFew instance (request ∷ past) k
@@ -208,11 +208,11 @@ few-after g instance past request k done before = record { no_trigger = no_trigg
     more : List Definition
     more = option_to_list (declares request)
 
-    none_left : (new : Bool) → makes instance request ≡ new → event_named k.event.name past ≡ None → trigger_of instance k.event (request ∷ past) ≡ None
+    none_left : (new : Bool) → makes instance request ≡ new → event_named k.event.name past ≡ None → snapshot_trigger_of instance k.event (request ∷ past) ≡ None
     none_left true new none = rw new refl
     none_left false new none =
-        trigger_of-after instance k.event past request new
-        ∙ ap (λ (o : Option OwnWritten). trigger_after k.event (length past) o (trigger_of instance k.event past)) (written-none g instance past request k.event done none)
+        snapshot_trigger_of-after instance k.event past request new
+        ∙ ap (λ (o : Option OwnWritten). trigger_after k.event (length past) o (snapshot_trigger_of instance k.event past)) (written-none g instance past request k.event done none)
         ∙ before.no_trigger none
 
     no_hists_left : (new : Bool) → makes instance request ≡ new → event_named k.event.name past ≡ None → hists_of instance k.event (request ∷ past) ≡ []
@@ -226,42 +226,42 @@ few-after g instance past request k done before = record { no_trigger = no_trigg
     fewer : event_named k.event.name (request ∷ past) ≡ None → event_named k.event.name past ≡ None
     fewer none = named_in-fewer k.event.name (declared_events past) more none
 
-    no_trigger : event_named k.event.name (request ∷ past) ≡ None → trigger_of instance k.event (request ∷ past) ≡ None
+    no_trigger : event_named k.event.name (request ∷ past) ≡ None → snapshot_trigger_of instance k.event (request ∷ past) ≡ None
     no_trigger none = none_left (makes instance request) refl (fewer none)
 
     no_hists : event_named k.event.name (request ∷ past) ≡ None → hists_of instance k.event (request ∷ past) ≡ []
     no_hists none = no_hists_left (makes instance request) refl (fewer none)
 
     by_written : event_named k.event.name past ≡ Some k → (o : Option OwnWritten) → written ≡ o
-        → IsFew (trigger_after k.event (length past) o (trigger_of instance k.event past))
+        → IsFew (trigger_after k.event (length past) o (snapshot_trigger_of instance k.event past))
         (own_after (length past) (hist_triggers instance past) (option_map (as_written k.event) o) (hists_of instance k.event past))
     by_written there None is = before.few there
     by_written there (Some w) is =
-        few-said w.append (length past) k.event (trigger_of instance k.event past) (left_by k.event w.append (hist_triggers instance past))
+        few-said w.append (length past) k.event (snapshot_trigger_of instance k.event past) (left_by k.event w.append (hist_triggers instance past))
         (kept_by w.append (hists_of instance k.event past)) (said_of k.event w.text)
-        (count-kept w.append (trigger_of instance k.event past) (hists_of instance k.event past) (before.few there))
+        (count-kept w.append (snapshot_trigger_of instance k.event past) (hists_of instance k.event past) (before.few there))
         (written-said g instance past request k w done there is)
 
     by_life : event_named k.event.name past ≡ Some k → (new : Bool) → makes instance request ≡ new
-        → IsFew (trigger_of instance k.event (request ∷ past)) (hists_of instance k.event (request ∷ past))
+        → IsFew (snapshot_trigger_of instance k.event (request ∷ past)) (hists_of instance k.event (request ∷ past))
     by_life there true new = rw new (omega arith)
     by_life there false new =
-        few-same (trigger_of instance k.event (request ∷ past)) (trigger_after k.event (length past) written (trigger_of instance k.event past))
+        few-same (snapshot_trigger_of instance k.event (request ∷ past)) (trigger_after k.event (length past) written (snapshot_trigger_of instance k.event past))
         (hists_of instance k.event (request ∷ past))
         (own_after (length past) (hist_triggers instance past) (option_map (as_written k.event) written) (hists_of instance k.event past))
-        (trigger_of-after instance k.event past request new)
+        (snapshot_trigger_of-after instance k.event past request new)
         (hists_of-after instance k.event past request new
         ∙ ap (λ (o : Option Written). own_after (length past) (hist_triggers instance past) o (hists_of instance k.event past))
         (own-declared instance k.event past request k there refl))
         (by_written there written refl)
 
-    few : event_named k.event.name (request ∷ past) ≡ Some k → IsFew (trigger_of instance k.event (request ∷ past)) (hists_of instance k.event (request ∷ past))
+    few : event_named k.event.name (request ∷ past) ≡ Some k → IsFew (snapshot_trigger_of instance k.event (request ∷ past)) (hists_of instance k.event (request ∷ past))
     few there = by (event_named k.event.name past) refl
       where
         by : (old : Option NumberedEvent) → event_named k.event.name past ≡ old
-            → IsFew (trigger_of instance k.event (request ∷ past)) (hists_of instance k.event (request ∷ past))
+            → IsFew (snapshot_trigger_of instance k.event (request ∷ past)) (hists_of instance k.event (request ∷ past))
         by None none =
-            few-same (trigger_of instance k.event (request ∷ past)) None (hists_of instance k.event (request ∷ past)) []
+            few-same (snapshot_trigger_of instance k.event (request ∷ past)) None (hists_of instance k.event (request ∷ past)) []
             (none_left (makes instance request) refl none) (no_hists_left (makes instance request) refl none) (omega arith)
         by (Some old) was =
             let e : Some old ≡ Some k = sym (named_in-more k.event.name (declared_events past) more old was) ∙ there in
@@ -273,7 +273,7 @@ few-done g (request ∷ past) instance k done = few-after g instance past reques
 
 -- an event has few triggers where each request was done
 pub few-triggers : (g : Config) (past : List Request) (instance : Option (List ℕ)) (name : List ℕ) (k : NumberedEvent) → AreDone g past
-    → event_named name past ≡ Some k → trigger_count (trigger_of instance k.event past) (hists_of instance k.event past) ≤ 4
+    → event_named name past ≡ Some k → trigger_count (snapshot_trigger_of instance k.event past) (hists_of instance k.event past) ≤ 4
 few-triggers g past instance name k done there =
     let numbered = named-is_numbered (declared_events past) name k there in
     let index = index_of_id (declared_events past) name k.id k.event numbered.named numbered.there in

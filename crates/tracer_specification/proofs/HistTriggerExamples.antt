@@ -26,7 +26,7 @@ use Rattle.record_text.specs.SnapshotText.{freed_line, snapshot_text}
 use Rattle.record_text.specs.StatsText.{stats_line, stats_text}
 use Rattle.trace_text.specs.TriggerText.{lists_text, hist_line, trigger_line, available_triggers, trigger_text}
 use Rattle.trace_trigger.specs.TriggerTexts.{count_of, condition_of, snapshot_said, said_of}
-use Rattle.trace_trigger.specs.TriggerTexts.{trigger_of as said_trigger}
+use Rattle.trace_trigger.specs.TriggerTexts.{snapshot_trigger_of as said_trigger}
 use Rattle.trace_command.specs.Paths.{top_file, option_file, events_file, system_file, cpu_file, event_file, mount_point, below_mount_point, address_of, instance_of}
 use Rattle.tracer_specification.specs.FileTexts.{flag_text, cpu_stats_text, shown_snapshot}
 use Rattle.tracer_specification.specs.History.{emission_answer, declaration_answer, switch_answer, filter_answer, tracing_answer, snapshot_answer, trigger_answer, named_answer, answer}

@@ -14,7 +14,7 @@ use Rattle.trace_trigger.specs.declared.spec.SortKey.{SortKey}
 use Rattle.trace_trigger.specs.TriggerTexts.{said_of}
 use Rattle.trace_trigger.specs.declared.fault.TriggerFault.{TriggerFault}
 use Rattle.trace_trigger.specs.declared.trigger.TriggerText.{TriggerText}
-use Rattle.trace_trigger.specs.declared.trigger.TriggerText.TheVariants.{Nothing, Attach, Remove, Hist, RemoveHist}
+use Rattle.trace_trigger.specs.declared.trigger.TriggerText.TheVariants.{Nothing, AttachSnapshot, RemoveSnapshot, Hist, RemoveHist}
 use Rattle.trace_command.specs.Requests.{Request}
 use Rattle.tracer_specification.specs.HistTriggers.{HistTrigger, Written, has_same, hist_triggers, hists_of, kept_by, left_by, new_hist, says_same, written_for, written_to}
 use Rattle.tracer_specification.specs.Laws.{HistTriggersDiffer, HistTriggersAreInOrder}
@@ -98,8 +98,8 @@ differ-said number event all hists (Ok (Hist spec)) pairs = by (has_same spec hi
     by true is = pairs
     by false is = pairs-push Differ hists (new_hist number event all spec) (differ-new spec (new_hist number event all spec) hists refl is) pairs
 differ-said number event all hists (Ok (RemoveHist spec)) pairs = AllPairs-filter Differ (λ t. not (says_same spec t)) hists pairs
-differ-said number event all hists (Ok (Attach spec)) pairs = pairs
-differ-said number event all hists (Ok Remove) pairs = pairs
+differ-said number event all hists (Ok (AttachSnapshot spec)) pairs = pairs
+differ-said number event all hists (Ok RemoveSnapshot) pairs = pairs
 differ-said number event all hists (Ok Nothing) pairs = pairs
 differ-said number event all hists (Err fault) pairs = pairs
 
@@ -160,8 +160,8 @@ said-in_order number event all hists (Ok (RemoveHist spec)) are = record {
   pairs = AllPairs-filter Before (λ t. not (says_same spec t)) hists are.pairs;
   all = All-filter (λ t. not (says_same spec t)) (λ t. t.number < suc number) hists (later-in_order number hists are).all;
 }
-said-in_order number event all hists (Ok (Attach spec)) are = later-in_order number hists are
-said-in_order number event all hists (Ok Remove) are = later-in_order number hists are
+said-in_order number event all hists (Ok (AttachSnapshot spec)) are = later-in_order number hists are
+said-in_order number event all hists (Ok RemoveSnapshot) are = later-in_order number hists are
 said-in_order number event all hists (Ok Nothing) are = later-in_order number hists are
 said-in_order number event all hists (Err fault) are = later-in_order number hists are
 

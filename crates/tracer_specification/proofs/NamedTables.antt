@@ -8,7 +8,7 @@ use Rattle.trace_trigger.specs.HistSpecs.{SpecSeen}
 use Rattle.trace_trigger.specs.TriggerTexts.{said_of}
 use Rattle.trace_trigger.specs.declared.fault.TriggerFault.{TriggerFault}
 use Rattle.trace_trigger.specs.declared.trigger.TriggerText.{TriggerText}
-use Rattle.trace_trigger.specs.declared.trigger.TriggerText.TheVariants.{Nothing, Attach, Remove, Hist, RemoveHist}
+use Rattle.trace_trigger.specs.declared.trigger.TriggerText.TheVariants.{Nothing, AttachSnapshot, RemoveSnapshot, Hist, RemoveHist}
 use Rattle.trace_trigger.proofs.FittingLaws.{fitting_fits, fitting_is_reflexive, fitting_is_symmetric, fitting_is_transitive}
 use Rattle.trace_command.specs.Requests.{Request}
 use Rattle.trace_command.specs.declared.command.Config.{Config}
@@ -17,7 +17,7 @@ use Rattle.tracer_specification.specs.HistTriggers.{HistTrigger, Written, fits_t
 use Rattle.tracer_specification.specs.Settings.{makes}
 use Rattle.tracer_specification.specs.Pasts.{AreDone}
 use Rattle.tracer_specification.specs.TableLaws.{NamedTablesAreShared, SharedTablesFit, TablesGoWithTheirLast}
-use Rattle.tracer_specification.specs.Triggers.{Trigger, trigger_of}
+use Rattle.tracer_specification.specs.Triggers.{Trigger, snapshot_trigger_of}
 use Rattle.tracer_specification.proofs.AskedTables.{asked-new}
 use Rattle.tracer_specification.proofs.AttachedHists.{attached-then, is-there}
 use Rattle.tracer_specification.proofs.EventHists.{own-left, tables-apart, tables-made_before}
@@ -169,7 +169,7 @@ fits-named g instance past request w spec done written says none =
     own = kept_by w.append (hists_of instance w.event past)
 
     attached : Option Trigger
-    attached = trigger_of instance w.event past
+    attached = snapshot_trigger_of instance w.event past
 
     told : IsOk (hist_answer attached own left spec)
     told =
@@ -194,8 +194,8 @@ fit-said number event hists (Ok (Hist spec)) old fit fits = by (has_same spec (t
 fit-said number event hists (Ok (RemoveHist spec)) old fit fits =
     let stays : HistTrigger → Bool = λ t. not (is_of event t && says_same spec t) in
     fit-fewer (filter stays hists) hists (λ t there. (in-filter t stays hists there).0) fit
-fit-said number event hists (Ok (Attach trigger)) old fit fits = fit
-fit-said number event hists (Ok Remove) old fit fits = fit
+fit-said number event hists (Ok (AttachSnapshot trigger)) old fit fits = fit
+fit-said number event hists (Ok RemoveSnapshot) old fit fits = fit
 fit-said number event hists (Ok Nothing) old fit fits = fit
 fit-said number event hists (Err fault) old fit fits = fit
 

@@ -38,7 +38,7 @@ use Rattle.trace_command.specs.declared.refusal.Refusal.TheVariants as refusals
 use Rattle.tracer_specification.specs.History.{row_answer, event_answer, emission_answer, added_answer, read_declaration_answer, declaration_answer, switch_answer, taken_answer, filter_answer, named_filter_answer, filter_of_all_answer, option_answer, tracing_answer, spare_answer, snapshot_answer, most_triggers, trigger_count, room_answer, asked_answer, fitting_answer, new_hist_answer, said_answer, trigger_answer, named_trigger_answer, text_of, write_answer, whole_text, read_answer, most_instances, named_answer, make_answer, remove_answer, missing_cpu, missing_event, missing, unless_refused, file_answer, instance_answer, answer_with_room, unless_full, answer, past_of, answer_to}
 use Rattle.tracer_specification.specs.Settings.{NumberedEvent, event_named, declared_events, written_flag, written_option, written_tracing, instance_names, is_there, clears_filter, can_take}
 use Rattle.tracer_specification.specs.Snapshots.{SnapshotWrite, Frees, Takes, Empties, written_snapshot}
-use Rattle.tracer_specification.specs.Triggers.{Trigger, trigger_of, has_trigger}
+use Rattle.tracer_specification.specs.Triggers.{Trigger, snapshot_trigger_of, has_snapshot_trigger}
 use Rattle.tracer_specification.specs.HistTriggers.{HistTrigger, fits_that, has_same, hist_triggers, hists_of, kept_by, left_by, named_by}
 use Rattle.tracer_specification.proofs.TextFaults.{adding_takes_none, filter_takes_none, trigger_text_takes_none}
 
@@ -140,10 +140,10 @@ said : (append : Bool) (attached : Option Trigger) (hists all : List HistTrigger
     → IsOwn (said_answer append attached hists all r)
 said append attached hists all (Err fault) none = triggered fault (λ e. none (ap (λ (f : TriggerFault). Err f) e))
 said append attached hists all (Ok texts.Nothing) none = tt
-said append None hists all (Ok (texts.Attach spec)) none = room None hists
-said append (Some t) hists all (Ok (texts.Attach spec)) none = tt
-said append None hists all (Ok texts.Remove) none = tt
-said append (Some t) hists all (Ok texts.Remove) none = tt
+said append None hists all (Ok (texts.AttachSnapshot spec)) none = room None hists
+said append (Some t) hists all (Ok (texts.AttachSnapshot spec)) none = tt
+said append None hists all (Ok texts.RemoveSnapshot) none = tt
+said append (Some t) hists all (Ok texts.RemoveSnapshot) none = tt
 said append attached hists all (Ok (texts.Hist spec)) none =
     either (has_same spec hists) _ _ (asked spec.action) (new_hist attached hists (fits_that spec (named_by spec all)) spec.action)
 said append attached hists all (Ok (texts.RemoveHist spec)) none = either (not append || has_same spec hists) _ _ tt tt
@@ -153,7 +153,7 @@ named_trigger : (instance : Option (List ℕ)) (past : List Request) (append : B
 unfolding trigger_answer
 named_trigger instance past append text None = tt
 named_trigger instance past append text (Some k) =
-    said append (trigger_of instance k.event past) (kept_by append (hists_of instance k.event past))
+    said append (snapshot_trigger_of instance k.event past) (kept_by append (hists_of instance k.event past))
     (left_by k.event append (hist_triggers instance past)) (said_of k.event text)
     (trigger_text_takes_none k.event text)
 
@@ -164,7 +164,7 @@ written g instance past append text SyntheticEvents = declaration g past append 
 written g instance past append text (OfInstance top.Overwrite) = flagged (is_some (written_flag text))
 written g instance past append text (OfInstance top.TraceOptions) = flagged (is_some (written_option text))
 written g instance past append text (OfInstance top.TracingOn) = flagged (is_some (written_tracing text))
-written g instance past append text (OfInstance top.Snapshot) = spare (has_trigger instance past) (written_snapshot text)
+written g instance past append text (OfInstance top.Snapshot) = spare (has_snapshot_trigger instance past) (written_snapshot text)
 written g instance past append text (OfInstance top.EventsEnable) = flagged (is_some (written_flag text))
 written g instance past append text (OfInstance top.EventsFilter) = filter_of_all text (declared_events past)
 written g instance past append text (OfCpu cpu per_cpu.Trace) = tt

@@ -10,13 +10,13 @@ use Rattle.trace_trigger.specs.HistSpecs.{SpecSeen}
 use Rattle.trace_trigger.specs.TriggerTexts.{said_of}
 use Rattle.trace_trigger.specs.declared.fault.TriggerFault.{TriggerFault}
 use Rattle.trace_trigger.specs.declared.trigger.TriggerText.{TriggerText}
-use Rattle.trace_trigger.specs.declared.trigger.TriggerText.TheVariants.{Nothing, Attach, Remove, Hist, RemoveHist}
+use Rattle.trace_trigger.specs.declared.trigger.TriggerText.TheVariants.{Nothing, AttachSnapshot, RemoveSnapshot, Hist, RemoveHist}
 use Rattle.trace_command.specs.Paths.{OfEvent}
 use Rattle.trace_command.specs.declared.file_name.EventFile.TheVariants as per_event
 use Rattle.trace_command.specs.Requests.{Request, WriteFile}
 use Rattle.tracer_specification.specs.HistTriggers.{HistTrigger, Written, says_same, has_same, is_of, left_by, those_of, new_hist, hist_triggers, hists_said, written_for, written_to, hists_after}
 use Rattle.tracer_specification.specs.Settings.{NumberedEvent, is_same, makes, set_by, event_named, declares, declared_events}
-use Rattle.tracer_specification.specs.Triggers.{Trigger, written_trigger, sets_trigger, trigger_of}
+use Rattle.tracer_specification.specs.Triggers.{Trigger, written_trigger, sets_trigger, snapshot_trigger_of}
 use Rattle.tracer_specification.proofs.Events.{index_of_id}
 use Rattle.tracer_specification.proofs.LegalEvents.{named_in-more, named-is_numbered}
 
@@ -148,8 +148,8 @@ named-said past number event hists (Ok (Hist spec)) all is = by (has_same spec (
     by true = all
     by false = named-push past hists (new_hist number event hists spec) all (is hists spec)
 named-said past number event hists (Ok (RemoveHist spec)) all is = named-filter past (λ t. not (is_of event t && says_same spec t)) hists all
-named-said past number event hists (Ok (Attach spec)) all is = all
-named-said past number event hists (Ok Remove) all is = all
+named-said past number event hists (Ok (AttachSnapshot spec)) all is = all
+named-said past number event hists (Ok RemoveSnapshot) all is = all
 named-said past number event hists (Ok Nothing) all is = all
 named-said past number event hists (Err fault) all is = all
 
@@ -201,12 +201,12 @@ abbrev pub trigger_after : Definition → ℕ → Option OwnWritten → Option T
 trigger_after event number None attached = attached
 trigger_after event number (Some w) attached = unwrap_or (written_trigger number (said_of event w.text)) attached
 
-pub trigger_of-after : (instance : Option (List ℕ)) (event : Definition) (past : List Request) (request : Request) → makes instance request ≡ false
-    → trigger_of instance event (request ∷ past) ≡ trigger_after event (length past) (own_written instance event request) (trigger_of instance event past)
-trigger_of-after instance event past request alive = rw alive (set-after request)
+pub snapshot_trigger_of-after : (instance : Option (List ℕ)) (event : Definition) (past : List Request) (request : Request) → makes instance request ≡ false
+    → snapshot_trigger_of instance event (request ∷ past) ≡ trigger_after event (length past) (own_written instance event request) (snapshot_trigger_of instance event past)
+snapshot_trigger_of-after instance event past request alive = rw alive (set-after request)
   where
     attached : Option Trigger
-    attached = trigger_of instance event past
+    attached = snapshot_trigger_of instance event past
 
     set-after : (r : Request) → unwrap_or (set_by instance (sets_trigger event past) r) attached ≡ trigger_after event (length past) (own_written instance event r) attached
     set-after (WriteFile other (Some (OfEvent name per_event.Trigger)) append text) = by (is_same instance other) (bytes_eq event.name name)

@@ -6,16 +6,16 @@ use Rattle.trace_format.specs.Definitions.{Definition}
 use Rattle.trace_trigger.specs.HistSpecs.{SpecSeen}
 use Rattle.trace_trigger.specs.HistTexts.{spec_of}
 use Rattle.trace_trigger.specs.TriggerAnswers.{◌>>=◌}
-use Rattle.trace_trigger.specs.TriggerTexts.{after, begins, said_after, said_of, snapshot_said, trigger_of}
+use Rattle.trace_trigger.specs.TriggerTexts.{after, begins, said_after, said_of, snapshot_said, snapshot_trigger_of}
 use Rattle.trace_trigger.specs.declared.fault.TriggerFault.{TriggerFault}
 use Rattle.trace_trigger.specs.declared.trigger.SnapshotTrigger.{SnapshotTrigger}
-use Rattle.trace_trigger.specs.declared.trigger.TriggerText.TheVariants.{Nothing, Attach, Remove, Hist, RemoveHist}
+use Rattle.trace_trigger.specs.declared.trigger.TriggerText.TheVariants.{Nothing, AttachSnapshot, RemoveSnapshot, Hist, RemoveHist}
 
-attach-no_hist : (spec : SpecSeen) (read : Result SnapshotTrigger TriggerFault) → (read >>= λ trigger. Ok (Attach trigger)) ≡ Ok (Hist spec) → ⊥
+attach-no_hist : (spec : SpecSeen) (read : Result SnapshotTrigger TriggerFault) → (read >>= λ trigger. Ok (AttachSnapshot trigger)) ≡ Ok (Hist spec) → ⊥
 attach-no_hist spec (Ok trigger) is = cc
 attach-no_hist spec (Err fault) is = cc
 
-remove-no_hist : (spec : SpecSeen) (read : Result SnapshotTrigger TriggerFault) → (read >>= λ trigger. Ok Remove) ≡ Ok (Hist spec) → ⊥
+remove-no_hist : (spec : SpecSeen) (read : Result SnapshotTrigger TriggerFault) → (read >>= λ trigger. Ok RemoveSnapshot) ≡ Ok (Hist spec) → ⊥
 remove-no_hist spec (Ok trigger) is = cc
 remove-no_hist spec (Err fault) is = cc
 
@@ -25,8 +25,8 @@ unfolding snapshot_said
 snapshot-no_hist event text spec is = by (after (codes "!") text) is
   where
     by : (body : Option (List ℕ)) → said_after event text body ≡ Ok (Hist spec) → ⊥
-    by None said = attach-no_hist spec (trigger_of event text text) said
-    by (Some body) said = remove-no_hist spec (trigger_of event text body) said
+    by None said = attach-no_hist spec (snapshot_trigger_of event text text) said
+    by (Some body) said = remove-no_hist spec (snapshot_trigger_of event text body) said
 
 hist-read : (spec : SpecSeen) (read : Result SpecSeen TriggerFault) → (read >>= λ s. Ok (Hist s)) ≡ Ok (Hist spec) → read ≡ Ok spec
 hist-read spec (Ok s) is = cc

@@ -10,7 +10,7 @@ use Rattle.trace_format.specs.Definitions.{Definition}
 use Rattle.trace_trigger.specs.TriggerTexts.{said_of}
 use Rattle.trace_trigger.specs.declared.fault.TriggerFault.{TriggerFault}
 use Rattle.trace_trigger.specs.declared.trigger.TriggerText.{TriggerText}
-use Rattle.trace_trigger.specs.declared.trigger.TriggerText.TheVariants.{Nothing, Attach, Remove, Hist, RemoveHist}
+use Rattle.trace_trigger.specs.declared.trigger.TriggerText.TheVariants.{Nothing, AttachSnapshot, RemoveSnapshot, Hist, RemoveHist}
 use Rattle.trace_command.specs.Paths.{File, OfInstance, OfEvent}
 use Rattle.trace_command.specs.Requests.{Request, WriteFile}
 use Rattle.trace_command.specs.declared.command.Config.{Config}
@@ -21,7 +21,7 @@ use Rattle.tracer_specification.specs.Laws.{TriggersHaveTheirSpare}
 use Rattle.tracer_specification.specs.Pasts.{AreDone}
 use Rattle.tracer_specification.specs.Settings.{NumberedEvent, is_same, makes, set_by, event_named, declares, declared_events}
 use Rattle.tracer_specification.specs.Snapshots.{SnapshotWrite, Frees, Takes, Empties, written_snapshot, spare_written, spare_armed, spare_armed_for, sets_spare, has_spare}
-use Rattle.tracer_specification.specs.Triggers.{Trigger, written_trigger, sets_trigger, trigger_of, has_trigger}
+use Rattle.tracer_specification.specs.Triggers.{Trigger, written_trigger, sets_trigger, snapshot_trigger_of, has_snapshot_trigger}
 use Rattle.tracer_specification.proofs.Events.{named_in-fewer, index_of_id}
 use Rattle.tracer_specification.proofs.EventLists.{named_at}
 use Rattle.tracer_specification.proofs.LegalEvents.{asked-done, done-events, named_in-more, named-is_numbered}
@@ -48,8 +48,8 @@ named-passes test past name k found passes =
 -- ---- what a write sets of a trigger
 
 said-armed : (number : ℕ) (said : Result TriggerText TriggerFault) (t : Trigger) → written_trigger number said ≡ Some (Some t) → spare_armed said ≡ Some true
-said-armed number (Ok (Attach spec)) t is = refl
-said-armed number (Ok Remove) t is = absurd (cc)
+said-armed number (Ok (AttachSnapshot spec)) t is = refl
+said-armed number (Ok RemoveSnapshot) t is = absurd (cc)
 said-armed number (Ok Nothing) t is = absurd (cc)
 said-armed number (Ok (Hist spec)) t is = absurd (cc)
 said-armed number (Ok (RemoveHist spec)) t is = absurd (cc)
@@ -120,8 +120,8 @@ written-frees (Some Empties) is = absurd (cc)
 written-frees None is = absurd (cc)
 
 said-arms : (said : Result TriggerText TriggerFault) → spare_armed said ≡ Some false → ⊥
-said-arms (Ok (Attach spec)) is = cc
-said-arms (Ok Remove) is = cc
+said-arms (Ok (AttachSnapshot spec)) is = cc
+said-arms (Ok RemoveSnapshot) is = cc
 said-arms (Ok Nothing) is = cc
 said-arms (Ok (Hist spec)) is = cc
 said-arms (Ok (RemoveHist spec)) is = cc
@@ -160,12 +160,12 @@ set-freed instance past _ is = absurd (none-some false is)
 
 -- it is freed only where no event has a trigger
 freed-unused : (g : Config) (instance : Option (List ℕ)) (past : List Request) (append : Bool) (text : List ℕ)
-    → IsOk (answer_with_room g past (WriteFile instance (Some (OfInstance top.Snapshot)) append text)) → written_snapshot text ≡ Some Frees → has_trigger instance past ≡ false
+    → IsOk (answer_with_room g past (WriteFile instance (Some (OfInstance top.Snapshot)) append text)) → written_snapshot text ≡ Some Frees → has_snapshot_trigger instance past ≡ false
 unfolding snapshot_answer
 freed-unused g instance past append text done frees =
-    let asked : IsOk (spare_answer (has_trigger instance past) (written_snapshot text)) =
-    asked-done instance past (spare_answer (has_trigger instance past) (written_snapshot text)) done in
-    by (has_trigger instance past) (subst (λ (w : Option SnapshotWrite). IsOk (spare_answer (has_trigger instance past) w)) frees asked)
+    let asked : IsOk (spare_answer (has_snapshot_trigger instance past) (written_snapshot text)) =
+    asked-done instance past (spare_answer (has_snapshot_trigger instance past) (written_snapshot text)) done in
+    by (has_snapshot_trigger instance past) (subst (λ (w : Option SnapshotWrite). IsOk (spare_answer (has_snapshot_trigger instance past) w)) frees asked)
   where
     by : (used : Bool) → IsOk (spare_answer used (Some Frees)) → used ≡ false
     by true h = absurd (false≢true h)
@@ -175,8 +175,8 @@ freed-unused g instance past append text done frees =
 
 -- an event has no trigger before it is declared, and then a spare is there while it has one
 record IsArmed (instance : Option (List ℕ)) (past : List Request) (k : NumberedEvent) : Type 0 where
-  untriggered : event_named k.event.name past ≡ None → trigger_of instance k.event past ≡ None
-  armed : (t : Trigger) → event_named k.event.name past ≡ Some k → trigger_of instance k.event past ≡ Some t → has_spare instance past ≡ true
+  untriggered : event_named k.event.name past ≡ None → snapshot_trigger_of instance k.event past ≡ None
+  armed : (t : Trigger) → event_named k.event.name past ≡ Some k → snapshot_trigger_of instance k.event past ≡ Some t → has_spare instance past ≡ true
 
 -- a setting after a request
 abbrev pub left : {A : Type 0} → A → Bool → Option A → A → A
@@ -192,45 +192,45 @@ armed-after g instance past request k done before = record { untriggered = untri
     set_spare : Option Bool
     set_spare = set_by instance (sets_spare past) request
 
-    none_left : (new : Bool) → event_named k.event.name past ≡ None → left None new set_trigger (trigger_of instance k.event past) ≡ None
+    none_left : (new : Bool) → event_named k.event.name past ≡ None → left None new set_trigger (snapshot_trigger_of instance k.event past) ≡ None
     none_left true none = refl
     none_left false none =
-        ap (λ (o : Option (Option Trigger)). unwrap_or o (trigger_of instance k.event past)) (set-none g instance past request k.event done none)
+        ap (λ (o : Option (Option Trigger)). unwrap_or o (snapshot_trigger_of instance k.event past)) (set-none g instance past request k.event done none)
         ∙ before.untriggered none
 
-    untriggered : event_named k.event.name (request ∷ past) ≡ None → trigger_of instance k.event (request ∷ past) ≡ None
+    untriggered : event_named k.event.name (request ∷ past) ≡ None → snapshot_trigger_of instance k.event (request ∷ past) ≡ None
     untriggered none =
         none_left (makes instance request) (named_in-fewer k.event.name (declared_events past) (option_to_list (declares request)) none)
 
     -- what the request frees, it frees where the event has no trigger
-    freed : (t : Trigger) → event_named k.event.name past ≡ Some k → trigger_of instance k.event past ≡ Some t → set_spare ≡ Some false → ⊥
+    freed : (t : Trigger) → event_named k.event.name past ≡ Some k → snapshot_trigger_of instance k.event past ≡ Some t → set_spare ≡ Some false → ⊥
     freed t there attached frees =
         let free = set-freed instance past request frees in
-        let unused : has_trigger instance past ≡ false =
+        let unused : has_snapshot_trigger instance past ≡ false =
         freed-unused g instance past free.append free.text (subst (λ (r : Request). IsOk (answer_with_room g past r)) free.is done) free.frees in
-        let used : has_trigger instance past ≡ true =
-        named-passes (λ (event : Definition). is_some (trigger_of instance event past)) past k.event.name k there (ap is_some attached) in
+        let used : has_snapshot_trigger instance past ≡ true =
+        named-passes (λ (event : Definition). is_some (snapshot_trigger_of instance event past)) past k.event.name k there (ap is_some attached) in
         true≢false (sym used ∙ unused)
 
-    by_spare : (t : Trigger) → event_named k.event.name past ≡ Some k → trigger_of instance k.event past ≡ Some t → (set : Option Bool) → set_spare ≡ set
+    by_spare : (t : Trigger) → event_named k.event.name past ≡ Some k → snapshot_trigger_of instance k.event past ≡ Some t → (set : Option Bool) → set_spare ≡ set
         → unwrap_or set (has_spare instance past) ≡ true
     by_spare t there attached None is = before.armed t there attached
     by_spare t there attached (Some true) is = refl
     by_spare t there attached (Some false) is = absurd (freed t there attached is)
 
     by_trigger : (t : Trigger) → event_named k.event.name past ≡ Some k → (set : Option (Option Trigger)) → set_trigger ≡ set
-        → unwrap_or set (trigger_of instance k.event past) ≡ Some t → unwrap_or set_spare (has_spare instance past) ≡ true
+        → unwrap_or set (snapshot_trigger_of instance k.event past) ≡ Some t → unwrap_or set_spare (has_spare instance past) ≡ true
     by_trigger t there None is h = by_spare t there h set_spare refl
     by_trigger t there (Some None) is h = absurd (none-some t h)
     by_trigger t there (Some (Some new)) is h =
         ap (λ (o : Option Bool). unwrap_or o (has_spare instance past)) (set-armed instance k past request new there is)
 
     by_life : (t : Trigger) → event_named k.event.name past ≡ Some k → (new : Bool) → makes instance request ≡ new
-        → left None new set_trigger (trigger_of instance k.event past) ≡ Some t → left false new set_spare (has_spare instance past) ≡ true
+        → left None new set_trigger (snapshot_trigger_of instance k.event past) ≡ Some t → left false new set_spare (has_spare instance past) ≡ true
     by_life t there true new h = absurd (none-some t h)
     by_life t there false new h = by_trigger t there set_trigger refl h
 
-    armed : (t : Trigger) → event_named k.event.name (request ∷ past) ≡ Some k → trigger_of instance k.event (request ∷ past) ≡ Some t
+    armed : (t : Trigger) → event_named k.event.name (request ∷ past) ≡ Some k → snapshot_trigger_of instance k.event (request ∷ past) ≡ Some t
         → has_spare instance (request ∷ past) ≡ true
     armed t there attached = by (event_named k.event.name past) refl
       where
@@ -273,10 +273,10 @@ value_of-some (Some x) P is then_P = then_P x refl
 pub triggers_have_their_spare : TriggersHaveTheirSpare
 triggers_have_their_spare g past instance done has =
     let events = declared_events past in
-    let found = passed-in (λ (event : Definition). is_some (trigger_of instance event past)) events has in
+    let found = passed-in (λ (event : Definition). is_some (snapshot_trigger_of instance event past)) events has in
     let k : NumberedEvent = record { id = suc found.index; event = found.event } in
     let there : event_named found.event.name past ≡ Some k =
     subst (λ (event : Definition). event_named event.name past ≡ Some (let n : NumberedEvent = record { id = suc found.index; event = event } in n)) found.there
     (named_at events found.index found.event (done-events g past done).are found.inside) in
-    value_of-some (trigger_of instance found.event past) (has_spare instance past ≡ true) found.passes
+    value_of-some (snapshot_trigger_of instance found.event past) (has_spare instance past ≡ true) found.passes
     (λ t attached. (armed-done g past instance k done).armed t there attached)

@@ -7,9 +7,9 @@ use Rattle.trace_trigger.specs.HistSpecs.{SpecSeen}
 use Rattle.trace_trigger.specs.TriggerTexts.{said_of}
 use Rattle.trace_trigger.specs.declared.fault.TriggerFault.{TriggerFault}
 use Rattle.trace_trigger.specs.declared.spec.Action.{Action}
-use Rattle.trace_trigger.specs.declared.spec.Action.TheVariants.{Attach as AttachIt, Pause, Continue, Clear}
+use Rattle.trace_trigger.specs.declared.spec.Action.TheVariants.{Attach, Pause, Continue, Clear}
 use Rattle.trace_trigger.specs.declared.trigger.TriggerText.{TriggerText}
-use Rattle.trace_trigger.specs.declared.trigger.TriggerText.TheVariants.{Nothing, Attach, Remove, Hist, RemoveHist}
+use Rattle.trace_trigger.specs.declared.trigger.TriggerText.TheVariants.{Nothing, AttachSnapshot, RemoveSnapshot, Hist, RemoveHist}
 use Rattle.trace_command.specs.Requests.{Request, Emission as Emits}
 use Rattle.tracer_specification.specs.Emissions.{Emitted, emitted}
 use Rattle.tracer_specification.specs.HistTriggers.{HistTrigger, Written, asked_by, asked_in, asked_of, counted_by, counted_hit, empties, hist_triggers, hits_of, is_of, is_pause, is_paused, met_in, paused_after, says_same, speaks_of, those_of, written_for, written_to}
@@ -67,8 +67,8 @@ none-asked : (table : ℕ) (hists : List HistTrigger) (said : Result TriggerText
 none-asked table hists (Ok (Hist spec)) apart =
     ap (λ (b : Bool). if b then Some spec.action else None) (none-said spec table hists (λ t. apart spec t refl))
 none-asked table hists (Ok (RemoveHist spec)) apart = refl
-none-asked table hists (Ok (Attach trigger)) apart = refl
-none-asked table hists (Ok Remove) apart = refl
+none-asked table hists (Ok (AttachSnapshot trigger)) apart = refl
+none-asked table hists (Ok RemoveSnapshot) apart = refl
 none-asked table hists (Ok Nothing) apart = refl
 none-asked table hists (Err fault) apart = refl
 
@@ -259,7 +259,7 @@ unmade instance table (request ∷ past) late =
     )
 
 paused-new : (asked : Action) → paused_after (Some asked) false ≡ is_pause asked
-paused-new AttachIt = refl
+paused-new Attach = refl
 paused-new Pause = refl
 paused-new Continue = refl
 paused-new Clear = refl

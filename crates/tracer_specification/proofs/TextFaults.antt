@@ -21,7 +21,7 @@ use Rattle.trace_trigger.proofs.CauseLaws.{refusal_is_as_written}
 use Rattle.trace_trigger.proofs.Cuts.{so_begins}
 use Rattle.trace_trigger.specs.Frames.{after_blanks, moved, filter_read, filter_of}
 use Rattle.trace_trigger.specs.TriggerAnswers.{◌>>=◌}
-use Rattle.trace_trigger.specs.TriggerTexts.{said_of, after, word_of, after_word, count_from, count_after, count_of, condition_after, condition_of, trigger_of, said_after, snapshot_said, begins}
+use Rattle.trace_trigger.specs.TriggerTexts.{said_of, after, word_of, after_word, count_from, count_after, count_of, condition_after, condition_of, snapshot_trigger_of, said_after, snapshot_said, begins}
 use Rattle.trace_trigger.specs.declared.fault.TriggerFault.{TriggerFault}
 use Rattle.trace_trigger.specs.declared.fault.TriggerFault.TheVariants as faults
 use Rattle.trace_trigger.specs.declared.trigger.TriggerText.TheVariants as texts
@@ -132,8 +132,8 @@ only_if_takes_none definition text (Some condition) e = by (answer_of definition
     by (Err (filters.WrongOperator at)) never h = cc
     by (Err filters.Memory) never h = never refl
 
-trigger_takes_none : (definition : Definition) (text body : List ℕ) → trigger_of definition text body ≡ Err faults.Memory → ⊥
-unfolding trigger_of
+trigger_takes_none : (definition : Definition) (text body : List ℕ) → snapshot_trigger_of definition text body ≡ Err faults.Memory → ⊥
+unfolding snapshot_trigger_of
 trigger_takes_none definition text body e =
     then_none (count_of (word_of body)) _ (count_takes_none (word_of body))
     (λ count. then_none (condition_of (after_word body)) _ (condition_takes_none (after_word body))
@@ -144,8 +144,8 @@ unfolding snapshot_said
 snapshot_takes_none definition text e = by (after (codes "!") text) e
   where
     by : (body : Option (List ℕ)) → said_after definition text body ≡ Err faults.Memory → ⊥
-    by None h = then_none (trigger_of definition text text) _ (trigger_takes_none definition text text) (λ t. no_fault _) h
-    by (Some body) h = then_none (trigger_of definition text body) _ (trigger_takes_none definition text body) (λ t. no_fault _) h
+    by None h = then_none (snapshot_trigger_of definition text text) _ (trigger_takes_none definition text text) (λ t. no_fault _) h
+    by (Some body) h = then_none (snapshot_trigger_of definition text body) _ (trigger_takes_none definition text body) (λ t. no_fault _) h
 
 -- ---- all texts
 

@@ -6,19 +6,19 @@ use Rattle.trace_format.specs.Definitions.{Definition}
 use Rattle.trace_trigger.specs.TriggerTexts.{said_of}
 use Rattle.trace_trigger.specs.declared.fault.TriggerFault.{TriggerFault}
 use Rattle.trace_trigger.specs.declared.trigger.TriggerText.{TriggerText}
-use Rattle.trace_trigger.specs.declared.trigger.TriggerText.TheVariants.{Nothing, Attach, Remove, Hist, RemoveHist}
+use Rattle.trace_trigger.specs.declared.trigger.TriggerText.TheVariants.{Nothing, AttachSnapshot, RemoveSnapshot, Hist, RemoveHist}
 use Rattle.trace_command.specs.Paths.{File, OfEvent}
 use Rattle.trace_command.specs.Requests.{Request, WriteFile}
 use Rattle.trace_command.specs.declared.file_name.EventFile.TheVariants as per_event
 use Rattle.tracer_specification.specs.Emissions.{Emitted, emitted}
 use Rattle.tracer_specification.specs.Settings.{is_same, makes, set_by}
-use Rattle.tracer_specification.specs.Triggers.{Trigger, written_trigger, sets_trigger, trigger_of, met_by, met, times_left}
+use Rattle.tracer_specification.specs.Triggers.{Trigger, written_trigger, sets_trigger, snapshot_trigger_of, met_by, met, times_left}
 
 -- ---- a trigger's number is less than the number of requests
 
 said-number : (number : ℕ) (said : Result TriggerText TriggerFault) (t : Trigger) → written_trigger number said ≡ Some (Some t) → t.number ≡ number
-said-number number (Ok (Attach spec)) t is = cc
-said-number number (Ok Remove) t is = absurd (cc)
+said-number number (Ok (AttachSnapshot spec)) t is = cc
+said-number number (Ok RemoveSnapshot) t is = absurd (cc)
 said-number number (Ok Nothing) t is = absurd (cc)
 said-number number (Ok (Hist spec)) t is = absurd (cc)
 said-number number (Ok (RemoveHist spec)) t is = absurd (cc)
@@ -42,22 +42,22 @@ set-number instance event past (WriteFile other (Some file) append text) t is = 
     by false h = absurd (cc)
 set-number instance event past _ t is = absurd (cc)
 
-pub number-before : (instance : Option (List ℕ)) (event : Definition) (past : List Request) (t : Trigger) → trigger_of instance event past ≡ Some t
+pub number-before : (instance : Option (List ℕ)) (event : Definition) (past : List Request) (t : Trigger) → snapshot_trigger_of instance event past ≡ Some t
     → t.number < length past
 number-before instance event [] t is = absurd (cc)
 number-before instance event (request ∷ past) t is = by (makes instance request) is
     (by_set (set_by instance (sets_trigger event past) request) refl (number-before instance event past t))
   where
     by_set : (set : Option (Option Trigger)) → set_by instance (sets_trigger event past) request ≡ set
-        → (trigger_of instance event past ≡ Some t → t.number < length past)
-        → unwrap_or set (trigger_of instance event past) ≡ Some t → t.number < suc (length past)
+        → (snapshot_trigger_of instance event past ≡ Some t → t.number < length past)
+        → unwrap_or set (snapshot_trigger_of instance event past) ≡ Some t → t.number < suc (length past)
     by_set None e older h = let less = older h in omega (arith, less)
     by_set (Some attached) e older h =
         let same : t.number ≡ length past = set-number instance event past request t (e ∙ ap Some h) in
         omega (arith, same)
 
-    by : (new : Bool) → (if new then None else unwrap_or (set_by instance (sets_trigger event past) request) (trigger_of instance event past)) ≡ Some t
-        → (unwrap_or (set_by instance (sets_trigger event past) request) (trigger_of instance event past) ≡ Some t → t.number < suc (length past))
+    by : (new : Bool) → (if new then None else unwrap_or (set_by instance (sets_trigger event past) request) (snapshot_trigger_of instance event past)) ≡ Some t
+        → (unwrap_or (set_by instance (sets_trigger event past) request) (snapshot_trigger_of instance event past) ≡ Some t → t.number < suc (length past))
         → t.number < suc (length past)
     by true h set = absurd (cc)
     by false h set = set h

@@ -17,7 +17,7 @@ use Rattle.trace_text.specs.TriggerText as texts
 use Rattle.trace_command.specs.Requests.{Request}
 use Rattle.tracer_specification.specs.Settings.{NumberedEvent, declared_events, now_of}
 use Rattle.tracer_specification.specs.Rings.{rings, spare_rings, pipe_read, cpu_pipe_read}
-use Rattle.tracer_specification.specs.Triggers.{Trigger, trigger_of, times_left}
+use Rattle.tracer_specification.specs.Triggers.{Trigger, snapshot_trigger_of, times_left}
 use Rattle.tracer_specification.specs.HistTriggers.{HistTrigger, hists_of, is_paused, table_of}
 use Rattle.trace_command.specs.declared.command.Config.{Config}
 
@@ -97,7 +97,7 @@ in_order instance past event (Some t) hists =
 abbrev pub triggers_of_event : Option (List ℕ) → List Request → Option NumberedEvent → List ℕ
 triggers_of_event instance past None = []
 triggers_of_event instance past (Some k) =
-    trigger_text (in_order instance past k.event (trigger_of instance k.event past) (hists_of instance k.event past))
+    trigger_text (in_order instance past k.event (snapshot_trigger_of instance k.event past) (hists_of instance k.event past))
 
 -- its histograms
 abbrev pub hists_of_event : Option (List ℕ) → List Request → Option NumberedEvent → List ℕ

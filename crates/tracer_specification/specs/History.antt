@@ -9,7 +9,7 @@ use Rattle.trace_filter.specs.declared.fault.FilterFault.{FilterFault}
 use Rattle.trace_filter.specs.Filters.{Parsed, answer_of}
 use Rattle.trace_trigger.specs.HistSpecs.{SpecSeen}
 use Rattle.trace_trigger.specs.declared.spec.Action.{Action}
-use Rattle.trace_trigger.specs.declared.spec.Action.TheVariants.{Attach as AttachIt, Continue, Clear}
+use Rattle.trace_trigger.specs.declared.spec.Action.TheVariants.{Attach, Continue, Clear}
 use Rattle.trace_lex.specs.Names.{is_name}
 use Rattle.trace_format.specs.Catalogs.{id_for}
 use Rattle.trace_format.specs.Cells.{Cells}
@@ -21,13 +21,13 @@ use Rattle.trace_format.specs.declared.pair.Pair.{Pair}
 use Rattle.trace_trigger.specs.TriggerTexts.{said_of}
 use Rattle.trace_trigger.specs.declared.fault.TriggerFault.{TriggerFault}
 use Rattle.trace_trigger.specs.declared.trigger.TriggerText.{TriggerText}
-use Rattle.trace_trigger.specs.declared.trigger.TriggerText.TheVariants.{Nothing, Attach, Remove, Hist, RemoveHist}
+use Rattle.trace_trigger.specs.declared.trigger.TriggerText.TheVariants.{Nothing, AttachSnapshot, RemoveSnapshot, Hist, RemoveHist}
 use Rattle.trace_command.specs.Requests.{Request, Emission, MakeInstance, RemoveInstance, WriteFile, ReadFile, request_of, FitsItsTypes}
 use Rattle.tracer_specification.specs.FileTexts.{shown_pipe, shown_cpu_pipe, shown_snapshot, shown_trace, cpu_stats_text, declarations_text, filter_text, flag_text, format_of_event, hists_of_event, option_text, switches_text, triggers_of_event}
 use Rattle.tracer_specification.specs.Settings.{NumberedEvent, event_named, declared_events, filter_of, is_enabled, is_tracing, overwrites, written_flag, written_option, written_tracing, instance_names, is_there, clears_filter, can_take}
 use Rattle.trace_command.specs.Refusals.{refusal_of_catalog, refusal_of_filter, refusal_of_trigger}
 use Rattle.tracer_specification.specs.Snapshots.{SnapshotWrite, Frees, Takes, Empties, written_snapshot}
-use Rattle.tracer_specification.specs.Triggers.{Trigger, trigger_of, has_trigger}
+use Rattle.tracer_specification.specs.Triggers.{Trigger, snapshot_trigger_of, has_snapshot_trigger}
 use Rattle.tracer_specification.specs.HistTriggers.{HistTrigger, fits_that, has_same, hist_triggers, hists_of, kept_by, left_by, named_by}
 use Rattle.trace_command.specs.declared.command.Command.{Command}
 use Rattle.trace_command.specs.declared.command.Config.{Config}
@@ -113,7 +113,7 @@ spare_answer in_use (Some Takes) = Ok Done
 spare_answer in_use (Some Empties) = Ok Done
 
 unfoldable pub snapshot_answer : Option (List ℕ) → List Request → List ℕ → Result Reply Refusal
-snapshot_answer instance past text = spare_answer (has_trigger instance past) (written_snapshot text)
+snapshot_answer instance past text = spare_answer (has_snapshot_trigger instance past) (written_snapshot text)
 
 -- how many triggers an event may have in an instance, of all kinds
 abbrev pub most_triggers : ℕ
@@ -129,7 +129,7 @@ room_answer attached hists = if nat_lt (trigger_count attached hists) most_trigg
 
 -- what is asked of a hist trigger that is attached
 abbrev pub asked_answer : Action → Result Reply Refusal
-asked_answer AttachIt = Err TriggerExists
+asked_answer Attach = Err TriggerExists
 asked_answer action = Ok Done
 
 -- a table that a text names and doesn't fit is there already
@@ -158,16 +158,16 @@ remove_hist_answer append hists spec = if not append || has_same spec hists then
 abbrev pub said_answer : Bool → Option Trigger → List HistTrigger → List HistTrigger → Result TriggerText TriggerFault → Result Reply Refusal
 said_answer append attached hists all (Err fault) = Err (refusal_of_trigger fault)
 said_answer append attached hists all (Ok Nothing) = Ok Done
-said_answer append None hists all (Ok (Attach spec)) = room_answer None hists
-said_answer append (Some t) hists all (Ok (Attach spec)) = Err TriggerExists
-said_answer append None hists all (Ok Remove) = Err NoSuchTrigger
-said_answer append (Some t) hists all (Ok Remove) = Ok Done
+said_answer append None hists all (Ok (AttachSnapshot spec)) = room_answer None hists
+said_answer append (Some t) hists all (Ok (AttachSnapshot spec)) = Err TriggerExists
+said_answer append None hists all (Ok RemoveSnapshot) = Err NoSuchTrigger
+said_answer append (Some t) hists all (Ok RemoveSnapshot) = Ok Done
 said_answer append attached hists all (Ok (Hist spec)) = hist_answer attached hists all spec
 said_answer append attached hists all (Ok (RemoveHist spec)) = remove_hist_answer append hists spec
 
 unfoldable pub trigger_answer : Option (List ℕ) → List Request → Bool → List ℕ → Definition → Result Reply Refusal
 trigger_answer instance past append text event =
-    said_answer append (trigger_of instance event past) (kept_by append (hists_of instance event past))
+    said_answer append (snapshot_trigger_of instance event past) (kept_by append (hists_of instance event past))
     (left_by event append (hist_triggers instance past)) (said_of event text)
 
 -- the event's name is one that was declared

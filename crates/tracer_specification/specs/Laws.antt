@@ -26,7 +26,7 @@ use Rattle.tracer_specification.specs.Emissions.{Emitted, emitted, emitted_bytes
 use Rattle.tracer_specification.specs.Rings.{new_rings, with_emitted, rings, other_rings, pipe_read, cpu_pipe_read}
 use Rattle.tracer_specification.specs.Settings.{NumberedEvent, event_named, declared_events, filter_of, is_same, makes}
 use Rattle.tracer_specification.specs.Snapshots.{exchanges, has_spare}
-use Rattle.tracer_specification.specs.Triggers.{acts, trigger_of, has_trigger}
+use Rattle.tracer_specification.specs.Triggers.{acts, snapshot_trigger_of, has_snapshot_trigger}
 use Rattle.tracer_specification.specs.Waiting.{waiting, waits_in}
 use Rattle.tracer_specification.specs.HistTriggers.{HistTrigger, Written, hist_triggers, hists_of, is_of, says_same, has_same, kept_by, left_by, new_hist, written_to}
 use Rattle.trace_command.specs.declared.command.Config.{Config}
@@ -109,7 +109,7 @@ SnapshotsSwapTheSides =
 abbrev pub TriggersSwapTheSides : Type 0
 TriggersSwapTheSides =
     (g : Config) (past : List Request) (instance : Option (List ℕ)) (request : Request) (e : Emitted) → emitted past request ≡ Some e
-    → acts past e (trigger_of instance e.k.event past) ≡ true
+    → acts past e (snapshot_trigger_of instance e.k.event past) ≡ true
     → (rings g instance (request ∷ past) ≡ other_rings g instance past)
     × (other_rings g instance (request ∷ past) ≡ with_emitted instance past (Some e) (rings g instance past))
 
@@ -129,7 +129,7 @@ SnapshotsStay =
 abbrev pub TriggersHaveTheirSpare : Type 0
 TriggersHaveTheirSpare =
     (g : Config) (past : List Request) (instance : Option (List ℕ)) → AreDone g past
-    → has_trigger instance past ≡ true → has_spare instance past ≡ true
+    → has_snapshot_trigger instance past ≡ true → has_spare instance past ≡ true
 
 -- and where there is none the other side is empty, so a spare that is made is as new
 abbrev pub SparesBeginEmpty : Type 0
@@ -167,7 +167,7 @@ abbrev pub AtMostFourTriggers : Type 0
 AtMostFourTriggers =
     (g : Config) (past : List Request) (instance : Option (List ℕ)) (name : List ℕ) (k : NumberedEvent)
     → AreDone g past → event_named name past ≡ Some k
-    → trigger_count (trigger_of instance k.event past) (hists_of instance k.event past) ≤ 4
+    → trigger_count (snapshot_trigger_of instance k.event past) (hists_of instance k.event past) ≤ 4
 
 -- no two hist triggers of an event say the same
 abbrev pub HistTriggersDiffer : Type 0

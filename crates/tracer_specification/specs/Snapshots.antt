@@ -6,14 +6,14 @@ use Rattle.trace_lex.specs.Decimals.{written_number}
 use Rattle.trace_trigger.specs.TriggerTexts.{said_of}
 use Rattle.trace_trigger.specs.declared.fault.TriggerFault.{TriggerFault}
 use Rattle.trace_trigger.specs.declared.trigger.TriggerText.{TriggerText}
-use Rattle.trace_trigger.specs.declared.trigger.TriggerText.TheVariants.{Attach}
+use Rattle.trace_trigger.specs.declared.trigger.TriggerText.TheVariants.{AttachSnapshot}
 use Rattle.trace_command.specs.Paths.{File, OfInstance, OfEvent}
 use Rattle.trace_command.specs.Requests.{Request, WriteFile}
 use Rattle.trace_command.specs.declared.file_name.EventFile.TheVariants as per_event
 use Rattle.trace_command.specs.declared.file_name.TopFile.TheVariants as top
 use Rattle.tracer_specification.specs.Emissions.{Emitted, emitted}
 use Rattle.tracer_specification.specs.Settings.{NumberedEvent, event_named, is_same, makes, setting}
-use Rattle.tracer_specification.specs.Triggers.{acts, trigger_of}
+use Rattle.tracer_specification.specs.Triggers.{acts, snapshot_trigger_of}
 
 -- ---- numbers that are written to `snapshot`
 
@@ -38,7 +38,7 @@ takes_snapshot _ = false
 -- an emission exchanges the sides where it makes its event's trigger for snapshots act
 abbrev pub is_exchanged_by : Option (List ℕ) → List Request → Option Emitted → Bool
 is_exchanged_by instance past None = false
-is_exchanged_by instance past (Some e) = acts past e (trigger_of instance e.k.event past)
+is_exchanged_by instance past (Some e) = acts past e (snapshot_trigger_of instance e.k.event past)
 
 -- whether a request after this past exchanges the sides of an instance
 abbrev pub exchanges : Option (List ℕ) → List Request → Request → Bool
@@ -71,7 +71,7 @@ spare_written _ = None
 
 -- whether there is one after a trigger text was written: a hist trigger needs none
 abbrev pub spare_armed : Result TriggerText TriggerFault → Option Bool
-spare_armed (Ok (Attach spec)) = Some true
+spare_armed (Ok (AttachSnapshot spec)) = Some true
 spare_armed _ = None
 
 abbrev pub spare_armed_for : Option NumberedEvent → List ℕ → Option Bool

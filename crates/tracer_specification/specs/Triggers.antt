@@ -10,7 +10,7 @@ use Rattle.trace_trigger.specs.TriggerTexts.{said_of}
 use Rattle.trace_trigger.specs.declared.fault.TriggerFault.{TriggerFault}
 use Rattle.trace_trigger.specs.declared.trigger.SnapshotTrigger.{SnapshotTrigger}
 use Rattle.trace_trigger.specs.declared.trigger.TriggerText.{TriggerText}
-use Rattle.trace_trigger.specs.declared.trigger.TriggerText.TheVariants.{Attach, Remove}
+use Rattle.trace_trigger.specs.declared.trigger.TriggerText.TheVariants.{AttachSnapshot, RemoveSnapshot}
 use Rattle.trace_command.specs.Paths.{File, OfEvent}
 use Rattle.trace_command.specs.Requests.{Request}
 use Rattle.trace_command.specs.declared.file_name.EventFile.TheVariants as per_event
@@ -26,8 +26,8 @@ pub record Trigger : Type 0 where
 
 -- what is set for snapshots by a text that is written after so many requests: a trigger is attached, the one that is there is removed, or nothing
 abbrev pub written_trigger : ℕ → Result TriggerText TriggerFault → Option (Option Trigger)
-written_trigger number (Ok (Attach spec)) = Some (Some (record { number = number; spec = spec }))
-written_trigger number (Ok Remove) = Some None
+written_trigger number (Ok (AttachSnapshot spec)) = Some (Some (record { number = number; spec = spec }))
+written_trigger number (Ok RemoveSnapshot) = Some None
 written_trigger number said = None
 
 -- what a write after this past sets of an event's trigger
@@ -36,12 +36,12 @@ sets_trigger event past (OfEvent name per_event.Trigger) text = if bytes_eq even
 sets_trigger event past file text = None
 
 -- the trigger of an event for snapshots, of which there is at most one
-abbrev pub trigger_of : Option (List ℕ) → Definition → List Request → Option Trigger
-trigger_of instance event past = setting instance (sets_trigger event) None past
+abbrev pub snapshot_trigger_of : Option (List ℕ) → Definition → List Request → Option Trigger
+snapshot_trigger_of instance event past = setting instance (sets_trigger event) None past
 
 -- whether some event of an instance has one
-abbrev pub has_trigger : Option (List ℕ) → List Request → Bool
-has_trigger instance past = list_any (λ event. is_some (trigger_of instance event past)) (declared_events past)
+abbrev pub has_snapshot_trigger : Option (List ℕ) → List Request → Bool
+has_snapshot_trigger instance past = list_any (λ event. is_some (snapshot_trigger_of instance event past)) (declared_events past)
 
 -- ---- the emissions that a trigger meets
 

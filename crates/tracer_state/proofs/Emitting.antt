@@ -17,10 +17,11 @@ use Rattle.trace_command.specs.declared.command.Reply.TheVariants as reply
 use Rattle.tracer_specification.specs.Declarations.{IsFit, IsIndexOf}
 use Rattle.tracer_specification.specs.Settings.{NumberedEvent, declared_events, event_named, event_named_in, filter_of, is_enabled, kept_filter, now_of}
 use Rattle.tracer_specification.specs.Emissions.{Emitted, filter_holds, is_recorded}
+use Rattle.tracer_specification.specs.HistTriggers.{counted_row}
 use Rattle.tracer_specification.specs.History.{emission_answer, row_answer}
 use Rattle.tracer_specification.specs.Snapshots.{is_exchanged_by}
 use Rattle.tracer_specification.specs.Triggers as triggers
-use Rattle.tracer_specification.specs.Triggers.{acts, is_left, passes, times_left, trigger_of}
+use Rattle.tracer_specification.specs.Triggers.{acts, is_left, passes, times_left, snapshot_trigger_of}
 use Rattle.trace_instance.specs.Instances.{InstanceSeen, InstanceStandsFor, IsAlike, kept_as}
 use Rattle.trace_instance.specs.Rows.{fires, kept_acts, kept_holds, records}
 use Rattle.trace_instance.specs.KeptHists.{passed}
@@ -35,7 +36,7 @@ use Rattle.trace_instance.specs.declared.change.Reach.{Reach}
 use Rattle.tracer_state.specs.declared.resolve.Found.{Found}
 use Rattle.tracer_state.specs.declared.state.Named.{Named}
 use Rattle.tracer_state.specs.declared.state.State.{State}
-use Rattle.trace_instance.specs.declared.trigger.Trigger.{Trigger}
+use Rattle.trace_instance.specs.declared.trigger.AttachedSnapshot.{AttachedSnapshot}
 use Rattle.trace_instance.proofs.Delivered.{can-fire, self, trigger-at}
 use Rattle.trace_instance.proofs.KeptLists.{recursion_at}
 use Rattle.tracer_state.proofs.Alike.{state_alike-stands}
@@ -53,19 +54,19 @@ named-found g state past name found stands named = rw (← stands.events) (sym n
 
 -- the truth of a kept filter is that of the filter's text
 kept-holds : (event : Definition) (filter : Option (List ℕ)) (row : Cells) (cpu : ℕ) (pid : ℤ)
-    → kept_holds (option_map (parsed_of event) filter) row cpu pid ≡ filter_holds event filter row cpu pid
+    → kept_holds (option_map (parsed_of event) filter) (record { values = row.values; cpu = cpu; pid = pid }) ≡ filter_holds event filter row cpu pid
 unfolding kept_holds filter_holds
 kept-holds event None row cpu pid = refl
 kept-holds event (Some text) row cpu pid = refl
 
 -- a kept trigger acts as the one that the requests attached
 acts-kept : (past : List Request) (e : Emitted) (t : Option triggers.Trigger)
-    → kept_acts (option_map (kept_as past e.k.event) t) e.row e.cpu e.pid ≡ acts past e t
+    → kept_acts (option_map (kept_as past e.k.event) t) (counted_row e) ≡ acts past e t
 unfolding kept_holds
 acts-kept past e None = refl
 acts-kept past e (Some t) = by t.spec.filter
   where
-    by : (filter : Option Parsed) → (is_left (times_left e.k.event t past) && kept_holds filter e.row e.cpu e.pid)
+    by : (filter : Option Parsed) → (is_left (times_left e.k.event t past) && kept_holds filter (counted_row e))
         ≡ (is_left (times_left e.k.event t past) && passes filter e)
     by None = refl
     by (Some f) = refl
@@ -74,23 +75,23 @@ acts-kept past e (Some t) = by t.spec.filter
 module _ (g : Config) (name : Option (List ℕ)) (past : List Request) (i : InstanceSeen) (e : Emitted) (index : ℕ) (stands : InstanceStandsFor g name past i)
     (indexed : IsIndexOf (declared_events past) e.k.event.name index e.k.event) where
   -- the event's switch and its filter are those that the requests set, so the emission is recorded if they say so
-  records-found : records i index e.row e.cpu e.pid ≡ is_recorded name past e
+  records-found : records i index (counted_row e) ≡ is_recorded name past e
   records-found =
       let switched : Definition → Bool = λ event. is_enabled name event.name past in
       let enabled : get_or i.enabled index false ≡ is_enabled name e.k.event.name past = rw stands.enabled
       (get_or-map switched (declared_events past) index e.k.event false indexed.inside ∙ ap switched (sym indexed.there)) in
       let kept : get_or i.filters index None ≡ kept_filter name past e.k.event = rw stands.filters
       (get_or-map (kept_filter name past) (declared_events past) index e.k.event None indexed.inside ∙ ap (kept_filter name past) (sym indexed.there)) in
-      let holds = ap (λ (k : Option Parsed). kept_holds k e.row e.cpu e.pid) kept
+      let holds = ap (λ (k : Option Parsed). kept_holds k (counted_row e)) kept
       ∙ kept-holds e.k.event (filter_of name e.k.event.name past) e.row e.cpu e.pid in
       let tracing = stands.tracing in
       rw (tracing, enabled, holds) refl
 
   -- and its trigger acts if they say so
-  fires-found : fires i index e.row e.cpu e.pid ≡ is_exchanged_by name past (Some e)
+  fires-found : fires i index (counted_row e) ≡ is_exchanged_by name past (Some e)
   fires-found =
-      ap (λ (t : Option Trigger). kept_acts t e.row e.cpu e.pid) (trigger-at name past i.triggers e.k.event.name index e.k.event stands.triggers indexed)
-      ∙ acts-kept past e (trigger_of name e.k.event past)
+      ap (λ (t : Option AttachedSnapshot). kept_acts t (counted_row e)) (trigger-at name past i.triggers e.k.event.name index e.k.event stands.triggers indexed)
+      ∙ acts-kept past e (snapshot_trigger_of name e.k.event past)
 
 -- ---- what is prepared
 

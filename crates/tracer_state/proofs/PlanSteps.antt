@@ -18,7 +18,7 @@ use Rattle.trace_instance.specs.declared.change.TriggerChange.{TriggerChange}
 use Rattle.trace_instance.specs.declared.change.TriggerChange.TheVariants as attaching
 use Rattle.trace_instance.specs.declared.hists.AttachedHist.{AttachedHist}
 use Rattle.trace_instance.specs.declared.plan.Touched.{Touched}
-use Rattle.trace_instance.specs.declared.trigger.Trigger.{Trigger}
+use Rattle.trace_instance.specs.declared.trigger.AttachedSnapshot.{AttachedSnapshot}
 use Rattle.tracer_state.specs.EventPlans.{IsPlanOf, IsPlanned, touched_by}
 use Rattle.tracer_state.specs.States.{EachDelivered, HasChanged, IsReady, IsUsable, reach_at}
 use Rattle.tracer_state.specs.declared.change.Change.{Change}
@@ -48,21 +48,21 @@ plan-alike i j event alike = ap (λ (s : InstanceSeen). plan_of s event) alike.r
 
 -- ---- an emission
 
-still-there : (t : Option Trigger) → is_some (counted_down t) ≡ is_some t
+still-there : (t : Option AttachedSnapshot) → is_some (counted_down t) ≡ is_some t
 still-there None = refl
 still-there (Some t) = refl
 
 -- a trigger that acted is there still
-still-triggered : (triggers : List (Option Trigger)) (at event : ℕ)
+still-triggered : (triggers : List (Option AttachedSnapshot)) (at event : ℕ)
     → is_some (get_or (set triggers at (counted_down (get_or triggers at None))) event None) ≡ is_some (get_or triggers event None)
 still-triggered triggers at event =
     let acted = counted_down (get_or triggers at None) in
     ⊎_elim
     (λ (inside : at < length triggers). ⊎_elim
-    (λ (here : event ≡ at). rw here (ap (λ (t : Option Trigger). is_some t) (get_or-set_same triggers at acted None inside) ∙ still-there (get_or triggers at None)))
-    (λ (other : event ≡ at → ⊥). ap (λ (t : Option Trigger). is_some t) (get_or-set_other triggers at event acted None other))
+    (λ (here : event ≡ at). rw here (ap (λ (t : Option AttachedSnapshot). is_some t) (get_or-set_same triggers at acted None inside) ∙ still-there (get_or triggers at None)))
+    (λ (other : event ≡ at → ⊥). ap (λ (t : Option AttachedSnapshot). is_some t) (get_or-set_other triggers at event acted None other))
     (cases_eq event at))
-    (λ (beyond : length triggers ≤ at). ap (λ (l : List (Option Trigger)). is_some (get_or l event None)) (set_past triggers at acted beyond))
+    (λ (beyond : length triggers ≤ at). ap (λ (l : List (Option AttachedSnapshot)). is_some (get_or l event None)) (set_past triggers at acted beyond))
     (cases_lt at (length triggers))
 
 plan-delivered : (d : Delivery) (reach : Reach) (i j : InstanceSeen) (event : ℕ) → IsDelivered d reach i j → plan_of j event ≡ plan_of i event
@@ -74,8 +74,8 @@ plan-delivered d reach i j event is = same-event i j event is.tracing
   where
     by : (fires : Bool) → j.triggers ≡ (if fires then set i.triggers d.event (counted_down (get_or i.triggers d.event None)) else i.triggers)
         → is_some (get_or j.triggers event None) ≡ is_some (get_or i.triggers event None)
-    by true same = ap (λ (l : List (Option Trigger)). is_some (get_or l event None)) same ∙ still-triggered i.triggers d.event event
-    by false same = ap (λ (l : List (Option Trigger)). is_some (get_or l event None)) same
+    by true same = ap (λ (l : List (Option AttachedSnapshot)). is_some (get_or l event None)) same ∙ still-triggered i.triggers d.event event
+    by false same = ap (λ (l : List (Option AttachedSnapshot)). is_some (get_or l event None)) same
 
 -- ---- a change
 
@@ -85,14 +85,14 @@ plan-with_event : (g : Config) (events : ℕ) (i : InstanceSeen) (event : ℕ) �
 plan-with_event g events i event usable inside = same-event i (with_event i) event refl
     (get_or_append_left i.enabled (false ∷ []) false event (omega (arith, inside, usable.enabled)))
     (get_or_append_left i.filters (None ∷ []) None event (omega (arith, inside, usable.filters)))
-    (ap (λ (t : Option Trigger). is_some t) (get_or_append_left i.triggers (None ∷ []) None event (omega (arith, inside, usable.triggers))))
+    (ap (λ (t : Option AttachedSnapshot). is_some t) (get_or_append_left i.triggers (None ∷ []) None event (omega (arith, inside, usable.triggers))))
     (get_or_append_left i.hists ([] ∷ []) [] event (omega (arith, inside, usable.hists)))
 
 -- a change of an event's triggers leaves those of others
-other-triggers : (index : ℕ) (append : Bool) (change : TriggerChange) (triggers : List (Option Trigger)) (event : ℕ) → event ≢ index
+other-triggers : (index : ℕ) (append : Bool) (change : TriggerChange) (triggers : List (Option AttachedSnapshot)) (event : ℕ) → event ≢ index
     → get_or (triggers_after (Triggers index append change) triggers) event None ≡ get_or triggers event None
-other-triggers index append (attaching.Attach trigger) triggers event other = get_or-set_other triggers index event (Some trigger) None other
-other-triggers index append attaching.Detach triggers event other = get_or-set_other triggers index event None None other
+other-triggers index append (attaching.AttachSnapshot trigger) triggers event other = get_or-set_other triggers index event (Some trigger) None other
+other-triggers index append attaching.DetachSnapshot triggers event other = get_or-set_other triggers index event None None other
 other-triggers index append change triggers event other = refl
 
 -- an event at none of these indices
@@ -112,21 +112,21 @@ untouched : (events : ℕ) (change : InstanceChange) (i j : InstanceSeen) (event
 untouched events (Switch index flag) i j event is inside outside = same-event i j event is.tracing
     (ap (λ (l : List Bool). get_or l event false) is.enabled ∙ get_or-set_other i.enabled index event flag false (one-outside index event outside))
     (ap (λ (l : List (Option Parsed)). get_or l event None) is.filters)
-    (ap (λ (l : List (Option Trigger)). is_some (get_or l event None)) is.triggers)
+    (ap (λ (l : List (Option AttachedSnapshot)). is_some (get_or l event None)) is.triggers)
     (ap (λ (l : List (List AttachedHist)). get_or l event []) is.hists)
 untouched events (SetFilter index new) i j event is inside outside = same-event i j event is.tracing
     (ap (λ (l : List Bool). get_or l event false) is.enabled)
     (ap (λ (l : List (Option Parsed)). get_or l event None) is.filters
     ∙ get_or-set_other i.filters index event _ None (one-outside index event outside))
-    (ap (λ (l : List (Option Trigger)). is_some (get_or l event None)) is.triggers)
+    (ap (λ (l : List (Option AttachedSnapshot)). is_some (get_or l event None)) is.triggers)
     (ap (λ (l : List (List AttachedHist)). get_or l event []) is.hists)
 untouched events (Triggers index append change) i j event is inside outside =
     let other = one-outside index event outside in
     same-event i j event is.tracing
     (ap (λ (l : List Bool). get_or l event false) is.enabled)
     (ap (λ (l : List (Option Parsed)). get_or l event None) is.filters)
-    (ap (λ (l : List (Option Trigger)). is_some (get_or l event None)) is.triggers
-    ∙ ap (λ (t : Option Trigger). is_some t) (other-triggers index append change i.triggers event other))
+    (ap (λ (l : List (Option AttachedSnapshot)). is_some (get_or l event None)) is.triggers
+    ∙ ap (λ (t : Option AttachedSnapshot). is_some t) (other-triggers index append change i.triggers event other))
     (ap (λ (l : List (List AttachedHist)). get_or l event []) is.hists ∙ get_or-set_other i.hists index event _ [] other)
 untouched events (SwitchAll flag) i j event is inside outside = none-outside events event inside outside
 untouched events (SetFilters changes) i j event is inside outside = none-outside events event inside outside

@@ -1,3 +1,4 @@
+pub mod AddressedRequests
 pub mod EventPlans
 pub mod States
 pub mod ValueEmissions

@@ -14,7 +14,7 @@ use Rattle.tracer_specification.specs.Settings.{event_named, declares, declared_
 use Rattle.tracer_specification.specs.Emissions.{Emitted, emitted, emitted_bytes, is_recorded}
 use Rattle.tracer_specification.specs.History.{answer_with_room}
 use Rattle.tracer_specification.specs.Snapshots.{is_exchanged_by}
-use Rattle.tracer_specification.specs.Triggers.{trigger_of}
+use Rattle.tracer_specification.specs.Triggers.{snapshot_trigger_of}
 use Rattle.tracer_specification.specs.HistTriggers.{hists_of}
 use Rattle.trace_format.specs.Operands.{Emission}
 use Rattle.trace_instance.specs.Instances.{InstanceSeen, InstanceStandsFor, passed_in, IsAlike, IsUsableInstance}
@@ -43,7 +43,7 @@ pub record StandsFor (g : Config) (state : State) (past : List Request) : Type 0
   pub distinct : AreEvents [] (declared_events past)
   pub unknown : (name : Option (List ℕ)) (event : List ℕ) → event_named event past ≡ None → is_enabled name event past ≡ false
   pub unfiltered : (name : Option (List ℕ)) (event : List ℕ) → event_named event past ≡ None → filter_of name event past ≡ None
-  pub untriggered : (name : Option (List ℕ)) (event : Definition) → event_named event.name past ≡ None → trigger_of name event past ≡ None
+  pub untriggered : (name : Option (List ℕ)) (event : Definition) → event_named event.name past ≡ None → snapshot_trigger_of name event past ≡ None
   pub unwatched : (name : Option (List ℕ)) (event : Definition) → event_named event.name past ≡ None → hists_of name event past ≡ []
   pub clock : state.clock ≡ now_of past
   pub early : state.clock ≤ length past

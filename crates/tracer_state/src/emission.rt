@@ -5,14 +5,15 @@ ghost use Rattle.std.specs.Prelude.{◌≡◌, ◌<◌, ◌≤◌, true, false, 
 ghost use Rattle.trace_command.specs.Configs.{IsInRange};
 ghost use Rattle.trace_command.specs.Refusals.{IsRefusal};
 ghost use Rattle.trace_command.specs.Requests as requests;
-ghost use Rattle.trace_command.specs.Requests.{Request, Emission};
+ghost use Rattle.trace_command.specs.Requests.{Request, request_of};
 ghost use Rattle.trace_format.specs.Cells.{IsRowOf, record_size_of};
 ghost use Rattle.trace_format.specs.declared.pair.Pair.{Pair as PairSeen};
 ghost use Rattle.tracer_specification.specs.History.{answer_with_room, emission_answer};
+ghost use Rattle.tracer_specification.specs.LateMemory.{TakesMemoryLate};
 ghost use Rattle.tracer_specification.specs.Settings.{declared_events};
 ghost use Rattle.tracer_state.specs.EventPlans.{IsPlanOf};
 ghost use Rattle.tracer_state.specs.private.Emissions as emissions;
-ghost use Rattle.tracer_state.specs.ValueEmissions.{values_emission};
+ghost use Rattle.tracer_state.specs.ValueEmissions.{emission_by};
 ghost use Rattle.trace_instance.specs.Instances.{IsAlike};
 ghost use Rattle.tracer_state.specs.States.{StandsFor, IsPreparedEmission, IsStateAlike, IsUsable, EachCame, ArePassed, NeedsHitMemory};
 ghost use Rattle.trace_instance.specs.Deliveries.{CanCountRow, most_requests};
@@ -23,9 +24,18 @@ use crate::resolve::{Found, find_likely, find_numbered};
 use crate::row::record;
 use crate::state::{Named, State};
 use std::alloc::{AllocError, Global};
-use trace_command::{Config, Refusal};
-use trace_format::{BorrowedPair, FieldValue, Row, payload_size};
+use trace_command::{BorrowedEmission, Config, Refusal};
+use trace_format::{Emission, FieldValue, Row, payload_size};
 use trace_instance::{Delivery, INSTANCES, MOST_TRIGGERS, Passed};
+
+/// An emission by values: of the event with this number, from 1, and values of its fields in order of declaration.
+#[derive(Clone, Copy)]
+pub struct ValuesEmission<'a> {
+    pub event: u32,
+    pub cpu: u32,
+    pub pid: i32,
+    pub values: &'a [FieldValue<'a>],
+}
 
 impl State {
     /// Prepares an emission, in this order: its CPU, its event, its row, what it does in each instance, its record, if an instance
@@ -38,20 +48,19 @@ impl State {
         alloc: Global,
         delivery: &mut Delivery,
         config: &Config,
-        name: &[u8],
-        cpu: u32,
-        pid: i32,
-        pairs: &[BorrowedPair<'_>],
+        emission: &BorrowedEmission<'_>,
     ) -> Result<(), Refusal>
         requires usable { IsUsable config.now self.old }
         requires in_range { IsInRange config.now }
         ensures alike { IsStateAlike self.old self.new }
         ensures prepared { (past : List Request) → StandsFor config.now self.old past
-            → OnOk result (IsPreparedEmission config.now past (Emission name.now cpu pid pairs.now) self.new delivery.new) }
+            → OnOk result (IsPreparedEmission config.now past (request_of emission.now) self.new delivery.new) }
         ensures refused { (past : List Request) → StandsFor config.now self.old past
-            → IfErr result (λ r. IsRefusal r (answer_with_room config.now past (Emission name.now cpu pid pairs.now))) }
-        ensures fits { OnOk result (requests.FitsItsTypes (Emission name.now cpu pid pairs.now)) }
+            → IfErr result (λ r. IsRefusal r (answer_with_room config.now past (request_of emission.now))) }
+        ensures fits { OnOk result (requests.FitsItsTypes (request_of emission.now)) }
+        ensures memory { ¬ TakesMemoryLate (request_of emission.now) }
     {
+        let (name, cpu, pid, pairs) = emission.parts();
         if cpu >= config.cpus {
             return Err(Refusal::NoSuchCpu);
         }
@@ -59,58 +68,47 @@ impl State {
             return Err(Refusal::NoSuchEvent);
         };
         delivery.row.rebuild(alloc, found.event, pairs)?;
+        delivery.cpu = cpu;
+        delivery.pid = pid;
         let plan = &self.plans[found.index];
-        prepare_row(
-            plan,
-            &mut self.instances,
-            self.clock,
-            found,
-            cpu,
-            pid,
-            delivery,
-        )?;
+        prepare_row(plan, &mut self.instances, self.clock, found, delivery)?;
         Ok(())
     }
 
-    /// Likewise, for the event with this number, from 1, and values of its fields in order of declaration.
+    /// Likewise, for an emission by values.
     #[inline(always)]
     pub fn prepare_values(
         &mut self,
         alloc: Global,
         delivery: &mut Delivery,
         config: &Config,
-        number: u32,
-        cpu: u32,
-        pid: i32,
-        values: &[FieldValue<'_>],
+        emission: &ValuesEmission<'_>,
     ) -> Result<(), Refusal>
         requires usable { IsUsable config.now self.old }
         requires in_range { IsInRange config.now }
         ensures alike { IsStateAlike self.old self.new }
         ensures prepared { (past : List Request) → StandsFor config.now self.old past
-            → OnOk result (IsPreparedEmission config.now past (values_emission (declared_events past) number cpu pid values.now)
-            self.new delivery.new) }
+            → OnOk result (IsPreparedEmission config.now past (emission_by (declared_events past) emission.now) self.new delivery.new) }
         ensures refused { (past : List Request) → StandsFor config.now self.old past
-            → IfErr result (λ r. IsRefusal r
-            (answer_with_room config.now past (values_emission (declared_events past) number cpu pid values.now))) }
+            → IfErr result (λ r. IsRefusal r (answer_with_room config.now past (emission_by (declared_events past) emission.now))) }
     {
+        let ValuesEmission {
+            event,
+            cpu,
+            pid,
+            values,
+        } = *emission;
         if cpu >= config.cpus {
             return Err(Refusal::NoSuchCpu);
         }
-        let Some(found) = find_numbered(&self.catalog, number) else {
+        let Some(found) = find_numbered(&self.catalog, event) else {
             return Err(Refusal::NoSuchEvent);
         };
         delivery.row.rebuild_of_values(alloc, found.event, values)?;
+        delivery.cpu = cpu;
+        delivery.pid = pid;
         let plan = &self.plans[found.index];
-        prepare_row(
-            plan,
-            &mut self.instances,
-            self.clock,
-            found,
-            cpu,
-            pid,
-            delivery,
-        )?;
+        prepare_row(plan, &mut self.instances, self.clock, found, delivery)?;
         Ok(())
     }
 
@@ -132,16 +130,14 @@ impl State {
     }
 }
 
-// Prepares the emission of an event that was found, whose row the delivery has, in this order: what it does in each instance, its record, and the memory
-// of its hist triggers.
+// Prepares the emission of an event that was found, whose row, CPU and process the delivery has, in this order: what it does in each instance, its
+// record, and the memory of its hist triggers.
 #[inline(always)]
 fn prepare_row(
     plan: &EventPlan,
     instances: &mut [Named],
     clock: u64,
     found: Found<'_>,
-    cpu: u32,
-    pid: i32,
     delivery: &mut Delivery,
 ) -> Result<(), AllocError>
     requires planned { IsPlanOf found.index plan.now instances.old }
@@ -152,16 +148,19 @@ fn prepare_row(
     requires fields { length found.event.now.fields ≤ 16 }
     requires row { IsRowOf found.event.now delivery.old.row }
     ensures alike { EachCame IsAlike instances.old instances.new }
-    ensures given { OnOk result (delivery.new
-        ≡ record delivery.new { event = found.entry.index; row = delivery.old.row; cpu = cpu; pid = pid }) }
+    ensures given { OnOk result (delivery.new ≡ record delivery.new {
+      event = found.entry.index;
+      row = delivery.old.row;
+      cpu = delivery.old.cpu;
+      pid = delivery.old.pid;
+    }) }
     ensures reserved { OnOk result (emissions.IsReserved clock found.entry.event.now instances.old instances.new delivery.new) }
 {
-    let index = found.index;
+    let (index, cpu, pid) = (found.index, delivery.cpu, delivery.pid);
     delivery.event = index;
-    delivery.cpu = cpu;
-    delivery.pid = pid;
     let row = &delivery.row;
-    let reached = reach_planned(plan, instances, index, row, cpu, pid, &mut delivery.reaches);
+    let emission = Emission { row, cpu, pid };
+    let reached = reach_planned(plan, instances, index, emission, &mut delivery.reaches);
     delivery.wanted = reached.recorded | reached.triggered;
     write_ahead(
         clock,
@@ -171,13 +170,12 @@ fn prepare_row(
         row,
         &mut delivery.record,
     )?;
+    let emission = Emission { row, cpu, pid };
     reserve_if(
         reached.triggered,
         instances,
         index,
-        row,
-        cpu,
-        pid,
+        emission,
         &mut delivery.passed,
     )?;
     Ok(())
@@ -207,26 +205,24 @@ fn write_ahead(
     record(clock + 1, pid, found.index as u16 + 1, size, row, bytes)
 }
 
-// As `reserve_each`, if some instance may have hist triggers of the event.
+// As `reserve_each`, if some instance may have hist triggers of the event. The emission comes by value, as in `reach_planned`.
 #[inline(always)]
 fn reserve_if(
     triggered: bool,
     instances: &mut [Named],
     event: usize,
-    row: &Row,
-    cpu: u32,
-    pid: i32,
+    emission: Emission<'_>,
     passed: &mut [Passed; INSTANCES],
 ) -> Result<(), AllocError>
     requires none { triggered ≡ false → All (λ n. slice_index_or n.instance.hists event [] ≡ []) instances.old }
     requires few { length instances.old ≤ 8 }
     requires each { All (λ n. emissions.HasEventAt event n.instance) instances.old }
     ensures alike { EachCame IsAlike instances.old instances.new }
-    ensures passed { OnOk result (ArePassed (record { values = row.now.values; cpu = cpu; pid = pid }) event passed.new instances.old) }
-    ensures counted { OnOk result (All (λ n. CanCountRow (record { values = row.now.values; cpu = cpu; pid = pid }) event n.instance) instances.new) }
+    ensures passed { OnOk result (ArePassed emission.entry event passed.new instances.old) }
+    ensures counted { OnOk result (All (λ n. CanCountRow emission.entry event n.instance) instances.new) }
 {
     if triggered {
-        return reserve_each(instances, event, row, cpu, pid, passed);
+        return reserve_each(instances, event, &emission, passed);
     }
     *passed = [[false; MOST_TRIGGERS]; INSTANCES];
     Ok(())
@@ -238,21 +234,19 @@ fn reserve_if(
 fn reserve_each(
     instances: &mut [Named],
     event: usize,
-    row: &Row,
-    cpu: u32,
-    pid: i32,
+    emission: &Emission,
     passed: &mut [Passed; INSTANCES],
 ) -> Result<(), AllocError>
     requires few { length instances.old ≤ 8 }
     requires each { All (λ n. emissions.HasEventAt event n.instance) instances.old }
     ensures alike { EachCame IsAlike instances.old instances.new }
-    ensures passed { OnOk result (ArePassed (record { values = row.now.values; cpu = cpu; pid = pid }) event passed.new instances.old) }
-    ensures counted { OnOk result (All (λ n. CanCountRow (record { values = row.now.values; cpu = cpu; pid = pid }) event n.instance) instances.new) }
-    ensures memory { OnErr result (NeedsHitMemory (record { values = row.now.values; cpu = cpu; pid = pid }) event instances.old) }
+    ensures passed { OnOk result (ArePassed emission.now event passed.new instances.old) }
+    ensures counted { OnOk result (All (λ n. CanCountRow emission.now event n.instance) instances.new) }
+    ensures memory { OnErr result (NeedsHitMemory emission.now event instances.old) }
 {
     for i in 0..instances.len() {
         if instances[i].instance.has_hists(event) {
-            passed[i] = instances[i].instance.reserve(event, row, cpu, pid)?;
+            passed[i] = instances[i].instance.reserve(event, emission)?;
         } else {
             passed[i] = [false; MOST_TRIGGERS];
         }

@@ -13,5 +13,6 @@ mod state;
 mod waiting;
 
 pub use change::Change;
+pub use emission::ValuesEmission;
 pub use plan::EventPlan;
 pub use state::{Named, Prepared, State};

@@ -10,13 +10,14 @@ ghost use Rattle.trace_command.specs.declared.command.Config.{Config};
 ghost use Rattle.tracer_specification.specs.LateMemory.{TakesMemoryLate};
 ghost use Rattle.tracer_specification.specs.Settings.{is_there, ticks};
 ghost use Rattle.trace_instance.specs.MemoryTaken.{TakesNoMemory};
+ghost use Rattle.tracer_state.specs.AddressedRequests.{read_at, write_at};
 ghost use Rattle.tracer_state.specs.States.{StandsFor, IsPrepared, IsUsable, TakesMemory};
 
 use crate::change::Change;
 use crate::resolve::Target;
 use crate::state::{Prepared, State};
 use std::alloc::Global;
-use trace_command::{Command, Config, Refusal, Reply};
+use trace_command::{Address, Command, Config, Refusal, Reply, address_of};
 use trace_format::EventDef;
 use trace_instance::{
     FileSource, InstanceChange, Shown, WrittenText, declarations, read_file, written_change,
@@ -54,33 +55,32 @@ impl State {
                     append,
                     text,
                 };
-                self.prepare_write(alloc, config, path.as_bytes(), written)
+                self.prepare_write(alloc, config, address_of(path.as_bytes()), written)
             }
             Command::Read { path, limit } => {
-                self.prepare_read(alloc, config, path.as_bytes(), *limit)
+                self.prepare_read(alloc, config, address_of(path.as_bytes()), *limit)
             }
         }
     }
 
-    fn prepare_write(
+    /// As `prepare`, for a write to the file at this address.
+    pub fn prepare_write(
         &self,
         alloc: Global,
         config: &Config,
-        path: &[u8],
+        address: Address<'_>,
         written: WrittenText<'_>,
     ) -> Result<Prepared, Refusal>
         requires usable { IsUsable config.now self.now }
         ensures prepared { (past : List Request) → length past ≡ written.entry.number → StandsFor config.now self.now past
-            → IsPrepared config.now past (WriteFile (paths.address_of path.now).instance (paths.address_of path.now).file written.entry.append written.entry.text.now)
-            self.now result }
+            → IsPrepared config.now past (write_at address.entry written.entry.append written.entry.text.now) self.now result }
         ensures memory { (past : List Request) → StandsFor config.now self.now past
-            → TakesMemoryLate (WriteFile (paths.address_of path.now).instance (paths.address_of path.now).file written.entry.append written.entry.text.now)
-            → IfErr result (λ r. r ≢ Refusal.Memory) }
+            → TakesMemoryLate (write_at address.entry written.entry.append written.entry.text.now) → IfErr result (λ r. r ≢ Refusal.Memory) }
         ensures takes_none { (past : List Request) → StandsFor config.now self.now past
-            → TakesNoMemory past (WriteFile (paths.address_of path.now).instance (paths.address_of path.now).file written.entry.append written.entry.text.now)
+            → TakesNoMemory past (write_at address.entry written.entry.append written.entry.text.now)
             → IfOk result (λ prepared. TakesMemory self.now prepared.change → ⊥) }
     {
-        match self.resolve(config, path)? {
+        match self.resolve(config, address)? {
             Target::Declarations => self.prepare_declaration(
                 alloc,
                 config,
@@ -122,20 +122,20 @@ impl State {
         })
     }
 
-    /// As `prepare`, for a read whose path is borrowed.
+    /// As `prepare`, for a read of the file at this address; of a pipe of at most so many records.
     pub fn prepare_read(
         &self,
         alloc: Global,
         config: &Config,
-        path: &[u8],
+        address: Address<'_>,
         limit: Option<u64>,
     ) -> Result<Prepared, Refusal>
         requires usable { IsUsable config.now self.now }
         ensures prepared { (past : List Request) → StandsFor config.now self.now past
-            → IsPrepared config.now past (ReadFile (paths.address_of path.now).instance (paths.address_of path.now).file limit) self.now result }
+            → IsPrepared config.now past (read_at address.entry limit) self.now result }
         ensures fits { (most : ℕ) → limit ≡ Some most → most < 2 ^ 64 }
     {
-        match self.resolve(config, path)? {
+        match self.resolve(config, address)? {
             Target::Declarations => self.read_declarations(alloc, limit),
             Target::Of(index, file) => {
                 let source = FileSource {

@@ -8,7 +8,7 @@ ghost use Rattle.tracer_state.specs.private.Emissions as emissions;
 
 use crate::plan::{EventPlan, asks, unasked};
 use crate::state::Named;
-use trace_format::Row;
+use trace_format::Emission;
 use trace_instance::{INSTANCES, Instance, Plan, Reach};
 
 /// What an emission does in any instance.
@@ -20,21 +20,20 @@ pub(crate) struct Reached {
     pub triggered: bool,
 }
 
-/// What an emission of the event at this index, which has this plan, does in each instance, and what it does in any.
+/// What an emission of the event at this index, which has this plan, does in each instance, and what it does in any. The emission comes
+/// by value, so that it is put together only if an instance is asked.
 #[inline(always)]
 pub(crate) fn reach_planned(
     plan: &EventPlan,
     instances: &[Named],
     event: usize,
-    row: &Row,
-    cpu: u32,
-    pid: i32,
+    emission: Emission<'_>,
     reaches: &mut [Reach; INSTANCES],
 ) -> Reached
     requires planned { IsPlanOf event plan.now instances.now }
     requires few { length instances.now ≤ 8 }
     requires each { All (λ n. emissions.HasEventAt event n.instance) instances.now }
-    ensures reached { emissions.AreReached event row.now cpu pid reaches.new result.recorded instances.now }
+    ensures reached { emissions.AreReached event emission.entry reaches.new result.recorded instances.now }
     ensures quiet { emissions.AreQuiet event reaches.new result.triggered instances.now }
 {
     if !plan.asks {
@@ -44,7 +43,7 @@ pub(crate) fn reach_planned(
             triggered: false,
         };
     }
-    reach_each(plan, instances, event, row, cpu, pid, reaches)
+    reach_each(plan, instances, event, &emission, reaches)
 }
 
 // As `reach_planned`, where some instance is asked.
@@ -53,21 +52,19 @@ fn reach_each(
     plan: &EventPlan,
     instances: &[Named],
     event: usize,
-    row: &Row,
-    cpu: u32,
-    pid: i32,
+    emission: &Emission,
     reaches: &mut [Reach; INSTANCES],
 ) -> Reached
     requires planned { IsPlanOf event plan.now instances.now }
     requires few { length instances.now ≤ 8 }
     requires each { All (λ n. emissions.HasEventAt event n.instance) instances.now }
-    ensures reached { emissions.AreReached event row.now cpu pid reaches.new result.recorded instances.now }
+    ensures reached { emissions.AreReached event emission.now reaches.new result.recorded instances.now }
     ensures quiet { emissions.AreQuiet event reaches.new result.triggered instances.now }
 {
     let mut recorded = false;
     let mut triggered = false;
     for i in 0..instances.len() {
-        let here = reach_one(plan.each[i], &instances[i].instance, event, row, cpu, pid);
+        let here = reach_one(plan.each[i], &instances[i].instance, event, emission);
         reaches[i] = here.reach;
         recorded |= here.reach.records;
         triggered |= here.triggered;
@@ -87,17 +84,10 @@ struct OneReached {
 
 // What an emission of the event at this index, which has this plan there, does in an instance.
 #[inline(always)]
-fn reach_one(
-    plan: Plan,
-    instance: &Instance,
-    event: usize,
-    row: &Row,
-    cpu: u32,
-    pid: i32,
-) -> OneReached
+fn reach_one(plan: Plan, instance: &Instance, event: usize, emission: &Emission) -> OneReached
     requires planned { plan ≡ plan_of instance.now event }
     requires event { emissions.HasEventAt event instance.now }
-    ensures reach { result.reach ≡ reach_of instance.now event row.now cpu pid }
+    ensures reach { result.reach ≡ reach_of instance.now event emission.now }
     ensures fires { result.triggered ≡ false → result.reach.fires ≡ false }
     ensures hists { result.triggered ≡ false → slice_index_or instance.now.hists event [] ≡ [] }
 {
@@ -107,7 +97,7 @@ fn reach_one(
             triggered: false,
         };
     }
-    let reach = instance.reach(event, row, cpu, pid);
+    let reach = instance.reach(event, emission);
     OneReached {
         reach,
         triggered: reach.fires | instance.has_hists(event),

@@ -1,9 +1,8 @@
-//! Looking up paths, once: the instance, the CPU and the event that a path names, in the order of refusals.
+//! Looking up addresses, once: the instance, the CPU and the event that one names, in the order of refusals.
 
 ghost use Rattle.std.specs.Prelude.{◌≡◌, ◌≢◌, ℕ, ◌<◌, List, position, Some, None, IfSome, IfOk, IfErr};
 ghost use Rattle.std.specs.Option.{option_map};
 ghost use Rattle.trace_lex.specs.Decimals.{value_after};
-ghost use Rattle.trace_command.specs.Paths as paths;
 ghost use Rattle.trace_command.specs.FileNames as names;
 ghost use Rattle.trace_command.specs.Requests.{Request};
 ghost use Rattle.trace_command.specs.declared.command.Config.{Config};
@@ -17,12 +16,12 @@ ghost use Rattle.tracer_state.specs.States.{StandsFor};
 ghost use Rattle.tracer_state.specs.declared.resolve.Found.{Found as FoundEvent};
 
 use crate::state::{Named, State};
-use trace_command::{Config, FileName, Refusal, address_of};
+use trace_command::{Address, Config, FileName, Refusal};
 use trace_format::{Catalog, EventDef};
 use trace_instance::File;
 use trace_lex::digits_value;
 
-/// What a path names.
+/// What an address leads to.
 #[derive(Clone, Copy, Drop)]
 pub(crate) enum Target {
     /// The file of all declarations, which only the top instance has.
@@ -90,15 +89,14 @@ fn numbered(catalog: &Catalog, id: u16) -> Option<Found<'_>>
 }
 
 impl State {
-    /// What a path names. Refused with `NoSuchInstance` if its instance doesn't exist, then with `NoSuchFile` if the rest names no file, then with
+    /// What an address leads to. Refused with `NoSuchInstance` if its instance doesn't exist, then with `NoSuchFile` if it has no file, then with
     /// `NoSuchCpu` or `NoSuchEvent`.
-    pub(crate) fn resolve(&self, config: &Config, path: &[u8]) -> Result<Target, Refusal>
+    pub(crate) fn resolve(&self, config: &Config, address: Address<'_>) -> Result<Target, Refusal>
         ensures resolved { (past : List Request) → StandsFor config.now self.now past
-            → files.IsResolved config.now self.now past (paths.address_of path.now) result }
+            → files.IsResolved config.now self.now past (names.address_at address.entry) result }
         ensures there { IfOk result (files.IsTarget config.now.cpus self.now) }
         ensures memory { IfErr result (λ r. r ≢ Refusal.Memory) }
     {
-        let address = address_of(path);
         let Some(index) = self.index_of(address.instance) else {
             return Err(Refusal::NoSuchInstance);
         };
@@ -131,7 +129,7 @@ fn is_named(named: &Named, name: Option<&[u8]>) -> bool
     }
 }
 
-// The file that a path names, with its CPU and its event looked up; none for the declarations.
+// The file of this name, with its CPU and its event looked up; none for the declarations.
 fn found_file(catalog: &Catalog, cpus: u32, named: FileName<'_>) -> Result<Option<File>, Refusal>
     ensures found { (g : Config) (past : List Request) → g.cpus ≡ cpus → catalog.now ≡ declared_events past
         → files.IsFound g past catalog.now (names.file_at named.entry) result }

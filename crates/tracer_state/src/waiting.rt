@@ -8,7 +8,7 @@ ghost use Rattle.tracer_state.specs.States.{StandsFor, IsUsable};
 
 use crate::resolve::Target;
 use crate::state::State;
-use trace_command::{Config, Refusal};
+use trace_command::{Config, Refusal, address_of};
 use trace_instance::has_waiting;
 
 impl State {
@@ -19,7 +19,7 @@ impl State {
         ensures { (past : List Request) → StandsFor config.now self.now past
             → result ≡ waiting config.now past (paths.address_of path.now).instance (paths.address_of path.now).file }
     {
-        match self.resolve(config, path)? {
+        match self.resolve(config, address_of(path))? {
             Target::Declarations => Err(Refusal::BadValue),
             Target::Of(index, file) => has_waiting(&self.instances[index].instance, file),
         }

@@ -3,7 +3,7 @@ use Rattle.std.specs.Prelude.{◌≡◌, ℕ, Bool, List, ◌∷◌, Option, Som
 use Rattle.trace_command.specs.Requests.{Request, request_of}
 use Rattle.trace_command.specs.declared.command.Command.TheVariants as commands
 use Rattle.tracer_specification.specs.Settings.{declared_events}
-use Rattle.mount_tree.specs.declared.file.File.{File}
+use Rattle.file_list.specs.declared.file.File.{File}
 use Rattle.mount_replies.specs.Lines.{command_text}
 use Rattle.mount_replies.specs.Mounted.{HasLedTo, IsRun, MountSeen, stopped_at, terms_of}
 use Rattle.mount_replies.specs.Steps.{Asking, AsksFor, LineAsked, LineRefused, Ran}

@@ -4,8 +4,8 @@ use Rattle.trace_command.specs.declared.file_name.CpuFile.TheVariants as per_cpu
 use Rattle.trace_command.specs.declared.file_name.TopFile.TheVariants as top
 use Rattle.trace_instance.specs.declared.file.File.{File as Opened}
 use Rattle.trace_instance.specs.declared.file.File.TheVariants as opened
-use Rattle.mount_tree.specs.declared.file.File.{File}
-use Rattle.mount_tree.specs.declared.file.File.TheVariants.{OfInstance, OfCpu}
+use Rattle.file_list.specs.declared.file.File.{File}
+use Rattle.file_list.specs.declared.file.File.TheVariants.{OfInstance, OfCpu}
 
 -- the pipe that a file is, if it is one of a CPU that is there
 abbrev pub pipe_in : ℕ → File → Option Opened

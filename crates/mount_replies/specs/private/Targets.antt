@@ -8,7 +8,7 @@ use Rattle.trace_command.specs.declared.refusal.Refusal.TheVariants.{Memory}
 use Rattle.tracer_specification.specs.Settings.{declared_events, now_of}
 use Rattle.error_log.specs.Errors.{ErrorSeen, begun}
 use Rattle.mount_tree.specs.NodePaths.{path_of}
-use Rattle.mount_tree.specs.declared.file.File.{File}
+use Rattle.file_list.specs.declared.file.File.{File}
 use Rattle.mount_tree.specs.declared.node.Node.TheVariants as nodes
 use Rattle.mount_tree.specs.declared.node.Owner.{Owner}
 use Rattle.mount_replies.specs.FileWrites.{begun_now}

@@ -31,7 +31,7 @@ use Rattle.trace_instance.specs.EventLists.{all_hists}
 use Rattle.trace_instance.specs.declared.hists.AttachedHist.{AttachedHist}
 use Rattle.trace_instance.specs.declared.attach.EventTriggers.{EventTriggers}
 use Rattle.trace_instance.specs.declared.change.TriggerChange.{TriggerChange}
-use Rattle.trace_instance.specs.declared.change.TriggerChange.TheVariants.{Attach, AttachHist, MakeHist, AskTable}
+use Rattle.trace_instance.specs.declared.change.TriggerChange.TheVariants.{AttachSnapshot, AttachHist, MakeHist, AskTable}
 use Rattle.trace_instance.specs.declared.write.WrittenText.{WrittenText}
 
 -- the event is declared, at this index, and what is kept of its triggers and of the hist triggers of all events agrees with the requests
@@ -51,7 +51,7 @@ write_of name event written = WriteFile name (Some (OfEvent event.name per_event
 
 -- whether there is a spare after a change: a hist trigger needs none
 abbrev pub arms : TriggerChange → Option Bool
-arms (Attach trigger) = Some true
+arms (AttachSnapshot trigger) = Some true
 arms change = None
 
 -- a change says of an event's triggers what the definitions say of such a request
@@ -94,7 +94,7 @@ IsSaidChange what triggers written result =
 
 -- a trigger for snapshots
 abbrev pub IsAttached : SnapshotTrigger → EventTriggers → WrittenText → Result TriggerChange Refusal → Type 0
-IsAttached trigger = IsSaidChange (said.Attach trigger)
+IsAttached trigger = IsSaidChange (said.AttachSnapshot trigger)
 
 -- a hist trigger of this event
 abbrev pub IsAsked : SpecSeen → EventTriggers → WrittenText → Result TriggerChange Refusal → Type 0

@@ -16,7 +16,7 @@ use Rattle.trace_hist.specs.Groups.{grouped}
 use Rattle.trace_trigger.specs.HistSpecs.{SpecSeen}
 use Rattle.trace_instance.specs.declared.trigger.EventTrigger.{EventTrigger}
 use Rattle.trace_instance.specs.declared.trigger.EventTrigger.TheVariants.{Snapshot, Hist}
-use Rattle.trace_instance.specs.declared.trigger.Trigger.{Trigger}
+use Rattle.trace_instance.specs.declared.trigger.AttachedSnapshot.{AttachedSnapshot}
 use Rattle.trace_text.specs.TriggerText as texts
 
 -- a value that has to be one
@@ -35,7 +35,7 @@ shown_filter None = codes "none\n"
 shown_filter (Some kept) = kept.text ++ codes "\n"
 
 -- a kept trigger as its file shows it
-abbrev pub shown_kept : Trigger → texts.Trigger
+abbrev pub shown_kept : AttachedSnapshot → texts.Trigger
 shown_kept t = texts.Snapshot t.left (option_map (λ (filter : Parsed). filter.text) t.filter)
 
 -- a hist trigger that says this, with its table, as its files show it. (Each trigger has a table.)

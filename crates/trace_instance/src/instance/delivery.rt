@@ -14,7 +14,7 @@ use crate::change::{Delivery, Reach};
 use crate::hists::Passed;
 use crate::plan::Plan;
 use std::alloc::AllocError;
-use trace_format::Row;
+use trace_format::Emission;
 
 impl Instance {
     /// Whether the event at this index has hist triggers.
@@ -36,57 +36,51 @@ impl Instance {
     }
 
     /// Evaluates the filters of the hist triggers of the event at this index for a row, and reserves memory to count it for those that it passes.
-    pub fn reserve(
-        &mut self,
-        event: usize,
-        row: &Row,
-        cpu: u32,
-        pid: i32,
-    ) -> Result<Passed, AllocError>
+    pub fn reserve(&mut self, event: usize, emission: &Emission) -> Result<Passed, AllocError>
         requires event { event < length self.old.hists }
         requires agree { KeysAgree (slice_index_or self.old.hists event []) }
-        ensures passed { IfOk result (λ passed. passed ≡ passed_in (record { values = row.now.values; cpu = cpu; pid = pid }) event self.old) }
+        ensures passed { IfOk result (λ passed. passed ≡ passed_in emission.now event self.old) }
         ensures alike { IsAlike self.old self.new }
-        ensures ready { OnOk result (CanCountRow (record { values = row.now.values; cpu = cpu; pid = pid }) event self.new) }
+        ensures ready { OnOk result (CanCountRow emission.now event self.new) }
         // Memory is taken, and may be refused, only for a row that needs a new entry in some table.
-        ensures memory { OnErr result (NeedsRowMemory (record { values = row.now.values; cpu = cpu; pid = pid }) event self.old) }
+        ensures memory { OnErr result (NeedsRowMemory emission.now event self.old) }
     {
         self.events[event]
             .triggers
-            .reserve(&mut self.tables, row, cpu, pid)
+            .reserve(&mut self.tables, emission)
     }
 
     /// What an emission of the event at this index does here, apart from hist triggers: whether it is recorded (recording is on, the event is
     /// enabled, its filter passes) and whether the event's snapshot trigger acts (only its own filter and count matter).
-    pub fn reach(&self, event: usize, row: &Row, cpu: u32, pid: i32) -> Reach
+    pub fn reach(&self, event: usize, emission: &Emission) -> Reach
         requires enabled { event < length self.now.enabled }
         requires filters { event < length self.now.filters }
         requires triggers { event < length self.now.triggers }
-        ensures { result ≡ rows.reach_of self.now event row.now cpu pid }
+        ensures { result ≡ rows.reach_of self.now event emission.now }
     {
         Reach {
-            records: self.records(event, row, cpu, pid),
-            fires: self.fires(event, row, cpu, pid),
+            records: self.records(event, emission),
+            fires: self.fires(event, emission),
         }
     }
 
     // Whether an emission of the event at this index is recorded here.
     #[inline(always)]
-    fn records(&self, event: usize, row: &Row, cpu: u32, pid: i32) -> bool
+    fn records(&self, event: usize, emission: &Emission) -> bool
         requires enabled { event < length self.now.enabled }
         requires filters { event < length self.now.filters }
-        ensures { result ≡ rows.records self.now event row.now cpu pid }
+        ensures { result ≡ rows.records self.now event emission.now }
     {
-        self.tracing && self.events[event].records(row, cpu, pid)
+        self.tracing && self.events[event].records(emission)
     }
 
     // Whether it makes the event's snapshot trigger act.
     #[inline(always)]
-    fn fires(&self, event: usize, row: &Row, cpu: u32, pid: i32) -> bool
+    fn fires(&self, event: usize, emission: &Emission) -> bool
         requires { event < length self.now.triggers }
-        ensures { result ≡ rows.fires self.now event row.now cpu pid }
+        ensures { result ≡ rows.fires self.now event emission.now }
     {
-        self.events[event].fires(row, cpu, pid)
+        self.events[event].fires(emission)
     }
 
     /// Applies a prepared emission: writes its record, if any, over older ones if the ring is full and overwriting is on; counts its row in the hist
@@ -133,13 +127,14 @@ impl Instance {
         requires few_rows { HasFewRows self.old }
         ensures { IsOffered delivery.now self.old self.new }
     {
-        self.events[delivery.event].triggers.hit(
-            &mut self.tables,
-            passed,
-            &delivery.row,
-            delivery.cpu,
-            delivery.pid,
-        );
+        let emission = Emission {
+            row: &delivery.row,
+            cpu: delivery.cpu,
+            pid: delivery.pid,
+        };
+        self.events[delivery.event]
+            .triggers
+            .hit(&mut self.tables, passed, &emission);
     }
 
     // Swaps the sides for the snapshot trigger of the event at this index, and counts the trigger down.

@@ -3,6 +3,7 @@
 ghost use Rattle.std.specs.Prelude.{◌≡◌, ◌≤◌, List};
 ghost use Rattle.trace_command.specs.Requests.{Request, Emission, request_of};
 ghost use Rattle.tracer_specification.specs.Settings.{declared_events, ticks};
+ghost use Rattle.tracer_state.specs.AddressedRequests.{read_at, write_at};
 ghost use Rattle.tracer_state.specs.ValueEmissions.{values_emission};
 ghost use Rattle.tracer.specs.Lives.{IsLive, IsCall, IsCallWithin, most_done};
 
@@ -10,8 +11,9 @@ use super::{MOST_DONE, Tracer};
 use crate::discard::let_go;
 use crate::pair::single;
 use std::slice;
-use trace_command::{BorrowedEmission, Command, Refusal, Reply};
+use trace_command::{Address, BorrowedEmission, Command, Refusal, Reply};
 use trace_format::{FieldValue, Pair, borrowed};
+use tracer_state::ValuesEmission;
 
 impl Tracer {
     /// Runs a command, or refuses it. The answer is the one that the commands done before it give. A refused command changes nothing.
@@ -92,8 +94,7 @@ impl Tracer {
             → IsCallWithin limit past self.new (request_of emission.now) result }
         ensures config { self.new.config ≡ self.old.config }
     {
-        let (event, cpu, pid, pairs) = emission.parts();
-        self.prepare_emission(limit, event, cpu, pid, pairs)?;
+        self.prepare_emission(limit, emission)?;
         self.deliver();
         Ok(Reply::Done)
     }
@@ -128,9 +129,40 @@ impl Tracer {
             → IsCallWithin limit past self.new (values_emission (declared_events past) event cpu pid values.now) result }
         ensures config { self.new.config ≡ self.old.config }
     {
-        self.prepare_values(limit, event, cpu, pid, values)?;
+        let emission = ValuesEmission {
+            event,
+            cpu,
+            pid,
+            values,
+        };
+        self.prepare_values(limit, &emission)?;
         self.deliver();
         Ok(Reply::Done)
+    }
+
+    /// As `ask`, for a read of the file at this address, of a pipe of at most so many records.
+    pub fn read_at(&mut self, address: Address<'_>, limit: Option<u64>) -> Result<Reply, Refusal>
+        ensures call { (past : List Request) → IsLive self.old.config past self.old
+            → IsCall past self.new (read_at address.entry limit) result }
+        ensures config { self.new.config ≡ self.old.config }
+    {
+        let prepared = self.prepare_read_at(MOST_DONE, address, limit)?;
+        self.carry_out(prepared)
+    }
+
+    /// As `ask`, for a write to the file at this address: by `>` or, to append, by `>>`.
+    pub fn write_at(
+        &mut self,
+        address: Address<'_>,
+        append: bool,
+        text: &[u8],
+    ) -> Result<Reply, Refusal>
+        ensures call { (past : List Request) → IsLive self.old.config past self.old
+            → IsCall past self.new (write_at address.entry append text.now) result }
+        ensures config { self.new.config ≡ self.old.config }
+    {
+        let prepared = self.prepare_write_at(MOST_DONE, address, append, text)?;
+        self.carry_out(prepared)
     }
 
     // As `ask_within`, for a command other than an emission.

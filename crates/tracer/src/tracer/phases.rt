@@ -2,22 +2,23 @@
 
 ghost use Rattle.std.specs.Prelude.{◌≡◌, ◌≢◌, ◌<◌, List, ◌∷◌, Ok, IfOk, IfErr, OnOk, OnErr};
 ghost use Rattle.trace_command.specs.Refusals.{IsRefusal};
-ghost use Rattle.trace_command.specs.Requests.{Request, Emission, FitsItsTypes, request_of};
+ghost use Rattle.trace_command.specs.Requests.{Request, FitsItsTypes, request_of};
 ghost use Rattle.trace_command.specs.declared.refusal.Refusal.TheVariants as refusal;
 ghost use Rattle.trace_format.specs.declared.pair.Pair.{Pair as PairSeen};
 ghost use Rattle.tracer_specification.specs.History.{emission_answer};
 ghost use Rattle.tracer_specification.specs.LateMemory.{TakesMemoryLate};
 ghost use Rattle.tracer_specification.specs.Settings.{declared_events, ticks};
 ghost use Rattle.trace_instance.specs.MemoryTaken.{TakesNoMemory};
+ghost use Rattle.tracer_state.specs.AddressedRequests.{read_at, write_at};
 ghost use Rattle.tracer_state.specs.States.{IsPrepared, IsPreparedEmission, TakesMemory};
-ghost use Rattle.tracer_state.specs.ValueEmissions.{values_emission};
+ghost use Rattle.tracer_state.specs.ValueEmissions.{emission_by};
 ghost use Rattle.tracer.specs.Lives.{IsLive, IsPreparedWithin, IsReadyFor, CanDeliver, limited_answer, most_done};
 
 use super::Tracer;
 use crate::discard::let_go_change;
-use trace_command::{Command, Refusal, Reply};
-use trace_format::{BorrowedPair, FieldValue};
-use tracer_state::Prepared;
+use trace_command::{Address, BorrowedEmission, Command, Refusal, Reply, address_of};
+use trace_instance::WrittenText;
+use tracer_state::{Prepared, ValuesEmission};
 
 impl Tracer {
     /// Looks at a command other than an emission, and allocates what it needs: its change and its reply, or its refusal. It is refused with
@@ -56,14 +57,62 @@ impl Tracer {
         ensures room { OnOk result (self.now.done < limit) }
         ensures fits { OnOk result (FitsItsTypes (request_of (Command.Read path.now most))) }
     {
+        self.prepare_read_at(limit, address_of(path), most)
+    }
+
+    /// As `prepare`, for a read of the file at this address, of a pipe of at most so many records.
+    pub fn prepare_read_at(
+        &self,
+        limit: u64,
+        address: Address<'_>,
+        most: Option<u64>,
+    ) -> Result<Prepared, Refusal>
+        ensures prepared { (past : List Request) → IsLive self.now.config past self.now
+            → IsPreparedWithin limit self.now.config past (read_at address.entry most) self.now.state result }
+        ensures ready { IfOk result (IsReadyFor self.now) }
+        ensures room { OnOk result (self.now.done < limit) }
+        ensures fits { OnOk result (FitsItsTypes (read_at address.entry most)) }
+    {
         let read = self
             .state
-            .prepare_read(self.alloc, &self.config, path, most)?;
+            .prepare_read(self.alloc, &self.config, address, most)?;
         if self.done >= limit {
             let_go_change(read);
             return Err(Refusal::HistoryFull);
         }
         Ok(read)
+    }
+
+    /// As `prepare`, for a write to the file at this address.
+    pub fn prepare_write_at(
+        &self,
+        limit: u64,
+        address: Address<'_>,
+        append: bool,
+        text: &[u8],
+    ) -> Result<Prepared, Refusal>
+        ensures prepared { (past : List Request) → IsLive self.now.config past self.now
+            → IsPreparedWithin limit self.now.config past (write_at address.entry append text.now) self.now.state result }
+        ensures ready { IfOk result (IsReadyFor self.now) }
+        ensures room { OnOk result (self.now.done < limit) }
+        ensures memory { (past : List Request) → IsLive self.now.config past self.now → TakesMemoryLate (write_at address.entry append text.now)
+            → IfErr result (λ r. r ≢ refusal.Memory) }
+        ensures takes_none { (past : List Request) → IsLive self.now.config past self.now → TakesNoMemory past (write_at address.entry append text.now)
+            → IfOk result (λ prepared. TakesMemory self.now.state prepared.change → ⊥) }
+    {
+        let written = WrittenText {
+            number: self.done,
+            append,
+            text,
+        };
+        let write = self
+            .state
+            .prepare_write(self.alloc, &self.config, address, written)?;
+        if self.done >= limit {
+            let_go_change(write);
+            return Err(Refusal::HistoryFull);
+        }
+        Ok(write)
     }
 
     /// Makes the change that was prepared for a command, and returns its reply: the command is done. If memory is refused, of which only some changes
@@ -93,65 +142,46 @@ impl Tracer {
     pub fn prepare_emission(
         &mut self,
         limit: u64,
-        name: &[u8],
-        cpu: u32,
-        pid: i32,
-        pairs: &[BorrowedPair<'_>],
+        emission: &BorrowedEmission<'_>,
     ) -> Result<(), Refusal>
         ensures prepared { (past : List Request) → IsLive self.old.config past self.old
-            → OnOk result (IsPreparedEmission self.new.config past (Emission name.now cpu pid pairs.now) self.new.state self.new.delivery) }
+            → OnOk result (IsPreparedEmission self.new.config past (request_of emission.now) self.new.state self.new.delivery) }
         ensures refused { (past : List Request) → IsLive self.old.config past self.old
-            → IfErr result (λ r. IsRefusal r (limited_answer limit self.new.config past (Emission name.now cpu pid pairs.now))) }
+            → IfErr result (λ r. IsRefusal r (limited_answer limit self.new.config past (request_of emission.now))) }
         ensures ready { OnOk result (CanDeliver self.new) }
         ensures room { OnOk result (self.new.done < limit) }
-        ensures fits { OnOk result (FitsItsTypes (Emission name.now cpu pid pairs.now)) }
+        ensures fits { OnOk result (FitsItsTypes (request_of emission.now)) }
+        ensures memory { ¬ TakesMemoryLate (request_of emission.now) }
         ensures lives { (past : List Request) → IsLive self.old.config past self.old → IsLive self.new.config past self.new }
         ensures config { self.new.config ≡ self.old.config }
     {
-        self.state.prepare_emission(
-            self.alloc,
-            &mut self.delivery,
-            &self.config,
-            name,
-            cpu,
-            pid,
-            pairs,
-        )?;
+        self.state
+            .prepare_emission(self.alloc, &mut self.delivery, &self.config, emission)?;
         if self.done >= limit {
             return Err(Refusal::HistoryFull);
         }
         Ok(())
     }
 
-    /// As `prepare_emission`, for the event with this number, from 1, and values of its fields in order of declaration.
+    /// As `prepare_emission`, for an emission by values.
     #[inline(always)]
     pub fn prepare_values(
         &mut self,
         limit: u64,
-        event: u32,
-        cpu: u32,
-        pid: i32,
-        values: &[FieldValue<'_>],
+        emission: &ValuesEmission<'_>,
     ) -> Result<(), Refusal>
         ensures prepared { (past : List Request) → IsLive self.old.config past self.old
-            → OnOk result (IsPreparedEmission self.new.config past (values_emission (declared_events past) event cpu pid values.now)
+            → OnOk result (IsPreparedEmission self.new.config past (emission_by (declared_events past) emission.now)
             self.new.state self.new.delivery) }
         ensures refused { (past : List Request) → IsLive self.old.config past self.old → IfErr result (λ r. IsRefusal r
-            (limited_answer limit self.new.config past (values_emission (declared_events past) event cpu pid values.now))) }
+            (limited_answer limit self.new.config past (emission_by (declared_events past) emission.now))) }
         ensures ready { OnOk result (CanDeliver self.new) }
         ensures room { OnOk result (self.new.done < limit) }
         ensures lives { (past : List Request) → IsLive self.old.config past self.old → IsLive self.new.config past self.new }
         ensures config { self.new.config ≡ self.old.config }
     {
-        self.state.prepare_values(
-            self.alloc,
-            &mut self.delivery,
-            &self.config,
-            event,
-            cpu,
-            pid,
-            values,
-        )?;
+        self.state
+            .prepare_values(self.alloc, &mut self.delivery, &self.config, emission)?;
         if self.done >= limit {
             return Err(Refusal::HistoryFull);
         }

@@ -2,6 +2,7 @@
 use Rattle.std.specs.Prelude.{◌≡◌, ℕ, ℤ, ◌+◌, ◌<◌, Bool, true, false, List, [], length, slice_index_or, All}
 use Rattle.trace_format.specs.Cells.{Cells, record_size_of}
 use Rattle.trace_format.specs.Definitions.{Definition}
+use Rattle.trace_format.specs.Operands.{Emission}
 use Rattle.trace_record.specs.Record.{IsRecord}
 use Rattle.tracer_specification.specs.Emissions.{record_bytes}
 use Rattle.trace_instance.specs.Deliveries.{CanCountRow, row_of}
@@ -22,8 +23,8 @@ pub record HasEventAt (event : ℕ) (i : InstanceSeen) : Type 0 where
   pub agree : KeysAgree (slice_index_or i.hists event [])
 
 -- what an emission of the event at this index does in each instance is this, and if none is said to record it, none does
-pub record AreReached (event : ℕ) (row : Cells) (cpu : ℕ) (pid : ℤ) (reaches : List Reach) (recorded : Bool) (instances : List Named) : Type 0 where
-  pub each : AllReached (λ reach i. reach ≡ reach_of i event row cpu pid) reaches instances
+pub record AreReached (event : ℕ) (emission : Emission) (reaches : List Reach) (recorded : Bool) (instances : List Named) : Type 0 where
+  pub each : AllReached (λ reach i. reach ≡ reach_of i event emission) reaches instances
   pub none : recorded ≡ false → AllReached (λ reach i. reach.records ≡ false) reaches instances
 
 -- if no instance's triggers are said to do anything, none fires, and the event has no hist triggers in any
@@ -40,7 +41,7 @@ pub record IsAhead (clock event : ℕ) (row : Cells) (pid : ℤ) (recorded : Boo
 -- memory was reserved, and its record, if some instance records it
 pub record IsReserved (clock : ℕ) (event : Definition) (old new : List Named) (d : Delivery) : Type 0 where
   pub recorded : Bool
-  pub reached : AreReached d.event d.row d.cpu d.pid d.reaches recorded old
+  pub reached : AreReached d.event (row_of d) d.reaches recorded old
   pub idle : AllReached (StaysUnlessWanted d) d.reaches old
   pub ahead : IsAhead clock d.event d.row d.pid recorded d.record.items
   pub sized : recorded ≡ true → length d.record.items ≡ record_size_of event

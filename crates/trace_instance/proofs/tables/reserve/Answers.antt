@@ -1,5 +1,4 @@
-use Rattle.std.proofs.Common.{◌≡◌, None, Some, get_or, refl, to_z, of_z, w32, rules}
-use Rattle.std.proofs.lemmas.Int.{to_z-of_z}
+use Rattle.std.proofs.Common.{◌≡◌, None, Some, get_or, refl, rules}
 use Rattle.std.specs.List.{position}
 use Rattle.trace_instance.proofs.Lookups.{alike-at, here-at, is_numbered, kept-reserved, none-found, others-at, read-at, ready-reserved}
 use Rattle.trace_instance.proofs.tables.reserve.Goals as goal
@@ -15,7 +14,7 @@ returns-clause-alike c = λ other.
     let reserved = c.reserve_hit_as.ensures in
     alike-at c.args.number c.args.tables.now c.in-Some.index c.index-tables-index.result
     (get_or c.args.tables.now c.in-Some.index c.index-tables-index.result) c.reserve_hit_as.new.self found refl
-    (kept-reserved c.args.by.now (record { values = c.args.row.now.values; cpu = c.args.cpu; pid = to_z w32 (of_z w32 c.args.pid) })
+    (kept-reserved c.args.by.now c.args.emission.now
     (get_or c.args.tables.now c.in-Some.index c.index-tables-index.result).hist c.reserve_hit_as.new.self c.reserve_hit_as.result reserved.reserved reserved.err) other
 
 pub returns-clause-others : goal.returns-clause-others
@@ -27,15 +26,13 @@ returns-clause-others c = λ other apart.
 pub returns-clause-ready : goal.returns-clause-ready
 returns-clause-ready c =
     let found : position (is_numbered c.args.number) c.args.tables.now ≡ Some c.in-Some.index = search rules in
-    let pid : to_z w32 (of_z w32 c.args.pid) ≡ c.args.pid = to_z-of_z w32 c.args.pid (search rules) in
     rw (here-at c.args.number c.args.tables.now c.in-Some.index c.index-tables-index.result
     (get_or c.args.tables.now c.in-Some.index c.index-tables-index.result) (record (get_or c.args.tables.now c.in-Some.index c.index-tables-index.result) { hist = c.reserve_hit_as.new.self }) found refl refl)
-    (rw pid at (ready-reserved c.args.by.now (record { values = c.args.row.now.values; cpu = c.args.cpu; pid = to_z w32 (of_z w32 c.args.pid) })
-    (get_or c.args.tables.now c.in-Some.index c.index-tables-index.result).hist c.reserve_hit_as.new.self c.reserve_hit_as.result c.reserve_hit_as.ensures.reserved))
+    (ready-reserved c.args.by.now c.args.emission.now
+    (get_or c.args.tables.now c.in-Some.index c.index-tables-index.result).hist c.reserve_hit_as.new.self c.reserve_hit_as.result c.reserve_hit_as.ensures.reserved)
 
 pub returns-clause-memory : goal.returns-clause-memory
 returns-clause-memory c =
     let found : position (is_numbered c.args.number) c.args.tables.now ≡ Some c.in-Some.index = search rules in
-    let pid : to_z w32 (of_z w32 c.args.pid) ≡ c.args.pid = to_z-of_z w32 c.args.pid (search rules) in
     rw (read-at c.args.number c.args.tables.now c.in-Some.index c.index-tables-index.result (get_or c.args.tables.now c.in-Some.index c.index-tables-index.result) found refl)
-    (rw pid at c.reserve_hit_as.ensures.memory)
+    c.reserve_hit_as.ensures.memory

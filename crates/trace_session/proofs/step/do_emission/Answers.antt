@@ -10,11 +10,11 @@ use Rattle.trace_session.proofs.step.do_emission.Goals as goal
 pub returns-then-is_silent-clause-run : goal.returns-then-is_silent-clause-run
 returns-then-is_silent-clause-run g c =
     let done : c.ask_emission_line-pass.result.1 ≡ Ok Done = search rules in
-    line_silent g.W.Sink.wants_first c.args.number c.args.plain.now.line.now (λ (config : Config). IsSessionPass config (view_of c.args.pass))
+    line_silent g.W.Sink.wants_first c.args.item.now.number c.args.item.now.line.now (λ (config : Config). IsSessionPass config (view_of c.args.pass))
     (progress_of (view_of c.args.pass)) (progress_of (view_of c.ask_emission_line-pass.result.0)) _ (search rules)
-    (λ config seat. c.ask_emission_line-pass.ensures.turn (Some (Replied Done)) (rw done refl) config c.args.plain.now.line.now seat c.requires.says)
+    (λ config seat. c.ask_emission_line-pass.ensures.turn (Some (Replied Done)) (rw done refl) config c.args.item.now.line.now seat c.requires.says)
 
 pub returns-clause-run : goal.returns-clause-run
 returns-clause-run g c =
     c.give_answer-given.ensures.run (view_of c.args.pass) (progress_of (view_of c.ask_emission_line-pass.result.0))
-    (λ outcome told config seat. c.ask_emission_line-pass.ensures.turn outcome told config c.args.plain.now.line.now seat c.requires.says)
+    (λ outcome told config seat. c.ask_emission_line-pass.ensures.turn outcome told config c.args.item.now.line.now seat c.requires.says)

@@ -77,7 +77,7 @@ returns-in-Ok g c =
       session = ran.session;
       done = part_done g.W.Sink.wants_first seated threads before after written.text.items written.status c.hears.result written.outcomes.items gave c.give_part.result
           (contents c.args.writer.now) (contents c.give_part.new.writer) c.args.replies.now c.give_part.new.replies
-          (heard c.args.writer.now) (heard c.give_part.new.writer) c.args.number c.args.text.now
+          (heard c.args.writer.now) (heard c.give_part.new.writer) c.args.part.number c.args.part.text.now
           told.status told.written c.hears.ensures told.heard told.all;
       failures = told.failures;
       memory = λ is. absurd (told.memory is);

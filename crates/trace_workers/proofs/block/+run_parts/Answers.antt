@@ -33,7 +33,7 @@ through : (a b c : ℕ) → a ≡ b → b ≡ c → a ≡ c
 through a b c first second = first ∙ second
 
 -- What came back for the last part, whether its thread ran it or it was called here.
-came_of : (g : _) (t : _) (c : After-push_reserved g t) → IsOf c.args.lock.now c.match-started.returned.pass
+came_of : (g : _) (t : _) (c : After-push_reserved g t) → IsOf c.args.env.now.lock.now c.match-started.returned.pass
 came_of g t c = elim c.match-started.branch [ in-Ok-started w ↦ search rules | in-Err w ↦ search rules ]
 
 came_by : (g : _) (t : _) (c : After-push_reserved g t) → c.match-started.returned.part.by ≡ (view_of c.in-Ok.upper).low
@@ -44,11 +44,11 @@ came_asked : (g : _) (t : _) (c : After-push_reserved g t)
     c.match-started.returned.part.replies.items c.match-started.returned.fault
 came_asked g t c = elim c.match-started.branch [ in-Ok-started w ↦ search rules | in-Err w ↦ search rules ]
 
-came_open : (g : _) (t : _) (c : After-push_reserved g t) → g.G.Gate.is_open c.args.gate.now ≡ true → c.match-started.returned.fault ≢ Some Stopped
+came_open : (g : _) (t : _) (c : After-push_reserved g t) → g.G.Gate.is_open c.args.env.now.gate.now ≡ true → c.match-started.returned.fault ≢ Some Stopped
 came_open g t c = elim c.match-started.branch [ in-Ok-started w ↦ search rules | in-Err w ↦ search rules ]
 
 came_gated : (g : _) (t : _) (c : After-push_reserved g t)
-    → IsGated (g.G.Gate.may_answer c.args.gate.now (vec_len c.pop.new.self)) (map g.C.Asked.command c.in-Some.commands.items)
+    → IsGated (g.G.Gate.may_answer c.args.env.now.gate.now (vec_len c.pop.new.self)) (map g.C.Asked.command c.in-Some.commands.items)
     c.match-started.returned.part.replies.items c.match-started.returned.fault
 came_gated g t c = elim c.match-started.branch [ in-Ok-started w ↦ search rules | in-Err w ↦ search rules ]
 
@@ -96,13 +96,13 @@ returns-clause-run g t c =
 -- no part is left, so none was begun
 pub returns-in_default-clause-begun : goal.returns-in_default-clause-begun
 returns-in_default-clause-begun g t c =
-    rw (c.requires.empty, begun_none (commands_of g.C.Asked.command c.args.parts.items)) (begun_pass_none (g.G.Gate.may_answer c.args.gate.now))
+    rw (c.requires.empty, begun_none (commands_of g.C.Asked.command c.args.parts.items)) (begun_pass_none (g.G.Gate.may_answer c.args.env.now.gate.now))
 
 -- the gate let the parts before this one pass as far as they came, and this one
 pub returns-clause-begun : goal.returns-clause-begun
 returns-clause-begun g t c =
     let b = view_of c.in-Ok.upper in
-    let may = g.G.Gate.may_answer c.args.gate.now in
+    let may = g.G.Gate.may_answer c.args.env.now.gate.now in
     let others = c.run_parts-others in
     let returned = c.match-started.returned in
     let commands = map g.C.Asked.command c.in-Some.commands.items in
@@ -140,7 +140,7 @@ returns-clause-whole g t c none =
 pub returns-clause-gate : goal.returns-clause-gate
 returns-clause-gate g t c none =
     let b = view_of c.in-Ok.upper in
-    let may = g.G.Gate.may_answer c.args.gate.now in
+    let may = g.G.Gate.may_answer c.args.env.now.gate.now in
     let others = c.run_parts-others in
     let returned = c.match-started.returned in
     let commands = map g.C.Asked.command c.in-Some.commands.items in
@@ -160,7 +160,7 @@ returns-clause-gate g t c none =
 -- where Stopped is told, one of them was stopped
 pub returns-clause-stopped : goal.returns-clause-stopped
 returns-clause-stopped g t c told =
-    let may = g.G.Gate.may_answer c.args.gate.now in
+    let may = g.G.Gate.may_answer c.args.env.now.gate.now in
     let others = c.run_parts-others in
     let returned = c.match-started.returned in
     let commands = map g.C.Asked.command c.in-Some.commands.items in
@@ -227,7 +227,7 @@ returns-in_default-clause-ends g t c =
 -- how the parts before this one ended, and this one
 pub returns-clause-ends : goal.returns-clause-ends
 returns-clause-ends g t c =
-    let may = g.G.Gate.may_answer c.args.gate.now in
+    let may = g.G.Gate.may_answer c.args.env.now.gate.now in
     let others = c.run_parts-others in
     let returned = c.match-started.returned in
     let at = (goal.at.returns-clause-ends g t c).After-push_reserved in

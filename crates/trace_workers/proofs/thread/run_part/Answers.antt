@@ -16,5 +16,5 @@ pub returns-in-Err-clause-gate : goal.returns-in-Err-clause-gate
 returns-in-Err-clause-gate g c =
     let none : c.new-replies.result.items ≡ [] = search rules in
     rw none
-    (gated_none (g.G.Gate.may_answer c.args.gate.now c.args.thread) (map g.C.Asked.command c.args.commands.items) (Some c.in-Err.fault)
+    (gated_none (g.G.Gate.may_answer c.args.env.now.gate.now c.args.thread) (map g.C.Asked.command c.args.commands.items) (Some c.in-Err.fault)
     (λ e. let same : c.in-Err.fault ≡ Stopped = cc in absurd (c.in-Err.ensures.fault same)))

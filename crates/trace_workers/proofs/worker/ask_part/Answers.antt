@@ -18,7 +18,7 @@ loop-command-init g c =
       search rules,
       search rules,
       rw c.requires.empty (asked_none v [] None c.requires.named (λ e. refl)),
-      rw c.requires.empty (gated_none (g.G.Gate.may_answer c.args.gate.now c.args.thread) [] None (λ e. absurd cc)),
+      rw c.requires.empty (gated_none (g.G.Gate.may_answer c.args.env.now.gate.now c.args.thread) [] None (λ e. absurd cc)),
     )
 
 -- what is asked is what was asked so far, this one and the rest
@@ -60,7 +60,7 @@ pub returns-in-Some-fault-clause-gate : goal.returns-in-Some-fault-clause-gate
 returns-in-Some-fault-clause-gate g c =
     let l = c.loop-command in
     let turn = c.take_turn-next in
-    let may = g.G.Gate.may_answer c.args.gate.now c.args.thread in
+    let may = g.G.Gate.may_answer c.args.env.now.gate.now c.args.thread in
     let command = g.C.Asked.command in
     let asked = map command l.yielded ++ command c.in-Some.command ∷ [] in
     let rest = map command (into_iter_items c.next.new.self) in

@@ -9,9 +9,9 @@ abbrev pub invariant-loop-command : goal.invariant-loop-command
 invariant-loop-command g l =
     (goal.iterator-loop-command g).can_next l.command-iterator ×
     (goal.iterator-loop-command g).is_finite l.command-iterator
-    × IsOf l.lock l.mine.pass
+    × IsOf l.env.lock.now l.mine.pass
     × ((view_of l.mine.pass).low < (view_of l.mine.pass).end)
     × (vec_len l.mine.replies + into_iter_len l.command-iterator ≤ vec_capacity l.mine.replies)
     × (l.fn.commands.items ≡ l.yielded ++ into_iter_items l.command-iterator)
     × HasAsked (view_of l.fn.worker.pass) (view_of l.mine.pass) (map g.C.Asked.command l.yielded) l.mine.replies.items None
-    × IsGated (g.G.Gate.may_answer l.gate l.fn.thread) (map g.C.Asked.command l.yielded) l.mine.replies.items None
+    × IsGated (g.G.Gate.may_answer l.env.gate.now l.fn.thread) (map g.C.Asked.command l.yielded) l.mine.replies.items None

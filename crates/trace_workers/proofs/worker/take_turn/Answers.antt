@@ -38,7 +38,7 @@ returns-clause-asked g c =
 -- the gate did not let it be asked
 pub returns-then-not-arrive-clause-gate : goal.returns-then-not-arrive-clause-gate
 returns-then-not-arrive-clause-gate g c asked same before =
-    let may = g.G.Gate.may_answer c.args.gate.now c.args.thread in
+    let may = g.G.Gate.may_answer c.args.env.now.gate.now c.args.thread in
     let call = c.len-call.result in
     let replies = c.args.worker.replies in
     let is : length replies.items ≡ call = omega (arith, c.len-call.ensures, replies.ok.0) in
@@ -48,13 +48,13 @@ returns-then-not-arrive-clause-gate g c asked same before =
 -- memory was refused to it
 pub returns-then-is_memory-clause-gate : goal.returns-then-is_memory-clause-gate
 returns-then-is_memory-clause-gate g c asked same before =
-    gated_memory (g.G.Gate.may_answer c.args.gate.now c.args.thread) asked c.args.worker.replies.items (g.C.Asked.command c.args.command)
+    gated_memory (g.G.Gate.may_answer c.args.env.now.gate.now c.args.thread) asked c.args.worker.replies.items (g.C.Asked.command c.args.command)
     (omega (arith, same, c.args.worker.replies.ok.0)) before
 
 -- it was answered, and the gate was asked again
 pub returns-clause-gate : goal.returns-clause-gate
 returns-clause-gate g c asked same before =
-    let may = g.G.Gate.may_answer c.args.gate.now c.args.thread in
+    let may = g.G.Gate.may_answer c.args.env.now.gate.now c.args.thread in
     let call = c.len-call.result in
     let replies = c.args.worker.replies in
     let all = c.push_reserved.new.self.items in

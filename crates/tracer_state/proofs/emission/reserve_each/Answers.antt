@@ -1,7 +1,5 @@
-use Rattle.std.proofs.Common.{◌≡◌, ◌≢◌, ◌<◌, false, [], ◌∷◌, get_or, length, length-set, get_or-set_other, refl, ◌∙◌, arith, rules, to_z, of_z, w32}
-use Rattle.std.proofs.lemmas.Int.{to_z-of_z}
+use Rattle.std.proofs.Common.{◌≡◌, ◌≢◌, ◌<◌, false, [], ◌∷◌, get_or, length, length-set, get_or-set_other, refl, ◌∙◌, arith, rules}
 use Rattle.std.proofs.lemmas.List.{get_or_default}
-use Rattle.trace_format.specs.Operands.{Emission}
 use Rattle.trace_instance.specs.Instances.{IsAlike, passed_in}
 use Rattle.trace_instance.specs.Deliveries.{CanCountRow}
 use Rattle.tracer_state.specs.declared.state.Named.{Named}
@@ -35,14 +33,13 @@ returns-in_err-passed-clause-memory c =
     let old = c.args.instances.now in
     let now = c.loop-i.instances in
     let i = c.loop-i.i in
-    let e : Emission = record { values = c.args.row.now.values; cpu = c.args.cpu; pid = c.args.pid } in
-    let pid : to_z w32 (of_z w32 c.args.pid) ≡ c.args.pid = to_z-of_z w32 c.args.pid (search rules) in
+    let e = c.args.emission.now in
     let inside : i < length old = omega (arith, was.many) in
     let within : i < length now = omega (arith, was.many) in
     let at = c.index-instances-i-then-has_hists.result in
     let here = get_or now i at in
     needed-here e c.args.event old now i here c.from_residual.result inside (get_or_default now i at here within) (was.left i here (omega arith))
-    (rw pid at c.in_err-passed.ensures.memory)
+    c.in_err-passed.ensures.memory
 
 pub loop-i-preserved : goal.loop-i-preserved
 loop-i-preserved c =
@@ -51,7 +48,7 @@ loop-i-preserved c =
     let now = c.loop-i.instances in
     let i = c.loop-i.i in
     let event = c.args.event in
-    let e : Emission = record { values = c.args.row.now.values; cpu = c.args.cpu; pid = to_z w32 (of_z w32 c.args.pid) } in
+    let e = c.args.emission.now in
     let inside : i < length now = omega (arith, was.many) in
     elim c.if-has_hists.branch [
       | then-has_hists+in_ok-passed w ↦

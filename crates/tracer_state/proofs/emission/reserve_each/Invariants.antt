@@ -10,10 +10,10 @@ invariant-loop-i l = record {
   places : length l.passed ≡ 8;
   names : (k : ℕ) (d : Named) → (slice_index_or l.instances k d).name ≡ (slice_index_or l.fn.instances k d).name;
   alike : (k : ℕ) (d : Named) → k < l.i → IsAlike (slice_index_or l.fn.instances k d).instance (slice_index_or l.instances k d).instance;
-  counted : (k : ℕ) (d : Named) → k < l.i → CanCountRow (record { values = l.fn.row.values; cpu = l.fn.cpu; pid = l.fn.pid }) l.fn.event
+  counted : (k : ℕ) (d : Named) → k < l.i → CanCountRow l.fn.emission l.fn.event
       (slice_index_or l.instances k d).instance;
   known : (k : ℕ) → k < l.i → (n : Named)
-      → slice_index_or l.passed k [] ≡ passed_in (record { values = l.fn.row.values; cpu = l.fn.cpu; pid = l.fn.pid }) l.fn.event
+      → slice_index_or l.passed k [] ≡ passed_in l.fn.emission l.fn.event
       (slice_index_or l.fn.instances k n).instance;
   left : (k : ℕ) (d : Named) → l.i ≤ k → slice_index_or l.instances k d ≡ slice_index_or l.fn.instances k d;
 }

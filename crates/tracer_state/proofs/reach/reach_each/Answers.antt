@@ -1,4 +1,4 @@
-use Rattle.std.proofs.Common.{◌≡◌, ◌∙◌, false, [], arith, get_or, length-set, subst, to_z, of_z, w32}
+use Rattle.std.proofs.Common.{◌≡◌, ◌∙◌, false, [], arith, get_or, length-set, subst}
 use Rattle.std.proofs.lemmas.List.{get_or_default}
 use Rattle.trace_instance.specs.Rows.{reach_of}
 use Rattle.tracer_state.specs.States.{no_reach}
@@ -12,14 +12,13 @@ loop-i-preserved c =
     let instances = c.args.instances.now in
     let one = c.reach_one-here.result in
     let met = c.reach_one-here.ensures in
-    let pid = to_z w32 (of_z w32 c.args.pid) in
     let same = λ (n : Named). get_or_default instances c.loop-i.i c.index-instances-i.result n (omega arith) in
-    let here : (n : Named) → one.reach ≡ reach_of (get_or instances c.loop-i.i n).instance c.args.event c.args.row.now c.args.cpu pid =
-    λ n. subst (λ (m : Named). one.reach ≡ reach_of m.instance c.args.event c.args.row.now c.args.cpu pid) (same n) met.reach in
+    let here : (n : Named) → one.reach ≡ reach_of (get_or instances c.loop-i.i n).instance c.args.event c.args.emission.now =
+    λ n. subst (λ (m : Named). one.reach ≡ reach_of m.instance c.args.event c.args.emission.now) (same n) met.reach in
     let none : one.triggered ≡ false → (n : Named) → get_or (get_or instances c.loop-i.i n).instance.hists c.args.event [] ≡ [] =
     λ off n. subst (λ (m : Named). get_or m.instance.hists c.args.event [] ≡ []) (same n) (met.hists off) in record {
       many = length-set _ _ _ ∙ was.many;
-      each = reached_more no_reach (λ k r. (n : Named) → r ≡ reach_of (get_or instances k n).instance c.args.event c.args.row.now c.args.cpu pid)
+      each = reached_more no_reach (λ k r. (n : Named) → r ≡ reach_of (get_or instances k n).instance c.args.event c.args.emission.now)
           c.loop-i.reaches c.loop-i.i one.reach (omega (arith, was.many)) here was.each;
       none = unless_more no_reach (λ k r. r.records ≡ false) c.loop-i.reaches c.loop-i.i one.reach c.loop-i.recorded one.reach.records
           (omega (arith, was.many)) (λ off. off) was.none;

@@ -5,7 +5,7 @@ use Rattle.tracer_state.proofs.reach.reach_one.Goals as goal
 
 pub returns-then-not-asks : goal.returns-then-not-asks
 returns-then-not-asks c =
-    let is = planned-unasked c.args.instance.now c.args.event c.args.row.now c.args.cpu c.args.pid c.args.plan c.unasked.result c.requires.planned
+    let is = planned-unasked c.args.instance.now c.args.event c.args.emission.now c.args.plan c.unasked.result c.requires.planned
     (c.asks.ensures c.if-not-asks.true) c.unasked.ensures in
     record { reach = is.reach; fires = λ off. is.fires; hists = λ off. is.hists }
 

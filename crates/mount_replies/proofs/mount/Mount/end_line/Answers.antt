@@ -1,6 +1,6 @@
 use Rattle.std.proofs.Common.{sym, ◌∙◌}
 use Rattle.mount_replies.specs.Lines.{asked_by_line}
-use Rattle.mount_tree.specs.declared.file.File.TheVariants as files
+use Rattle.file_list.specs.declared.file.File.TheVariants as files
 use Rattle.mount_replies.proofs.StreamLemmas.{blank-asks}
 use Rattle.mount_replies.proofs.StreamSteps.{blank-ended, line-made, line-refused}
 use Rattle.mount_replies.proofs.mount.Mount.end_line.Goals as goal

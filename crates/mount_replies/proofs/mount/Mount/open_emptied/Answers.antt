@@ -1,5 +1,5 @@
 use Rattle.std.proofs.Common.{◌∙◌, false, ap}
-use Rattle.mount_tree.specs.declared.file.FileKind.{FileKind}
+use Rattle.file_list.specs.declared.file.FileKind.{FileKind}
 use Rattle.mount_replies.specs.Served.{open_flags}
 use Rattle.mount_replies.specs.Services.{OpenSeen, just_opened, with_file}
 use Rattle.mount_replies.specs.contracts.mount.Mount.{the_view}

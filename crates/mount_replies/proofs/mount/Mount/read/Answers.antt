@@ -1,7 +1,7 @@
 use Rattle.std.proofs.Common.{false, true, sym, ◌∙◌}
 use Rattle.fuse_wire.specs.declared.errno.Errno.TheVariants.{EACCES, EINVAL}
 use Rattle.fuse_wire.specs.declared.reply.Reply.TheVariants as replies
-use Rattle.mount_tree.specs.declared.file.FileKind.TheVariants as kinds
+use Rattle.file_list.specs.declared.file.FileKind.TheVariants as kinds
 use Rattle.mount_replies.specs.contracts.mount.Mount.{the_view}
 use Rattle.mount_replies.proofs.ReadLemmas.{closed-told, kind-told, missing-told, plain-told, text-told}
 use Rattle.mount_replies.proofs.mount.Mount.read.Goals as goal

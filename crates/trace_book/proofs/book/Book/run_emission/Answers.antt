@@ -1,5 +1,4 @@
-use Rattle.std.proofs.Common.{◌≡◌, ◌∙◌, Ok, Err, arith, rules, refl, ap, to_z, of_z, w32}
-use Rattle.std.proofs.lemmas.Int.{to_z-of_z}
+use Rattle.std.proofs.Common.{◌≡◌, ◌∙◌, Ok, Err, arith, rules, refl, ap}
 use Rattle.trace_command.specs.declared.refusal.Refusal.TheVariants.{Memory}
 use Rattle.trace_command.specs.Requests.{request_of}
 use Rattle.trace_command.specs.declared.command.Config.{Config}
@@ -17,8 +16,7 @@ use Rattle.trace_book.proofs.book.Book.run_emission.Goals.{After-append_written,
 prepared : (c : In_ok-prepare_emission) → IsPreparedEmission c.prepare_emission.new.self.config (past_of c.self.inside.history.entries)
     (request_of c.args.emission.now) c.prepare_emission.new.self.state c.prepare_emission.new.self.delivery
 prepared c =
-    let pid : to_z w32 (of_z w32 c.parts-cpu.result.2) ≡ c.parts-cpu.result.2 = to_z-of_z w32 c.parts-cpu.result.2 (search rules) in
-    rw c.parts-cpu.ensures (rw pid at c.in_ok-prepare_emission.ensures.prepared (past_of c.self.inside.history.entries) c.self.invariant.lives)
+    c.in_ok-prepare_emission.ensures.prepared (past_of c.self.inside.history.entries) c.self.invariant.lives
 
 given : (c : In_ok-prepare_emission)
     → IsGiven (seen c.self.inside) (record { ticket = c.args.ticket; by = c.args.by; command = c.args.emission.now }) Done
@@ -30,10 +28,9 @@ done : (c : After-append_written)
     → IsBookCall (seen c.self.inside) (record { config = c.deliver.new.self.config; entries = c.append_written.new.self.entries })
     (record { ticket = c.args.ticket; by = c.args.by; command = c.args.emission.now }) (Ok Done)
 done c given =
-    let pid : to_z w32 (of_z w32 c.parts-cpu.result.2) ≡ c.parts-cpu.result.2 = to_z-of_z w32 c.parts-cpu.result.2 (search rules) in
     done-call _ _ _ _ given c.self.view_is (c.deliver.ensures.config ∙ c.prepare_emission.ensures.config) c.write_emission_ahead.ensures.entries
-    (rw c.parts-cpu.ensures (rw pid at c.in_ok-write_emission_ahead.ensures.written)) c.append_written.ensures
-    (c.ranges.ticket.fits, c.ranges.by.fits, rw c.parts-cpu.ensures (rw pid at c.in_ok-prepare_emission.ensures.fits)) c.requires
+    c.in_ok-write_emission_ahead.ensures.written c.append_written.ensures
+    (c.ranges.ticket.fits, c.ranges.by.fits, c.in_ok-prepare_emission.ensures.fits) c.requires
 
 pub invariant_of-self : goal.invariant_of-self
 invariant_of-self c = record {
@@ -44,12 +41,10 @@ invariant_of-self c = record {
 pub returns-in_err-prepare_emission : goal.returns-in_err-prepare_emission
 returns-in_err-prepare_emission c =
     let past = past_of c.self.inside.history.entries in
-    let pid : to_z w32 (of_z w32 c.parts-cpu.result.2) ≡ c.parts-cpu.result.2 = to_z-of_z w32 c.parts-cpu.result.2 (search rules) in
     let out : c.from_residual.result ≡ Err c.in_err-prepare_emission.field-0.0 = search rules in
     rw (out, ← c.self.view_is) (refused-call (seen c.self.inside) _ _ _ c.self.invariant.legal c.prepare_emission.ensures.config refl
-    (rw c.parts-cpu.ensures
-    (rw (pid, c.config.ensures, c.prepare_emission.ensures.config) at c.in_err-prepare_emission.ensures.refused past c.self.invariant.lives))
-    (rw c.parts-cpu.ensures (λ takes. absurd takes)))
+    (rw (c.config.ensures, c.prepare_emission.ensures.config) at c.in_err-prepare_emission.ensures.refused past c.self.invariant.lives)
+    (λ takes. absurd (c.prepare_emission.ensures.memory takes)))
 
 pub invariant_of-self-in_err-write_emission_ahead : goal.invariant_of-self-in_err-write_emission_ahead
 invariant_of-self-in_err-write_emission_ahead c = record {

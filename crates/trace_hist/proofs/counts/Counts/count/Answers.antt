@@ -18,17 +18,17 @@ pub count_row-requires-clause-counted : goal.count_row-requires-clause-counted
 count_row-requires-clause-counted c =
     let hits = ap (λ (k : Kept). k.table.hits) c.self.view_is in
     let few : c.self.inside.hits ≤ most_rows = omega (arith, hits, c.requires.few) in
-    counted-le c.self.inside.hits most_rows (entries_in c.self.inside.entries.entries) few c.self.invariant.rows
+    counted-le c.self.inside.hits most_rows (entries_in c.self.inside.kept.entries.entries) few c.self.invariant.rows
 
 pub invariant_of-self : goal.invariant_of-self
 invariant_of-self c =
     let h = c.self.inside in
     let distinct = subst (IsDistinct same_key)
-    (ap entry_keys c.count_row.ensures.entries ∙ keys-counted (map (number_at c.args.emission.now) c.value_sources.result.now) c.in-At.index (entries_in h.entries.entries))
+    (ap entry_keys c.count_row.ensures.entries ∙ keys-counted (map (number_at c.args.emission.now) c.value_sources.result.now) c.in-At.index (entries_in h.kept.entries.entries))
     c.count_row.ensures.distinct in
     let hit = hit_of c.args.by.now c.args.emission.now in
     let e = c.count_row.ensures.entries
-    ∙ ap (λ ops. counted_at (map (number_at c.args.emission.now) ops) c.in-At.index (entries_in h.entries.entries)) c.value_sources.ensures in
+    ∙ ap (λ ops. counted_at (map (number_at c.args.emission.now) ops) c.in-At.index (entries_in h.kept.entries.entries)) c.value_sources.ensures in
     record {
       shown = left-shown h c.args.self.now hit c.self.view_is c.requires.place c.self.invariant c.in-At.index
           c.shown_with-self-inside.result c.in-At.is distinct c.shown_with-self-inside.ensures.below c.shown_with-self-inside.ensures.above c.count_row.new.entries.entries e;
@@ -43,11 +43,11 @@ pub returns-in-At : goal.returns-in-At
 returns-in-At c =
     let h = c.self.inside in
     let distinct = subst (IsDistinct same_key)
-    (ap entry_keys c.count_row.ensures.entries ∙ keys-counted (map (number_at c.args.emission.now) c.value_sources.result.now) c.in-At.index (entries_in h.entries.entries))
+    (ap entry_keys c.count_row.ensures.entries ∙ keys-counted (map (number_at c.args.emission.now) c.value_sources.result.now) c.in-At.index (entries_in h.kept.entries.entries))
     c.count_row.ensures.distinct in
     let hit = hit_of c.args.by.now c.args.emission.now in
     let e = c.count_row.ensures.entries
-    ∙ ap (λ ops. counted_at (map (number_at c.args.emission.now) ops) c.in-At.index (entries_in h.entries.entries)) c.value_sources.ensures in
+    ∙ ap (λ ops. counted_at (map (number_at c.args.emission.now) ops) c.in-At.index (entries_in h.kept.entries.entries)) c.value_sources.ensures in
     seen-at h c.args.self.now hit c.self.view_is c.requires.place c.self.invariant c.in-At.index c.shown_with-self-inside.result
     c.in-At.is distinct c.shown_with-self-inside.ensures.below c.shown_with-self-inside.ensures.above c.count_row.new.entries.entries e
 

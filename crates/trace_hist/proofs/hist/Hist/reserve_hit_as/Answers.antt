@@ -1,9 +1,4 @@
-use Rattle.std.proofs.Common.{◌≡◌, ◌≢◌, false, ℤ, to_z, of_z, sym, ap, ◌∙◌, subst, OnOk, OnErr, rules}
-use Rattle.std.specs.Int.{w32}
-use Rattle.trace_format.specs.Operands.{Emission}
-use Rattle.hist_entries.specs.HistEntries.{is_among}
-use Rattle.hist_entries.specs.RowPlaces.{In, IsPlaceOf, entry_keys}
-use Rattle.trace_hist.specs.TriggerHits.{hit_of}
+use Rattle.std.proofs.Common.{◌≡◌, sym, ap, ◌∙◌}
 use Rattle.trace_hist.specs.Hists.{Seen}
 use Rattle.trace_hist.proofs.Histograms.{idle-reserved, told-reserved, told-unchanged, told-needed}
 use Rattle.trace_hist.proofs.hist.Hist.reserve_hit_as.Goals as goal
@@ -14,26 +9,17 @@ returns-then-self-clause-reserved c = idle-reserved c.args.self.now c.args.by.no
 pub returns-clause-reserved : goal.returns-clause-reserved
 returns-clause-reserved c =
     let h = c.self.inside in
-    let emission : Emission = record { values = c.args.row.now.values; cpu = c.args.cpu; pid = c.args.pid } in
-    let pid : to_z w32 (of_z w32 c.args.pid) ≡ c.args.pid = search rules in
-    let place : OnOk c.reserve.result (IsPlaceOf c.reserve.new.self.next h.counts.size h.counts.table.entries (hit_of c.args.by.now emission).key) =
-    subst (λ (n : ℤ). OnOk c.reserve.result (IsPlaceOf c.reserve.new.self.next h.counts.size h.counts.table.entries (hit_of c.args.by.now (record { values = c.args.row.now.values; cpu = c.args.cpu; pid = n })).key)) pid
-    c.reserve.ensures.place in
-    told-reserved h.spec h.paused h.counts c.self.invariant c.args.self.now c.self.view_is c.reserve.new.self c.args.by.now emission c.reserve.result c.reserve.ensures.table place
+    told-reserved h.spec h.paused h.counts c.self.invariant c.args.self.now c.self.view_is c.reserve.new.self c.args.by.now c.args.emission.now
+    c.reserve.result c.reserve.ensures.table c.reserve.ensures.place
 
 pub returns-clause-err : goal.returns-clause-err
 returns-clause-err c =
     let h = c.self.inside in
-    let emission : Emission = record { values = c.args.row.now.values; cpu = c.args.cpu; pid = c.args.pid } in
-    told-unchanged h.spec h.paused h.counts c.self.invariant c.args.self.now c.self.view_is c.reserve.new.self c.args.by.now emission c.reserve.result c.reserve.ensures.table c.reserve.ensures.err
+    told-unchanged h.spec h.paused h.counts c.self.invariant c.args.self.now c.self.view_is c.reserve.new.self c.args.by.now c.args.emission.now
+    c.reserve.result c.reserve.ensures.table c.reserve.ensures.err
 
 pub returns-clause-memory : goal.returns-clause-memory
 returns-clause-memory c =
     let h = c.self.inside in
-    let emission : Emission = record { values = c.args.row.now.values; cpu = c.args.cpu; pid = c.args.pid } in
-    let pid : to_z w32 (of_z w32 c.args.pid) ≡ c.args.pid = search rules in
-    let new : OnErr c.reserve.result (is_among (entry_keys h.counts.table.entries) (hit_of c.args.by.now emission).key ≡ false) =
-    subst (λ (n : ℤ). OnErr c.reserve.result (is_among (entry_keys h.counts.table.entries) (hit_of c.args.by.now (record { values = c.args.row.now.values; cpu = c.args.cpu; pid = n })).key ≡ false)) pid c.reserve.ensures.new in
-    let unreserved : OnErr c.reserve.result (h.counts.next ≢ In (hit_of c.args.by.now emission).key) =
-    subst (λ (n : ℤ). OnErr c.reserve.result (h.counts.next ≢ In (hit_of c.args.by.now (record { values = c.args.row.now.values; cpu = c.args.cpu; pid = n })).key)) pid c.reserve.ensures.unreserved in
-    told-needed h.spec h.paused h.counts c.self.invariant c.args.self.now c.self.view_is c.reserve.new.self c.args.by.now emission c.reserve.result c.reserve.ensures.table c.if-self.false c.reserve.ensures.room new unreserved
+    told-needed h.spec h.paused h.counts c.self.invariant c.args.self.now c.self.view_is c.reserve.new.self c.args.by.now c.args.emission.now
+    c.reserve.result c.reserve.ensures.table c.if-self.false c.reserve.ensures.room c.reserve.ensures.new c.reserve.ensures.unreserved

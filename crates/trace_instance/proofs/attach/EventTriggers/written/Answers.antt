@@ -19,20 +19,20 @@ returns-in-Nothing-clause-change c =
     let read : said_of c.args.event.now c.args.written.text.now ≡ Ok said.Nothing = c.in_ok-parse.ensures.exact ∙ ap Ok c.in-Nothing.is in
     text-nothing c.args.event.now c.args.self c.args.written read
 
-pub returns-in-Attach-clause-change : goal.returns-in-Attach-clause-change
-returns-in-Attach-clause-change c = λ name past number are.
-    let read : said_of c.args.event.now c.args.written.text.now ≡ Ok (said.Attach c.in-Attach.trigger) = c.in_ok-parse.ensures.exact ∙ ap Ok c.in-Attach.is in
+pub returns-in-AttachSnapshot-clause-change : goal.returns-in-AttachSnapshot-clause-change
+returns-in-AttachSnapshot-clause-change c = λ name past number are.
+    let read : said_of c.args.event.now c.args.written.text.now ≡ Ok (said.AttachSnapshot c.in-AttachSnapshot.trigger) = c.in_ok-parse.ensures.exact ∙ ap Ok c.in-AttachSnapshot.is in
     c.attached.ensures.change c.args.event.now name past number are read
 
-pub returns-in-Remove-clause-change : goal.returns-in-Remove-clause-change
-returns-in-Remove-clause-change c =
-    let read : said_of c.args.event.now c.args.written.text.now ≡ Ok said.Remove = c.in_ok-parse.ensures.exact ∙ ap Ok c.in-Remove.is in
+pub returns-in-RemoveSnapshot-clause-change : goal.returns-in-RemoveSnapshot-clause-change
+returns-in-RemoveSnapshot-clause-change c =
+    let read : said_of c.args.event.now c.args.written.text.now ≡ Ok said.RemoveSnapshot = c.in_ok-parse.ensures.exact ∙ ap Ok c.in-RemoveSnapshot.is in
     let some : is_some c.args.self.own.now.triggers.snapshot ≡ true = search rules in
     text-detaches c.args.event.now c.args.self c.args.written read some
 
-pub returns-in-Remove-2-clause-change : goal.returns-in-Remove-2-clause-change
-returns-in-Remove-2-clause-change c =
-    let read : said_of c.args.event.now c.args.written.text.now ≡ Ok said.Remove = c.in_ok-parse.ensures.exact ∙ ap Ok c.in-Remove-2.is in
+pub returns-in-RemoveSnapshot-2-clause-change : goal.returns-in-RemoveSnapshot-2-clause-change
+returns-in-RemoveSnapshot-2-clause-change c =
+    let read : said_of c.args.event.now c.args.written.text.now ≡ Ok said.RemoveSnapshot = c.in_ok-parse.ensures.exact ∙ ap Ok c.in-RemoveSnapshot-2.is in
     let none : is_some c.args.self.own.now.triggers.snapshot ≡ false = search rules in
     text-lacks c.args.event.now c.args.self c.args.written read none
 
@@ -70,10 +70,10 @@ returns-in-Hist-clause-memory c = λ unfiltered plain.
     let hist : is_hist_text c.args.written.text.now ≡ true = hist-begins c.args.event.now c.args.written.text.now c.in-Hist.spec read in
     absurd (cc (hist, plain))
 
-pub returns-in-Attach-clause-takes_none : goal.returns-in-Attach-clause-takes_none
-returns-in-Attach-clause-takes_none c = λ plain none.
-    let read : said_of c.args.event.now c.args.written.text.now ≡ Ok (said.Attach c.in-Attach.trigger) = c.in_ok-parse.ensures.exact ∙ ap Ok c.in-Attach.is in
-    absurd (attaches-begins c.args.event.now c.args.written.text.now c.in-Attach.trigger read none)
+pub returns-in-AttachSnapshot-clause-takes_none : goal.returns-in-AttachSnapshot-clause-takes_none
+returns-in-AttachSnapshot-clause-takes_none c = λ plain none.
+    let read : said_of c.args.event.now c.args.written.text.now ≡ Ok (said.AttachSnapshot c.in-AttachSnapshot.trigger) = c.in_ok-parse.ensures.exact ∙ ap Ok c.in-AttachSnapshot.is in
+    absurd (attaches-begins c.args.event.now c.args.written.text.now c.in-AttachSnapshot.trigger read none)
 
 pub returns-in-Hist-clause-takes_none : goal.returns-in-Hist-clause-takes_none
 returns-in-Hist-clause-takes_none c = λ plain none.

@@ -4,7 +4,7 @@ use Rattle.trace_filter.specs.Filters.{Parsed}
 use Rattle.trace_snapshot.specs.Sides.{IsNewSide}
 use Rattle.trace_instance.specs.Instances.{InstanceSeen}
 use Rattle.trace_instance.specs.declared.hists.AttachedHist.{AttachedHist}
-use Rattle.trace_instance.specs.declared.trigger.Trigger.{Trigger}
+use Rattle.trace_instance.specs.declared.trigger.AttachedSnapshot.{AttachedSnapshot}
 use Rattle.trace_instance.proofs.instance.Instance.new.Goals as goal
 
 pub loop-event-preserved : goal.loop-event-preserved
@@ -14,7 +14,7 @@ loop-event-preserved c =
     record {
       enabled = ap (λ (i : InstanceSeen). i.enabled) added ∙ ap (λ (l : List Bool). l ++ false ∷ []) was.enabled ∙ replicate_more c.loop-event._event false;
       filters = ap (λ (i : InstanceSeen). i.filters) added ∙ ap (λ (l : List (Option Parsed)). l ++ None ∷ []) was.filters ∙ replicate_more c.loop-event._event None;
-      triggers = ap (λ (i : InstanceSeen). i.triggers) added ∙ ap (λ (l : List (Option Trigger)). l ++ None ∷ []) was.triggers ∙ replicate_more c.loop-event._event None;
+      triggers = ap (λ (i : InstanceSeen). i.triggers) added ∙ ap (λ (l : List (Option AttachedSnapshot)). l ++ None ∷ []) was.triggers ∙ replicate_more c.loop-event._event None;
       hists = ap (λ (i : InstanceSeen). i.hists) added ∙ ap (λ (l : List (List AttachedHist)). l ++ [] ∷ []) was.hists ∙ replicate_more c.loop-event._event [];
       tables = ap (λ (i : InstanceSeen). i.tables) added ∙ was.tables;
       overwrite = ap (λ (i : InstanceSeen). i.overwrite) added ∙ was.overwrite;

@@ -1,7 +1,5 @@
-use Rattle.std.proofs.Common.{◌≡◌, ◌∙◌, List, IfOk, OnErr, ap, subst, to_z, of_z, w32, rules}
+use Rattle.std.proofs.Common.{◌≡◌, ◌∙◌, List, IfOk, OnErr, ap, subst, rules}
 use Rattle.std.specs.List.{Any}
-use Rattle.std.proofs.lemmas.Int.{to_z-of_z}
-use Rattle.trace_format.specs.Operands.{Emission}
 use Rattle.trace_instance.specs.Instances.{InstanceSeen}
 use Rattle.trace_instance.specs.KeptHists.{NeedsMemory, passed}
 use Rattle.trace_instance.specs.declared.hists.AttachedHist.{AttachedHist}
@@ -17,22 +15,19 @@ returns-clause-alike c =
 
 pub returns-clause-passed : goal.returns-clause-passed
 returns-clause-passed c =
-    let e : Emission = record { values = c.args.row.now.values; cpu = c.args.cpu; pid = c.args.pid } in
-    let pid : to_z w32 (of_z w32 c.args.pid) ≡ c.args.pid = to_z-of_z w32 c.args.pid (search rules) in
+    let e = c.args.emission.now in
     let seen = hists_at c.args.self.now c.self.inside c.args.event c.index.result.now c.self.view_is c.requires.event c.index.ensures in
-    subst (λ (l : List AttachedHist). IfOk c.reserve.result (λ known. known ≡ passed e l)) seen (rw pid at c.reserve.ensures.passed)
+    subst (λ (l : List AttachedHist). IfOk c.reserve.result (λ known. known ≡ passed e l)) seen c.reserve.ensures.passed
 
 pub returns-clause-ready : goal.returns-clause-ready
 returns-clause-ready c =
-    let pid : to_z w32 (of_z w32 c.args.pid) ≡ c.args.pid = to_z-of_z w32 c.args.pid (search rules) in
     let here = hists_in c.args.self.now c.self.inside c.args.event c.index.result.now c.self.view_is c.requires.event c.index.ensures in
-    rw (in_place c.self.inside.tables c.reserve.new.tables (search rules), ← here) (rw pid at c.reserve.ensures.ready)
+    rw (in_place c.self.inside.tables c.reserve.new.tables (search rules), ← here) c.reserve.ensures.ready
 
 pub returns-clause-memory : goal.returns-clause-memory
 returns-clause-memory c =
-    let e : Emission = record { values = c.args.row.now.values; cpu = c.args.cpu; pid = c.args.pid } in
-    let pid : to_z w32 (of_z w32 c.args.pid) ≡ c.args.pid = to_z-of_z w32 c.args.pid (search rules) in
+    let e = c.args.emission.now in
     let seen = hists_at c.args.self.now c.self.inside c.args.event c.index.result.now c.self.view_is c.requires.event c.index.ensures in
     let tables = c.deref_mut.ensures.value ∙ ap (λ (i : InstanceSeen). i.tables) c.self.view_is in
     subst (λ (l : List AttachedHist). OnErr c.reserve.result (Any (NeedsMemory e c.args.self.now.tables) l)) seen
-    (subst (λ (t : List Table). OnErr c.reserve.result (Any (NeedsMemory e t) c.index.result.now.triggers.hists)) tables (rw pid at c.reserve.ensures.memory))
+    (subst (λ (t : List Table). OnErr c.reserve.result (Any (NeedsMemory e t) c.index.result.now.triggers.hists)) tables c.reserve.ensures.memory)

@@ -7,11 +7,11 @@ returns-in-Keep-clause-applied c =
     rw c.in-Keep.is (are_set c.args.event c.args.append _ c.args.self.now c.self.inside c.index_mut.result.now _ _ _ c.self.view_is c.requires.hists
     c.index_mut.ensures.value (record { snapshot = c.keep.ensures.snapshot; hists = c.keep.ensures.hists }) (λ n. unasked _) (same_sides _ _ _ _ (λ f. refl)))
 
-pub returns-in-Detach-clause-applied : goal.returns-in-Detach-clause-applied
-returns-in-Detach-clause-applied c =
-    rw c.in-Detach.is (are_set c.args.event c.args.append _ c.args.self.now c.self-in-Detach.inside c.index_mut-in-Detach.result.now _ _ _
-    c.self-in-Detach.view_is c.requires.hists c.index_mut-in-Detach.ensures.value
-    (record { snapshot = c.detach.ensures.snapshot; hists = c.detach.ensures.hists }) (λ n. unasked _) (same_sides _ _ _ _ (λ f. refl)))
+pub returns-in-DetachSnapshot-clause-applied : goal.returns-in-DetachSnapshot-clause-applied
+returns-in-DetachSnapshot-clause-applied c =
+    rw c.in-DetachSnapshot.is (are_set c.args.event c.args.append _ c.args.self.now c.self-in-DetachSnapshot.inside c.index_mut-in-DetachSnapshot.result.now _ _ _
+    c.self-in-DetachSnapshot.view_is c.requires.hists c.index_mut-in-DetachSnapshot.ensures.value
+    (record { snapshot = c.detach_snapshot.ensures.snapshot; hists = c.detach_snapshot.ensures.hists }) (λ n. unasked _) (same_sides _ _ _ _ (λ f. refl)))
 
 pub returns-in-DetachHist-clause-applied : goal.returns-in-DetachHist-clause-applied
 returns-in-DetachHist-clause-applied c =

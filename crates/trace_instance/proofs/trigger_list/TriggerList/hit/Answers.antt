@@ -1,7 +1,5 @@
-use Rattle.std.proofs.Common.{◌≡◌, ◌∙◌, List, Bool, false, get_or, ap, arith, subst, sym, to_z, of_z, w32, rules}
-use Rattle.std.proofs.lemmas.Int.{to_z-of_z}
+use Rattle.std.proofs.Common.{◌≡◌, ◌∙◌, List, Bool, false, get_or, ap, arith, subst, sym}
 use Rattle.std.proofs.lemmas.List.{take_all}
-use Rattle.trace_format.specs.Operands.{Emission}
 use Rattle.trace_trigger.specs.SameSpecs.{is_passed}
 use Rattle.trace_instance.specs.KeptHists.{IsHitIf, kept_at, rows_counted}
 use Rattle.trace_instance.specs.declared.hists.AttachedHist.{AttachedHist}
@@ -19,26 +17,24 @@ overflow_add-k c =
 
 pub hit-requires-clause-ready : goal.hit-requires-clause-ready
 hit-requires-clause-ready c =
-    let e : Emission = record { values = c.args.row.now.values; cpu = c.args.cpu; pid = c.args.pid } in
-    let pid : to_z w32 (of_z w32 c.args.pid) ≡ c.args.pid = to_z-of_z w32 c.args.pid (search rules) in
+    let e = c.args.emission.now in
     let hists = c.args.self.now.hists in
     let at = here c.loop-trigger.invariant.at c.loop-trigger-test.true c.trigger-item.is c.in-Hist.is in
     let knows : get_or c.args.passed.now c.loop-trigger.k false ≡ is_passed c.in-Hist.hist.spec.filter e =
     ap (λ (l : List Bool). get_or l c.loop-trigger.k false) c.requires.passed
     ∙ passed_here e hists c.loop-trigger.k c.in-Hist.hist at.inside at.small at.is in
-    rw (c.deref.ensures, pid) (ready-here e hists c.loop-trigger.k c.in-Hist.hist c.args.tables.now c.loop-trigger.tables at.inside at.is (sym knows ∙ c.if-passed-k.true)
-    (rw pid at c.loop-trigger.invariant.reached))
+    rw c.deref.ensures (ready-here e hists c.loop-trigger.k c.in-Hist.hist c.args.tables.now c.loop-trigger.tables at.inside at.is (sym knows ∙ c.if-passed-k.true)
+    c.loop-trigger.invariant.reached)
 
 pub hit-requires-clause-few : goal.hit-requires-clause-few
 hit-requires-clause-few c =
     let at = here c.loop-trigger.invariant.at c.loop-trigger-test.true c.trigger-item.is c.in-Hist.is in
-    room-here (record { values = c.args.row.now.values; cpu = c.args.cpu; pid = to_z w32 (of_z w32 c.args.pid) }) c.args.self.now.hists c.loop-trigger.k
+    room-here c.args.emission.now c.args.self.now.hists c.loop-trigger.k
     c.in-Hist.hist c.args.tables.now c.loop-trigger.tables at.small at.inside at.is c.loop-trigger.invariant.reached
 
 pub loop-trigger-preserved : goal.loop-trigger-preserved
 loop-trigger-preserved c =
-    let e : Emission = record { values = c.args.row.now.values; cpu = c.args.cpu; pid = to_z w32 (of_z w32 c.args.pid) } in
-    let pid : to_z w32 (of_z w32 c.args.pid) ≡ c.args.pid = to_z-of_z w32 c.args.pid (search rules) in
+    let e = c.args.emission.now in
     let hists = c.args.self.now.hists in
     let k = c.loop-trigger.k in
     let was = c.loop-trigger.invariant in
@@ -49,8 +45,7 @@ loop-trigger-preserved c =
           let a = w.in-Hist.hist in
           let at = here was.at c.loop-trigger-test.true c.trigger-item.is w.in-Hist.is in
           let knows : get_or c.args.passed.now k false ≡ is_passed a.spec.filter e =
-          rw pid (ap (λ (l : List Bool). get_or l k false) c.requires.passed
-          ∙ passed_here (record { values = c.args.row.now.values; cpu = c.args.cpu; pid = c.args.pid }) hists k a at.inside at.small at.is) in
+          ap (λ (l : List Bool). get_or l k false) c.requires.passed ∙ passed_here e hists k a at.inside at.small at.is in
           elim w.if-passed-k.branch [
             | then-passed-k v ↦ rw (w.k-is, w.tables-is, v.tables-is) (record {
               at = at.next;
@@ -66,8 +61,7 @@ loop-trigger-preserved c =
 
 pub returns : goal.returns
 returns c = λ number.
-    let pid : to_z w32 (of_z w32 c.args.pid) ≡ c.args.pid = to_z-of_z w32 c.args.pid (search rules) in
     let all = take_all c.loop-trigger.k c.args.self.now.hists (all-seen c.loop-trigger.invariant.at c.loop-trigger-test.false) in
-    let e : Emission = record { values = c.args.row.now.values; cpu = c.args.cpu; pid = c.args.pid } in
+    let e = c.args.emission.now in
     subst (λ (l : List AttachedHist). IsHitIf (λ paused. rows_counted number paused l e) (kept_at number c.args.tables.now) (kept_at number c.loop-trigger.tables))
-    all (rw pid at (c.loop-trigger.invariant.reached.hit number))
+    all (c.loop-trigger.invariant.reached.hit number)

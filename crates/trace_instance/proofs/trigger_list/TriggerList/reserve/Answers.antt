@@ -1,7 +1,5 @@
-use Rattle.std.proofs.Common.{◌≡◌, ◌∙◌, ◌+◌, true, Result, Ok, Err, OnErr, set, arith, sym, take, to_z, of_z, w32, rules}
-use Rattle.std.proofs.lemmas.Int.{to_z-of_z}
+use Rattle.std.proofs.Common.{◌≡◌, ◌∙◌, ◌+◌, true, Result, Ok, Err, OnErr, set, arith, sym, take}
 use Rattle.std.proofs.lemmas.List.{take_all}
-use Rattle.trace_format.specs.Operands.{Emission}
 use Rattle.trace_trigger.specs.SameSpecs.{is_passed}
 use Rattle.trace_instance.specs.KeptHists.{passed}
 use Rattle.trace_instance.proofs.EachHist.{memory-needed, passed-more, reserved-more, unreserved-more, untouched-more}
@@ -22,7 +20,7 @@ overflow_add-k c =
 
 pub loop-trigger-preserved : goal.loop-trigger-preserved
 loop-trigger-preserved c =
-    let e : Emission = record { values = c.args.row.now.values; cpu = c.args.cpu; pid = to_z w32 (of_z w32 c.args.pid) } in
+    let e = c.args.emission.now in
     let hists = c.args.self.now.hists in
     let k = c.loop-trigger.k in
     let was = c.loop-trigger.invariant in
@@ -39,16 +37,16 @@ loop-trigger-preserved c =
       | in-Hist w ↦
           let a = w.in-Hist.hist in
           let at = here was.at c.loop-trigger-test.true c.trigger-item.is w.in-Hist.is in
-          let on = sym (rw w.deref.ensures at w.passes-passes.ensures) in
+          let on = sym w.passes-passes.ensures in
           let more : set c.loop-trigger.passed k w.passes-passes.result ≡ passed e (take (k + 1) hists) =
-          rw (was.passed, w.passes-passes.ensures, w.deref.ensures) (passed-more e hists k a at.inside at.small at.is) in
+          rw (was.passed, w.passes-passes.ensures) (passed-more e hists k a at.inside at.small at.is) in
           elim w.if-passes.branch [
             | then-passes+in_ok-reserve-in-Hist v ↦ rw (w.k-is, w.tables-is, v.tables-is, w.passed-is) (record {
               at = at.next;
               passed = more;
               alike = λ n. v.reserve.ensures.alike n ∙ was.alike n;
               ready = reserved-more e hists k a c.loop-trigger.tables v.reserve.new.tables c.requires.agree at.inside at.is v.reserve.ensures.others
-                  (rw v.deref-then-passes.ensures at v.in_ok-reserve-in-Hist.ensures.ready) was.ready;
+                  (rw v.deref.ensures at v.in_ok-reserve-in-Hist.ensures.ready) was.ready;
               untouched = untouched-more e hists k a c.args.tables.now c.loop-trigger.tables v.reserve.new.tables at.inside at.is (on ∙ v.if-passes.true)
                   v.reserve.ensures.others was.untouched;
             })
@@ -64,17 +62,15 @@ loop-trigger-preserved c =
 
 pub returns-in_err-reserve-in-Hist-clause-memory : goal.returns-in_err-reserve-in-Hist-clause-memory
 returns-in_err-reserve-in-Hist-clause-memory c =
-    let e : Emission = record { values = c.args.row.now.values; cpu = c.args.cpu; pid = c.args.pid } in
-    let pid : to_z w32 (of_z w32 c.args.pid) ≡ c.args.pid = to_z-of_z w32 c.args.pid (search rules) in
+    let e = c.args.emission.now in
     let at = here c.loop-trigger.invariant.at c.loop-trigger-test.true c.trigger-item.is c.in-Hist.is in
-    let on : is_passed c.in-Hist.hist.spec.filter e ≡ true = sym (rw (c.deref.ensures, pid) at c.passes-passes.ensures) ∙ c.if-passes.true in
+    let on : is_passed c.in-Hist.hist.spec.filter e ≡ true = sym c.passes-passes.ensures ∙ c.if-passes.true in
     let was = c.loop-trigger.invariant in
     refused c.from_residual.result
     (memory-needed e c.args.self.now.hists c.loop-trigger.k c.in-Hist.hist c.args.tables.now c.loop-trigger.tables c.requires.agree at.inside at.is on
-    (rw pid at was.ready) (rw pid at was.untouched) (rw (c.deref-then-passes.ensures, pid) at c.in_err-reserve-in-Hist.ensures.memory))
+    was.ready was.untouched (rw c.deref.ensures at c.in_err-reserve-in-Hist.ensures.memory))
 
 pub returns-clause-passed : goal.returns-clause-passed
 returns-clause-passed c =
-    let pid : to_z w32 (of_z w32 c.args.pid) ≡ c.args.pid = to_z-of_z w32 c.args.pid (search rules) in
     let all = take_all c.loop-trigger.k c.args.self.now.hists (all-seen c.loop-trigger.invariant.at c.loop-trigger-test.false) in
-    rw (pid, all) at c.loop-trigger.invariant.passed
+    rw all at c.loop-trigger.invariant.passed

@@ -8,10 +8,10 @@ use Rattle.trace_instance.proofs.trigger_list.TriggerList.reserve.Given as goal
 abbrev pub invariant-loop-trigger : goal.invariant-loop-trigger
 invariant-loop-trigger l = record {
   at : IsAt l.trigger-items l.fn.self.hists l.trigger-index l.k;
-  passed : l.passed ≡ passed (record { values = l.fn.row.values; cpu = l.fn.cpu; pid = l.fn.pid }) (take l.k l.fn.self.hists);
+  passed : l.passed ≡ passed l.fn.emission (take l.k l.fn.self.hists);
   alike : (number : ℕ) → kept_at number l.tables ≡ kept_at number l.fn.tables;
   ready : (j : ℕ) (d : AttachedHist) → j < l.k
-      → CanCount (record { values = l.fn.row.values; cpu = l.fn.cpu; pid = l.fn.pid }) l.tables (slice_index_or l.fn.self.hists j d);
-  untouched : (number : ℕ) → IsUntouched (record { values = l.fn.row.values; cpu = l.fn.cpu; pid = l.fn.pid }) l.fn.self.hists l.k number
+      → CanCount l.fn.emission l.tables (slice_index_or l.fn.self.hists j d);
+  untouched : (number : ℕ) → IsUntouched l.fn.emission l.fn.self.hists l.k number
       → table_numbered number l.tables ≡ table_numbered number l.fn.tables;
 }

@@ -1,6 +1,5 @@
-use Rattle.std.proofs.Common.{◌≡◌, refl, arith, rules, to_z, of_z, w32, Err}
-use Rattle.std.proofs.lemmas.Int.{to_z-of_z}
-use Rattle.trace_command.specs.Requests.{Emission}
+use Rattle.std.proofs.Common.{◌≡◌, refl, arith, rules, Err}
+use Rattle.trace_command.specs.Requests.{request_of}
 use Rattle.tracer.specs.LiveFields.{seen}
 use Rattle.tracer.proofs.Limits.{full-refusal, limited-refusal}
 use Rattle.tracer.proofs.Living.{live-alike, live-usable}
@@ -47,21 +46,18 @@ returns-in_err-prepare_emission-clause-refused c =
 
 pub returns-then-self-limit-clause-refused : goal.returns-then-self-limit-clause-refused
 returns-then-self-limit-clause-refused c =
-    let pid : to_z w32 (of_z w32 c.args.pid) ≡ c.args.pid = to_z-of_z w32 c.args.pid (search rules) in
     rw (← c.self.view_is) (λ past lives.
-    full-refusal c.args.limit c.self.inside.config past _ _ (rw pid at c.in_ok-prepare_emission.ensures.prepared past lives.stands).0 (omega (arith, lives.count)))
+    full-refusal c.args.limit c.self.inside.config past _ _ (c.in_ok-prepare_emission.ensures.prepared past lives.stands).0 (omega (arith, lives.count)))
 
 pub returns-clause-prepared : goal.returns-clause-prepared
 returns-clause-prepared c =
-    let pid : to_z w32 (of_z w32 c.args.pid) ≡ c.args.pid = to_z-of_z w32 c.args.pid (search rules) in
-    rw (← c.self.view_is) (λ past lives. rw pid at c.in_ok-prepare_emission.ensures.prepared past lives.stands)
+    rw (← c.self.view_is) (λ past lives. c.in_ok-prepare_emission.ensures.prepared past lives.stands)
 
 pub returns-clause-ready : goal.returns-clause-ready
 returns-clause-ready c =
-    let pid : to_z w32 (of_z w32 c.args.pid) ≡ c.args.pid = to_z-of_z w32 c.args.pid (search rules) in
     record {
       past = c.self.invariant.past;
-      request = Emission c.args.name.now c.args.cpu c.args.pid c.args.pairs.now;
+      request = request_of c.args.emission.now;
       lives = live-alike _ _ (seen c.self.inside) _ c.self.invariant.lives refl c.prepare_emission.ensures.alike;
-      is = rw pid at c.in_ok-prepare_emission.ensures.prepared c.self.invariant.past c.self.invariant.lives.stands;
+      is = c.in_ok-prepare_emission.ensures.prepared c.self.invariant.past c.self.invariant.lives.stands;
     }

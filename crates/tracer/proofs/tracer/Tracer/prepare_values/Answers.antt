@@ -1,7 +1,6 @@
-use Rattle.std.proofs.Common.{◌≡◌, refl, arith, rules, to_z, of_z, w32, Err}
-use Rattle.std.proofs.lemmas.Int.{to_z-of_z}
+use Rattle.std.proofs.Common.{◌≡◌, refl, arith, rules, Err}
 use Rattle.tracer_specification.specs.Settings.{declared_events}
-use Rattle.tracer_state.specs.ValueEmissions.{values_emission}
+use Rattle.tracer_state.specs.ValueEmissions.{emission_by}
 use Rattle.tracer.specs.LiveFields.{seen}
 use Rattle.tracer.proofs.Limits.{full-refusal, limited-refusal}
 use Rattle.tracer.proofs.Living.{live-alike, live-usable}
@@ -42,29 +41,25 @@ returns-clause-lives c =
 
 pub returns-in_err-prepare_values-clause-refused : goal.returns-in_err-prepare_values-clause-refused
 returns-in_err-prepare_values-clause-refused c =
-    let pid : to_z w32 (of_z w32 c.args.pid) ≡ c.args.pid = to_z-of_z w32 c.args.pid (search rules) in
     let out : c.from_residual.result ≡ Err c.in_err-prepare_values.field-0.0 = search rules in
     rw (out, ← c.self.view_is) (λ past lives.
-    limited-refusal c.args.limit c.self.inside.config past _ c.in_err-prepare_values.field-0.0 (rw pid at c.in_err-prepare_values.ensures.refused past lives.stands))
+    limited-refusal c.args.limit c.self.inside.config past _ c.in_err-prepare_values.field-0.0 (c.in_err-prepare_values.ensures.refused past lives.stands))
 
 pub returns-then-self-limit-clause-refused : goal.returns-then-self-limit-clause-refused
 returns-then-self-limit-clause-refused c =
-    let pid : to_z w32 (of_z w32 c.args.pid) ≡ c.args.pid = to_z-of_z w32 c.args.pid (search rules) in
     rw (← c.self.view_is) (λ past lives.
-    full-refusal c.args.limit c.self.inside.config past _ _ (rw pid at c.in_ok-prepare_values.ensures.prepared past lives.stands).0 (omega (arith, lives.count)))
+    full-refusal c.args.limit c.self.inside.config past _ _ (c.in_ok-prepare_values.ensures.prepared past lives.stands).0 (omega (arith, lives.count)))
 
 pub returns-clause-prepared : goal.returns-clause-prepared
 returns-clause-prepared c =
-    let pid : to_z w32 (of_z w32 c.args.pid) ≡ c.args.pid = to_z-of_z w32 c.args.pid (search rules) in
-    rw (← c.self.view_is) (λ past lives. rw pid at c.in_ok-prepare_values.ensures.prepared past lives.stands)
+    rw (← c.self.view_is) (λ past lives. c.in_ok-prepare_values.ensures.prepared past lives.stands)
 
 pub returns-clause-ready : goal.returns-clause-ready
 returns-clause-ready c =
-    let pid : to_z w32 (of_z w32 c.args.pid) ≡ c.args.pid = to_z-of_z w32 c.args.pid (search rules) in
     let past = c.self.invariant.past in
     record {
       past = past;
-      request = values_emission (declared_events past) c.args.event c.args.cpu c.args.pid c.args.values.now;
+      request = emission_by (declared_events past) c.args.emission.now;
       lives = live-alike _ _ (seen c.self.inside) _ c.self.invariant.lives refl c.prepare_values.ensures.alike;
-      is = rw pid at c.in_ok-prepare_values.ensures.prepared past c.self.invariant.lives.stands;
+      is = c.in_ok-prepare_values.ensures.prepared past c.self.invariant.lives.stands;
     }

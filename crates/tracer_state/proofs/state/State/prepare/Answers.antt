@@ -10,7 +10,7 @@ returns-in-Mkdir-clause-memory c = λ past stands late. absurd (rw c.in-Mkdir.is
 
 pub returns-in-Write-clause-memory : goal.returns-in-Write-clause-memory
 returns-in-Write-clause-memory c = λ past stands late.
-    c.prepare_write.ensures.memory past stands (rw (c.in-Write.is, ← c.as_bytes-text.ensures, ← c.as_bytes-in-Write.ensures) at late)
+    c.prepare_write.ensures.memory past stands (rw (c.in-Write.is, ← c.as_bytes-text.ensures, ← c.as_bytes-in-Write.ensures, ← c.address_of.ensures) at late)
 
 pub returns-in-Read-clause-memory : goal.returns-in-Read-clause-memory
 returns-in-Read-clause-memory c = λ past stands late. absurd (rw c.in-Read.is at late)
@@ -23,7 +23,7 @@ returns-in-Rmdir-clause-takes_none c = λ past stands none. c.prepare_remove.ens
 
 pub returns-in-Write-clause-takes_none : goal.returns-in-Write-clause-takes_none
 returns-in-Write-clause-takes_none c = λ past stands none.
-    c.prepare_write.ensures.takes_none past stands (rw (c.in-Write.is, ← c.as_bytes-text.ensures, ← c.as_bytes-in-Write.ensures) at none)
+    c.prepare_write.ensures.takes_none past stands (rw (c.in-Write.is, ← c.as_bytes-text.ensures, ← c.as_bytes-in-Write.ensures, ← c.address_of.ensures) at none)
 
 pub returns-in-Read-clause-takes_none : goal.returns-in-Read-clause-takes_none
 returns-in-Read-clause-takes_none c = λ past stands none. absurd (rw c.in-Read.is at none)

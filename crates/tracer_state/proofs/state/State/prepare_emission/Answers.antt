@@ -23,18 +23,18 @@ prepare_row-requires-clause-each c =
 pub returns-in_err-prepare_row-clause-refused : goal.returns-in_err-prepare_row-clause-refused
 returns-in_err-prepare_row-clause-refused c = λ past stands.
     let g = c.args.config.now in
-    let name = c.args.name.now in
+    let name = c.parts-cpu.result.0.now in
     let found = c.in-Some.found in
-    let inside : c.args.cpu < g.cpus = omega arith in
+    let inside : c.parts-cpu.result.1 < g.cpus = omega arith in
     let out : c.from_residual-in_err-prepare_row.result ≡ Err Memory = search rules in
-    rw out (no-memory g past name c.args.cpu c.args.pairs.now (numbered found) inside
+    rw (out, c.parts-cpu.ensures) (no-memory g past name c.parts-cpu.result.1 c.parts-cpu.result.3.now (numbered found) inside
     (named-found g c.args.self.now past name found stands c.in-Some.ensures.named))
 
 pub returns-clause-prepared : goal.returns-clause-prepared
 returns-clause-prepared c = λ past stands.
-    let pid : to_z w32 (of_z w32 c.args.pid) ≡ c.args.pid = to_z-of_z w32 c.args.pid c.ranges.pid in
-    prepared-emission c.args.config.now c.args.self.now past c.args.name.now c.args.cpu c.args.pid c.args.pairs.now c.in-Some.found c.rebuild.new.self
+    let pid : to_z w32 (of_z w32 c.parts-cpu.result.2) ≡ c.parts-cpu.result.2 = to_z-of_z w32 c.parts-cpu.result.2 (search rules) in
+    rw c.parts-cpu.ensures (prepared-emission c.args.config.now c.args.self.now past c.parts-cpu.result.0.now c.parts-cpu.result.1 c.parts-cpu.result.2 c.parts-cpu.result.3.now c.in-Some.found c.rebuild.new.self
     c.prepare_row.new.delivery c.prepare_row.new.instances (search rules) c.requires.usable stands
     (rw c.deref_mut.ensures.value at c.prepare_row.ensures.alike) c.in-Some.ensures.named c.in-Some.ensures.index (omega arith)
     c.in_ok-rebuild.ensures.exact (rw pid at c.in_ok-prepare_row.ensures.given)
-    (rw c.deref_mut.ensures.value at c.in_ok-prepare_row.ensures.reserved)
+    (rw c.deref_mut.ensures.value at c.in_ok-prepare_row.ensures.reserved))

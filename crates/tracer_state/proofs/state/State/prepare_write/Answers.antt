@@ -1,5 +1,5 @@
 use Rattle.std.proofs.Common.{◌≡◌, Bool, is_some, List, Ok, Err, rules, subst, sym}
-use Rattle.trace_command.specs.Paths as paths
+use Rattle.trace_command.specs.FileNames.{address_at}
 use Rattle.trace_command.specs.Requests.{Request}
 use Rattle.tracer_specification.specs.History.{write_answer}
 use Rattle.tracer_specification.specs.Snapshots.{has_spare}
@@ -14,16 +14,16 @@ use Rattle.tracer_state.proofs.Dispatch.{refused-found, stands-at, writes-found}
 use Rattle.tracer_state.proofs.state.State.prepare_write.Goals as goal
 use Rattle.tracer_state.proofs.state.State.prepare_write.Goals.{In-Of}
 
--- what the path leads to
+-- what the address leads to
 led : (c : In-Of) (past : List Request) → StandsFor c.args.config.now c.args.self.now past
-    → IsResolved c.args.config.now c.args.self.now past (paths.address_of c.args.path.now) (Ok (Of c.in-Of.index c.in-Of.file))
+    → IsResolved c.args.config.now c.args.self.now past (address_at c.args.address) (Ok (Of c.in-Of.index c.in-Of.file))
 led c past stands = rw c.in-Of.is at c.in_ok-resolve.ensures.resolved past stands
 
 pub returns-in_err-change-in-Of-clause-prepared : goal.returns-in_err-change-in-Of-clause-prepared
 returns-in_err-change-in-Of-clause-prepared c = λ past number stands.
     let g = c.args.config.now in
     let state = c.args.self.now in
-    let name = (paths.address_of c.args.path.now).instance in
+    let name = (address_at c.args.address).instance in
     let refused = c.in_err-change-in-Of.field-0.0 in
     let resolved = led (goal.at.returns-in_err-change-in-Of-clause-prepared c).In-Of past stands in
     let out : c.from_residual-in_err-change-in-Of.result ≡ Err refused = search rules in
@@ -35,7 +35,7 @@ pub returns-in_ok-change-in-Of-clause-prepared : goal.returns-in_ok-change-in-Of
 returns-in_ok-change-in-Of-clause-prepared c = λ past number stands.
     let g = c.args.config.now in
     let state = c.args.self.now in
-    let name = (paths.address_of c.args.path.now).instance in
+    let name = (address_at c.args.address).instance in
     let resolved = led (goal.at.returns-in_ok-change-in-Of-clause-prepared c).In-Of past stands in
     writes-found g state past _ _ _ stands resolved c.args.written.append c.args.written.text.now c.in_ok-change-in-Of.change
     (c.in_ok-change-in-Of.ensures.change g name past number stands.events c.requires.usable.distinct
@@ -59,7 +59,7 @@ pub returns-in_ok-change-in-Of-clause-takes_none : goal.returns-in_ok-change-in-
 returns-in_ok-change-in-Of-clause-takes_none c = λ past stands none takes.
     let g = c.args.config.now in
     let state = c.args.self.now in
-    let name = (paths.address_of c.args.path.now).instance in
+    let name = (address_at c.args.address).instance in
     let one = c.index.result.now in
     let change = c.in_ok-change-in-Of.change in
     let resolved = led (goal.at.returns-in_ok-change-in-Of-clause-takes_none c).In-Of past stands in

@@ -15,7 +15,8 @@ returns-in_err-resolve c = λ past stands.
     let state = c.args.self.now in
     let address : Address = paths.address_of c.args.path.now in
     let refused = c.in_err-resolve.field-0.0 in
-    let lost : IsResolved g state past address (Err refused) = c.in_err-resolve.ensures.resolved past stands in
+    let lost : IsResolved g state past address (Err refused) =
+    subst (λ (a : Address). IsResolved g state past a (Err refused)) c.address_of.ensures (c.in_err-resolve.ensures.resolved past stands) in
     let out : c.from_residual.result ≡ Err refused = search rules in
     out ∙ sym (told-lost g state past address refused lost)
 
@@ -24,7 +25,8 @@ returns-in-Declarations c = λ past stands.
     let g = c.args.config.now in
     let state = c.args.self.now in
     let address : Address = paths.address_of c.args.path.now in
-    let led = c.in_ok-resolve.ensures.resolved past stands in
+    let led : IsResolved g state past address (Ok c.in_ok-resolve.field-0) =
+    subst (λ (a : Address). IsResolved g state past a (Ok c.in_ok-resolve.field-0)) c.address_of.ensures (c.in_ok-resolve.ensures.resolved past stands) in
     let resolved : IsResolved g state past address (Ok Declarations) = rw c.in-Declarations.is at led in
     sym (told-declarations g state past address resolved)
 
@@ -34,7 +36,8 @@ returns-in-Of c = λ past stands.
     let state = c.args.self.now in
     let address : Address = paths.address_of c.args.path.now in
     let index = c.in-Of.index in
-    let led = c.in_ok-resolve.ensures.resolved past stands in
+    let led : IsResolved g state past address (Ok c.in_ok-resolve.field-0) =
+    subst (λ (a : Address). IsResolved g state past a (Ok c.in_ok-resolve.field-0)) c.address_of.ensures (c.in_ok-resolve.ensures.resolved past stands) in
     let resolved : IsResolved g state past address (Ok (Of index c.in-Of.file)) = rw c.in-Of.is at led in
     told-found g state past address index c.in-Of.file c.has_waiting.result stands resolved
     (c.has_waiting.ensures g address.instance past state.catalog (stands-at g state past index address.instance c.index.result.now stands resolved.1 c.index.ensures))
