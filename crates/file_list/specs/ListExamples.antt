@@ -1,12 +1,15 @@
 -- The files, worked by hand: a whole list, and what `ls` would show of the folders of a mount. The checker computes them.
-use Rattle.std.specs.Prelude.{◌≡◌, ℕ, List, [], ◌∷◌, ◌++◌, codes}
+use Rattle.std.specs.Prelude.{◌≡◌, ℕ, List, [], ◌∷◌, ◌++◌, map, codes}
 use Rattle.std.specs.List.{flat_map}
 use Rattle.file_list.specs.FileKinds.{access_of_file}
 use Rattle.file_list.specs.Files.{line_of}
 use Rattle.file_list.specs.FileTable.{file_name, folder_name, own_items}
 use Rattle.file_list.specs.Listings.{listing}
+use Rattle.file_list.specs.declared.file.File.TheVariants.{ErrorLog, OfTop, Tool}
 use Rattle.file_list.specs.declared.files.Item.{Item}
 use Rattle.file_list.specs.declared.files.Item.TheVariants as items
+use Rattle.file_list.specs.declared.files.ToolFile.TheVariants as tools
+use Rattle.file_list.specs.declared.files.TopTool.TheVariants as top_tools
 use Rattle.file_list.specs.declared.files.TheConstants.{CPU, EVENT, EVENTS, OPTIONS, ROOT, SYNTHETIC}
 
 -- with one CPU and the event `tick`
@@ -47,3 +50,16 @@ InnerFolders =
     × (flat_map shown SYNTHETIC ≡ codes "rw enable\nw filter\n")
     × (flat_map shown CPU ≡ codes "r stats\nrw trace\nr trace_pipe\nrw buffer_size_kb\n")
     × (flat_map shown EVENT ≡ codes "r format\nrw enable\nrw filter\nrw trigger\nr hist\nw inject\nr id\n")
+
+-- which file has which name, of those that no command names
+abbrev pub NamesOfTools : Type 0
+NamesOfTools =
+    (map file_name
+    (Tool tools.AvailableTracers ∷ Tool tools.CurrentTracer ∷ Tool tools.SetEvent ∷ Tool tools.TraceClock ∷ Tool tools.TimestampMode
+    ∷ Tool tools.BufferSizeKb ∷ Tool tools.BufferTotalSizeKb ∷ Tool tools.TracingCpumask ∷ ErrorLog ∷ [])
+    ≡ codes "available_tracers" ∷ codes "current_tracer" ∷ codes "set_event" ∷ codes "trace_clock" ∷ codes "timestamp_mode"
+    ∷ codes "buffer_size_kb" ∷ codes "buffer_total_size_kb" ∷ codes "tracing_cpumask" ∷ codes "error_log" ∷ [])
+    × (map file_name
+    (OfTop top_tools.AvailableEvents ∷ OfTop top_tools.Readme ∷ OfTop top_tools.SavedCmdlines ∷ OfTop top_tools.PrintkFormats
+    ∷ OfTop top_tools.TracingThresh ∷ [])
+    ≡ codes "available_events" ∷ codes "README" ∷ codes "saved_cmdlines" ∷ codes "printk_formats" ∷ codes "tracing_thresh" ∷ [])

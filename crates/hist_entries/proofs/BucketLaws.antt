@@ -6,9 +6,9 @@ use Rattle.std.specs.Int.{int_rem_euclid}
 use Rattle.std.proofs.Math.Nat.{div-add-mod, mod-lt, mod-eq_of_lt, mul-suc, mul-le-mul_left}
 use Rattle.std.proofs.lemmas.Bool.{cases_lt}
 use Rattle.std.proofs.lemmas.Int.{ints}
-use Rattle.hist_keys.specs.Modifiers.{IsSuffix}
-use Rattle.hist_keys.specs.declared.modifier.Modifier.{Modifier}
-use Rattle.hist_keys.specs.declared.modifier.Modifier.TheVariants.{Plain, Hex, Log2, Buckets}
+use Rattle.trace_format.specs.Modifiers.{IsSuffix}
+use Rattle.trace_format.specs.declared.modifier.Modifier.{Modifier}
+use Rattle.trace_format.specs.declared.modifier.Modifier.TheVariants.{Plain, Hex, Log2, Buckets}
 use Rattle.hist_entries.specs.Buckets.{log2_of, lowest_of, bucket_of, pattern_of, IsMultiple, LiesIn}
 
 -- ---- powers of 2

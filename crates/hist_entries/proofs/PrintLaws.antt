@@ -6,7 +6,7 @@ use Rattle.std.specs.List.Sorted.{IsPermutation, IsSortedBy, ties}
 use Rattle.std.proofs.lemmas.Bool.{cond-true, cond-false, cases_Bool}
 use Rattle.std.proofs.lemmas.List.Elements.{All-head, All-tail, All-weaker}
 use Rattle.std.proofs.lemmas.List.Sorted.{IsPermutation-refl, IsPermutation-cons, IsPermutation-trans, IsPermutation-middle, All-permutation, sorted_far, ranks_by}
-use Rattle.hist_keys.specs.declared.sort_rule.SortRule.{SortRule}
+use Rattle.trace_format.specs.declared.sort_rule.SortRule.{SortRule}
 use Rattle.hist_entries.specs.HistEntries.{Entry}
 use Rattle.hist_entries.specs.PrintOrder.{comes_before, before_later, printed, IsPrintOrder}
 use Rattle.hist_entries.specs.Laws.{PrintedIsInPrintOrder, OnePrintOrder}

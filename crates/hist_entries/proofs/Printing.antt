@@ -10,8 +10,8 @@ use Rattle.std.proofs.lemmas.List.Elements.{All-map}
 use Rattle.std.proofs.lemmas.List.Sorted.{ranks_by, IsPermutation-map}
 use Rattle.trace_format.specs.Cells.{Datum, Whole, Bytes}
 use Rattle.hist_entries.specs.declared.entry.HistRow.{HistRow}
-use Rattle.hist_keys.specs.declared.sort_rule.SortSource.{SortSource}
-use Rattle.hist_keys.specs.declared.sort_rule.SortRule.{SortRule}
+use Rattle.trace_format.specs.declared.sort_rule.SortSource.{SortSource}
+use Rattle.trace_format.specs.declared.sort_rule.SortRule.{SortRule}
 use Rattle.hist_entries.specs.HistEntries.{Entry}
 use Rattle.hist_entries.specs.PrintOrder.{datum_cmp, sort_cell, directed, entry_cmp, comes_before, row_in, IsPrintOrder}
 

@@ -4,8 +4,8 @@ use Rattle.std.specs.Prelude.{◌≡◌, ◌⊎◌, ℕ, ◌-◌, ◌*◌, ◌^�
 use Rattle.std.specs.List.{prefix_len, range_with_len}
 use Rattle.std.specs.Int.{int_rem_euclid}
 use Rattle.trace_format.specs.Cells.{Datum, Whole, Bytes}
-use Rattle.hist_keys.specs.declared.modifier.Modifier.{Modifier}
-use Rattle.hist_keys.specs.declared.modifier.Modifier.TheVariants.{Plain, Hex, Log2, Buckets}
+use Rattle.trace_format.specs.declared.modifier.Modifier.{Modifier}
+use Rattle.trace_format.specs.declared.modifier.Modifier.TheVariants.{Plain, Hex, Log2, Buckets}
 
 -- ---- the bucket of a value
 

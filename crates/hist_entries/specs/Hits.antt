@@ -3,7 +3,7 @@ use Rattle.std.specs.Prelude.{ℕ, ℤ, pos, List, map, unwrap_or, slice_get}
 use Rattle.trace_format.specs.declared.operand.Operand.{Operand}
 use Rattle.trace_format.specs.Cells.{Datum, Whole, Bytes}
 use Rattle.trace_format.specs.Operands.{Emission, operand_value}
-use Rattle.hist_keys.specs.declared.key.Key.{Key}
+use Rattle.trace_format.specs.declared.key.Key.{Key}
 use Rattle.hist_entries.specs.Buckets.{bucket_cell}
 
 pub record Hit : Type 0 where

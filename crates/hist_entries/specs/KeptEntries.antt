@@ -5,7 +5,7 @@ use Rattle.std.specs.Cow.{cow_slice_items}
 use Rattle.std.specs.Global.{Vec}
 use Rattle.trace_format.specs.Cells.{Datum, Whole, Bytes}
 use Rattle.trace_format.specs.Operands.{Emission}
-use Rattle.hist_keys.specs.declared.key.Key.{Key}
+use Rattle.trace_format.specs.declared.key.Key.{Key}
 use Rattle.hist_entries.specs.declared.key_cell.KeyCell.{KeyCell}
 use Rattle.hist_entries.specs.declared.key_cell.KeyCell.TheVariants as cells
 use Rattle.hist_entries.specs.declared.key_cell.RowCell.{RowCell}

@@ -1,8 +1,8 @@
 -- The definitions once more, in the words of the subject.
 use Rattle.std.specs.Prelude.{◌≡◌, ◌⊎◌, ℕ, ◌-◌, ◌^◌, ◌≤◌, ℤ, pos, neg_ℤ, ◌+ℤ◌, ◌≤ℤ◌, ◌<ℤ◌, List}
-use Rattle.hist_keys.specs.declared.modifier.Modifier.{Modifier}
-use Rattle.hist_keys.specs.declared.sort_rule.SortRule.{SortRule}
-use Rattle.hist_keys.specs.Modifiers.{IsSuffix}
+use Rattle.trace_format.specs.declared.modifier.Modifier.{Modifier}
+use Rattle.trace_format.specs.declared.sort_rule.SortRule.{SortRule}
+use Rattle.trace_format.specs.Modifiers.{IsSuffix}
 use Rattle.hist_entries.specs.Buckets.{lowest_of, bucket_of, pattern_of, IsMultiple, LiesIn}
 use Rattle.hist_entries.specs.HistEntries.{Entry}
 use Rattle.hist_entries.specs.PrintOrder.{IsPrintOrder, printed}

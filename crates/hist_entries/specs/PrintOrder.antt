@@ -9,9 +9,9 @@ use Rattle.std.specs.Ordering.{int_cmp, nat_cmp, is_lt, ordering_then}
 use Rattle.std.specs.Cmp.Lexicographic.{slice_cmp}
 use Rattle.trace_format.specs.Cells.{Datum, Whole, Bytes, datum_of}
 use Rattle.hist_entries.specs.declared.entry.HistRow.{HistRow}
-use Rattle.hist_keys.specs.declared.sort_rule.SortSource.{SortSource}
-use Rattle.hist_keys.specs.declared.sort_rule.SortSource.TheVariants.{Key, Value, Hitcount}
-use Rattle.hist_keys.specs.declared.sort_rule.SortRule.{SortRule}
+use Rattle.trace_format.specs.declared.sort_rule.SortSource.{SortSource}
+use Rattle.trace_format.specs.declared.sort_rule.SortSource.TheVariants.{Key, Value, Hitcount}
+use Rattle.trace_format.specs.declared.sort_rule.SortRule.{SortRule}
 use Rattle.hist_entries.specs.Hits.{field_cell}
 use Rattle.hist_entries.specs.HistEntries.{Entry}
 

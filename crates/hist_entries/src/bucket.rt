@@ -5,7 +5,7 @@ ghost use Rattle.hist_entries.specs.Buckets as buckets;
 ghost use Rattle.hist_entries.specs.Numbers.{IsFieldNumber};
 
 use crate::number::Number;
-use hist_keys::Modifier;
+use trace_format::Modifier;
 
 /// The number of a value's bucket, by which entries are grouped and sorted: k of 2^k, the least value of a bucket of N, or else the value itself.
 #[inline(never)]

@@ -8,8 +8,7 @@ ghost use Rattle.hist_entries.specs.KeptEntries.{datum_read};
 use crate::bucket::bucket_of;
 use crate::key_cell::RowCell;
 use crate::number::Number;
-use hist_keys::{Key, Modifier};
-use trace_format::{Emission, Operand, Row, Value};
+use trace_format::{Emission, Key, Modifier, Operand, Row, Value};
 
 /// The value of a field, or 0 where no field has the index.
 fn field_cell<'a>(emission: &'a Emission, index: usize) -> RowCell<'a>

@@ -14,10 +14,9 @@ use crate::cell::key_cell;
 use crate::entry::HistRow;
 use crate::key_cell::{KeyCell, RowCell, borrowed, keep, value_of};
 use crate::tally::Tally;
-use hist_keys::Key;
 use indexmap::IndexMap;
 use std::alloc::{AllocError, Global};
-use trace_format::{Emission, Operand, Value};
+use trace_format::{Emission, Key, Operand, Value};
 
 /// A key has the cells of the trigger's keys, in the order in which it names them.
 pub type Entries = IndexMap<Vec<KeyCell<'static>>, Tally>;

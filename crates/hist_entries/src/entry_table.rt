@@ -10,10 +10,9 @@ use crate::cell::key_cell;
 use crate::entries::{Entries, has_cell_at, has_key_at, index_of, keep_first, reserve_entry};
 use crate::hints::{Hints, fingerprint_of, fingerprint_of_cell};
 use crate::next::Next;
-use hist_keys::Key;
 use indexmap::IndexMap;
 use std::alloc::{AllocError, Global};
-use trace_format::Emission;
+use trace_format::{Emission, Key};
 
 /// The entries of a histogram, with hints of where they are.
 #[derive(Drop)]

@@ -14,10 +14,9 @@ ghost use Rattle.std.specs.Prelude.{◌≡◌, []};
 
 use crate::cell::key_cell;
 use crate::key_cell::RowCell;
-use hist_keys::Key;
 use std::alloc::{AllocError, Global};
 use std::marker::Model;
-use trace_format::Emission;
+use trace_format::{Emission, Key};
 
 // 2^64 divided by the golden ratio: the products of numbers in a row lie far apart.
 const MULTIPLIER: u64 = 0x9e37_79b9_7f4a_7c15;

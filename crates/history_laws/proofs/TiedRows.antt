@@ -8,7 +8,7 @@ use Rattle.std.specs.Ordering.{is_lt, ordering_reverse}
 use Rattle.std.proofs.lemmas.Bool.{cond-true, cond-false, cases_Bool}
 use Rattle.std.proofs.lemmas.List.Sorted.{All-permutation}
 use Rattle.trace_format.specs.Cells.{Datum}
-use Rattle.hist_keys.specs.declared.sort_rule.SortRule.{SortRule}
+use Rattle.trace_format.specs.declared.sort_rule.SortRule.{SortRule}
 use Rattle.hist_entries.specs.Hits.{Hit}
 use Rattle.hist_entries.specs.HistEntries.{Entry, same_key}
 use Rattle.hist_entries.specs.PrintOrder.{entry_cmp, comes_before, printed}

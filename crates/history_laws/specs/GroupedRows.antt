@@ -2,7 +2,7 @@
 use Rattle.std.specs.Prelude.{◌≡◌, ℕ, suc, ◌+◌, ◌<◌, ◌≤◌, ℤ, pos, ◌+ℤ◌, if◌then◌else◌, List, [], ◌∷◌, ◌++◌, length, map, take, filter, sum_by, AllPairs}
 use Rattle.std.specs.declared.cmp.Ordering.TheVariants.{Equal}
 use Rattle.trace_format.specs.Cells.{Datum}
-use Rattle.hist_keys.specs.declared.sort_rule.SortRule.{SortRule}
+use Rattle.trace_format.specs.declared.sort_rule.SortRule.{SortRule}
 use Rattle.hist_entries.specs.Hits.{Hit}
 use Rattle.hist_entries.specs.HistEntries.{Entry, same_key, is_among}
 use Rattle.hist_entries.specs.PrintOrder.{entry_cmp, printed, sum_at}

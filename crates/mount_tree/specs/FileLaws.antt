@@ -1,4 +1,4 @@
--- Each file that commands name is one of the tree's.
+-- Each file of the top instance that commands name is one of the tree's.
 use Rattle.std.specs.Prelude.{◌≡◌, ◌<◌, ⊤, List, ℕ, true, Some, is_some}
 use Rattle.std.specs.List.{find}
 use Rattle.std.specs.Str.{bytes_eq}

@@ -72,7 +72,8 @@ pub fn paths_name_their_files()
     ensures { PathsNameTheirFiles }
 {}
 
-/// And each file that a path can name, of a CPU or an event that is there, is a file that is there.
+/// And each file of the top instance that a path can name, of a CPU or an event that is there, is a file that is there, so that look-ups find it
+/// (`found_nodes_are_there`).
 pub fn files_are_of_the_tree()
     ensures { FilesAreOfTheTree }
 {}

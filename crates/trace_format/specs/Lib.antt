@@ -10,5 +10,6 @@ pub mod Values
 pub mod Decoding
 pub mod Catalogs
 pub mod Operands
+pub mod Modifiers
 pub mod Laws
 pub mod private

@@ -100,9 +100,9 @@ spare-there g name past e index spared indexed acting =
 -- an instance whose sides are to be exchanged has a spare
 pub can-fire : (g : Config) (name : Option (List ℕ)) (past : List Request) (e : Emitted) (index : ℕ) (reach : Reach) (i : InstanceSeen)
     → InstanceStandsFor g name past i → IsIndexOf (declared_events past) e.k.event.name index e.k.event
-    → reach.fires ≡ is_exchanged_by name past (Some e) → CanFire reach i
-can-fire g name past e index reach i stands indexed fires = λ is.
-    let there : has_spare name past ≡ true = spare-there g name past e index stands.spared indexed (sym fires ∙ is) in
+    → reach.snapshot_fires ≡ is_exchanged_by name past (Some e) → CanFire reach i
+can-fire g name past e index reach i stands indexed snapshot_fires = λ is.
+    let there : has_spare name past ≡ true = spare-there g name past e index stands.spared indexed (sym snapshot_fires ∙ is) in
     by i.sides.spare (rw there at stands.sides.spare)
   where
     by : (spare : Option buffers.Seen) → SpareStandsFor spare (Some (other_rings g name past)) → is_some spare ≡ true
@@ -154,23 +154,23 @@ module _ (name : Option (List ℕ)) (past : List Request) (ename : List ℕ) (cp
           (times_left-less e.k.event t past request e (number-before name e.k.event past t there) one)
 
   -- the triggers, by whether it makes its event's act
-  triggers-after : (index : ℕ) (kept : List (Option AttachedSnapshot)) (fires : Bool) → AreEvents [] (declared_events past)
+  triggers-after : (index : ℕ) (kept : List (Option AttachedSnapshot)) (snapshot_fires : Bool) → AreEvents [] (declared_events past)
       → IsIndexOf (declared_events past) e.k.event.name index e.k.event → kept ≡ map (kept_trigger name past) (declared_events past)
-      → is_exchanged_by name past (Some e) ≡ fires
-      → (if fires then set kept index (counted_down (get_or kept index None)) else kept) ≡ map (kept_trigger name (request ∷ past)) (declared_events past)
-  triggers-after index kept fires are indexed stood acts =
+      → is_exchanged_by name past (Some e) ≡ snapshot_fires
+      → (if snapshot_fires then set kept index (counted_down (get_or kept index None)) else kept) ≡ map (kept_trigger name (request ∷ past)) (declared_events past)
+  triggers-after index kept snapshot_fires are indexed stood acts =
       let events = declared_events past in
       let here = trigger-at name past kept e.k.event.name index e.k.event stood indexed in
-      at_place fires
-      ∙ ap (λ (t : Option AttachedSnapshot). set kept index (if fires then counted_down t else t)) here
+      at_place snapshot_fires
+      ∙ ap (λ (t : Option AttachedSnapshot). set kept index (if snapshot_fires then counted_down t else t)) here
       ∙ ap (λ (l : List (Option AttachedSnapshot)). set l index own) stood
       ∙ sym (map-set (kept_trigger name past) (kept_trigger name (request ∷ past)) own events index e.k.event indexed.inside
-      (ap (kept_trigger name (request ∷ past)) (sym indexed.there) ∙ own-kept fires acts)
+      (ap (kept_trigger name (request ∷ past)) (sym indexed.there) ∙ own-kept snapshot_fires acts)
       (λ j inside other. other-kept (get_or events j e.k.event)
       (differs-at events index j e.k.event e.k.event are indexed.inside indexed.there inside other)))
     where
       own : Option AttachedSnapshot
-      own = if fires then counted_down (kept_trigger name past e.k.event) else kept_trigger name past e.k.event
+      own = if snapshot_fires then counted_down (kept_trigger name past e.k.event) else kept_trigger name past e.k.event
 
       own-kept : (f : Bool) → is_exchanged_by name past (Some e) ≡ f → kept_trigger name (request ∷ past) e.k.event
           ≡ (if f then counted_down (kept_trigger name past e.k.event) else kept_trigger name past e.k.event)
@@ -183,9 +183,9 @@ module _ (name : Option (List ℕ)) (past : List Request) (ename : List ℕ) (cp
       at_place false = sym (set-get_or kept index None)
 
   -- the families of both sides
-  sides-after : (g : Config) (written : List (List ring.Event)) (fires : Bool) → written ≡ with_emitted name past (Some e) (rings g name past)
-      → is_exchanged_by name past (Some e) ≡ fires → (fires ≡ true → has_spare name past ≡ true)
-      → (let f : SideFamilies = record { live = written; spare = spare_rings g name past } in if fires then exchanged f else f)
+  sides-after : (g : Config) (written : List (List ring.Event)) (snapshot_fires : Bool) → written ≡ with_emitted name past (Some e) (rings g name past)
+      → is_exchanged_by name past (Some e) ≡ snapshot_fires → (snapshot_fires ≡ true → has_spare name past ≡ true)
+      → (let f : SideFamilies = record { live = written; spare = spare_rings g name past } in if snapshot_fires then exchanged f else f)
       ≡ side_families g name (request ∷ past)
   sides-after g written false wrote stays spare =
       let after = rings-stay g name past request refl (ap (is_exchanged_by name past) is ∙ stays) in
@@ -202,10 +202,10 @@ module _ (name : Option (List ℕ)) (past : List Request) (ename : List ℕ) (cp
       (sym after.live) refl other)
 
   -- a side that is no spare stays empty
-  spared-after : (g : Config) (fires : Bool) → is_exchanged_by name past (Some e) ≡ fires → (fires ≡ true → has_spare name past ≡ true)
+  spared-after : (g : Config) (snapshot_fires : Bool) → is_exchanged_by name past (Some e) ≡ snapshot_fires → (snapshot_fires ≡ true → has_spare name past ≡ true)
       → IsSpared g name (declared_events past) past → IsSpared g name (declared_events past) (request ∷ past)
-  spared-after g fires by_trigger spare spared = record {
-    unused = λ none. by fires by_trigger spare none;
+  spared-after g snapshot_fires by_trigger spare spared = record {
+    unused = λ none. by snapshot_fires by_trigger spare none;
     armed = λ some. spared.armed some;
   }
     where
@@ -228,20 +228,20 @@ none-hit rows (Some old) new none hit = absurd (cc)
 pub delivered-stands : (g : Config) (name : Option (List ℕ)) (past : List Request) (request : Request) (e : Emitted) (d : Delivery) (reach : Reach)
     (old new : InstanceSeen) → emitted past request ≡ Some e → AreEvents [] (declared_events past) → InstanceStandsFor g name past old
     → IsIndexOf (declared_events past) e.k.event.name d.event e.k.event → reach.records ≡ is_recorded name past e
-    → reach.fires ≡ is_exchanged_by name past (Some e)
+    → reach.snapshot_fires ≡ is_exchanged_by name past (Some e)
     → d.cpu ≡ e.cpu → (reach.records ≡ true → d.record.items ≡ emitted_bytes e) → row_of d ≡ counted_row e → IsDelivered d reach old new → InstanceStandsFor g name (request ∷ past) new
-delivered-stands g name past (Emission ename cpu pid pairs) e d reach old new is are stands indexed records fires on_cpu bytes row came =
+delivered-stands g name past (Emission ename cpu pid pairs) e d reach old new is are stands indexed records snapshot_fires on_cpu bytes row came =
     let request : Request = Emission ename cpu pid pairs in
-    let spare : reach.fires ≡ true → has_spare name past ≡ true = λ on. spare-there g name past e d.event stands.spared indexed (sym fires ∙ on) in
+    let spare : reach.snapshot_fires ≡ true → has_spare name past ≡ true = λ on. spare-there g name past e d.event stands.spared indexed (sym snapshot_fires ∙ on) in
     let written = written-rings name past e reach.records old.overwrite d.cpu d.record.items (rings g name past) records stands.overwrite on_cpu bytes in
-    let families = sides-after name past ename cpu pid pairs e is g (recorded_in reach.records old.overwrite d.cpu d.record.items (rings g name past)) reach.fires written
-    (sym fires) spare in
+    let families = sides-after name past ename cpu pid pairs e is g (recorded_in reach.records old.overwrite d.cpu d.record.items (rings g name past)) reach.snapshot_fires written
+    (sym snapshot_fires) spare in
     let keeps : KeepsHists name past request = record { alive = refl; unwritten = refl } in
     let one : length past + 1 ≡ suc (length past) = omega arith in record {
       enabled = rw append-nil (came.enabled ∙ stands.enabled);
       filters = rw append-nil (came.filters ∙ stands.filters);
-      triggers = rw append-nil (came.triggers ∙ triggers-after name past ename cpu pid pairs e is d.event old.triggers reach.fires are indexed stands.triggers
-          (sym fires));
+      triggers = rw append-nil (came.triggers ∙ triggers-after name past ename cpu pid pairs e is d.event old.triggers reach.snapshot_fires are indexed stands.triggers
+          (sym snapshot_fires));
       hists = rw append-nil (came.hists ∙ stands.hists);
       tables = subst (AllOfEach (TableStandsFor name (request ∷ past) new.tables)) (sym came.hists) (λ k none inside j a within.
           table-hit name past request e (get_or old.hists d.event []) old.tables new.tables (get_or (get_or old.hists k none) j a) keeps is
@@ -256,6 +256,6 @@ delivered-stands g name past (Emission ename cpu pid pairs) e d reach old new is
       sides = subst (λ (f : SideFamilies). snapshot.StandsFor new.sides f) families (came.sides (side_families g name past) stands.sides);
       shaped = came.shaped g stands.shaped;
       offered = subst (λ (n : ℕ). WereOffered n new.sides) one (came.offered (length past) stands.offered);
-      spared = rw append-nil (spared-after name past ename cpu pid pairs e is g reach.fires (sym fires) spare stands.spared);
+      spared = rw append-nil (spared-after name past ename cpu pid pairs e is g reach.snapshot_fires (sym snapshot_fires) spare stands.spared);
     }
-delivered-stands g name past request e d reach old new is are stands indexed records fires on_cpu bytes row came = absurd (cc)
+delivered-stands g name past request e d reach old new is are stands indexed records snapshot_fires on_cpu bytes row came = absurd (cc)

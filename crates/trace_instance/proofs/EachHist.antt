@@ -7,7 +7,7 @@ use Rattle.trace_format.specs.Cells.{Datum}
 use Rattle.trace_format.specs.Operands.{Emission}
 use Rattle.trace_hist.specs.Groups.{grouped}
 use Rattle.trace_trigger.specs.HistSpecs.{SpecSeen}
-use Rattle.hist_keys.specs.declared.key.Key.{Key}
+use Rattle.trace_format.specs.declared.key.Key.{Key}
 use Rattle.hist_entries.specs.Hits.{Hit, key_cell}
 use Rattle.trace_hist.specs.TriggerHits.{hit_of}
 use Rattle.hist_entries.specs.HistEntries.{Entry}

@@ -264,7 +264,7 @@ taken_in d reach old between new a o = record {
     same = ap (λ (i : InstanceSeen). i.sides) o.rest
 
 -- and the sides stay where the trigger does not act
-pub delivered_still : (d : Delivery) (reach : Reach) (old new : InstanceSeen) → IsTakenIn d reach old new → reach.fires ≡ false
+pub delivered_still : (d : Delivery) (reach : Reach) (old new : InstanceSeen) → IsTakenIn d reach old new → reach.snapshot_fires ≡ false
     → IsDelivered d reach old new
 delivered_still d reach old new a off = record {
   enabled = ap (λ (i : InstanceSeen). i.enabled) a.rest;
@@ -280,7 +280,7 @@ delivered_still d reach old new a off = record {
 }
 
 -- and are exchanged where it does
-pub delivered_exchanged : (d : Delivery) (reach : Reach) (old between new : InstanceSeen) → IsTakenIn d reach old between → reach.fires ≡ true
+pub delivered_exchanged : (d : Delivery) (reach : Reach) (old between new : InstanceSeen) → IsTakenIn d reach old between → reach.snapshot_fires ≡ true
     → IsExchanged d.event between new → IsDelivered d reach old new
 delivered_exchanged d reach old between new a on x = record {
   enabled = ap (λ (i : InstanceSeen). i.enabled) x.rest ∙ ap (λ (i : InstanceSeen). i.enabled) a.rest;

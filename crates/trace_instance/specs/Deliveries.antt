@@ -51,7 +51,7 @@ pub record IsExchanged (event : ℕ) (old new : InstanceSeen) : Type 0 where
 abbrev pub delivered_to : InstanceSeen → Delivery → Reach → SideFamilies → SideFamilies
 delivered_to i d reach f =
     let written : SideFamilies = record { live = recorded_in reach.records i.overwrite d.cpu d.record.items f.live; spare = f.spare } in
-    if reach.fires then exchanged written else written
+    if reach.snapshot_fires then exchanged written else written
 
 -- the row of an emission, as a histogram takes it
 abbrev pub row_of : Delivery → Emission
@@ -68,7 +68,7 @@ pub record IsDelivered (d : Delivery) (reach : Reach) (old new : InstanceSeen) :
   pub enabled : new.enabled ≡ old.enabled
   pub filters : new.filters ≡ old.filters
   pub triggers : new.triggers
-      ≡ (if reach.fires then slice_set old.triggers d.event (counted_down (slice_index_or old.triggers d.event None)) else old.triggers)
+      ≡ (if reach.snapshot_fires then slice_set old.triggers d.event (counted_down (slice_index_or old.triggers d.event None)) else old.triggers)
   pub hists : new.hists ≡ old.hists
   pub tables : AreHit (row_of d) (slice_index_or old.hists d.event []) old.tables new.tables
   pub overwrite : new.overwrite ≡ old.overwrite
@@ -106,4 +106,4 @@ HasFewRows i = All (λ (attached : List AttachedHist). All (HasRoomToCount i.tab
 
 -- an instance whose sides are to be exchanged has a spare
 abbrev pub CanFire : Reach → InstanceSeen → Type 0
-CanFire reach i = reach.fires ≡ true → is_some i.sides.spare ≡ true
+CanFire reach i = reach.snapshot_fires ≡ true → is_some i.sides.spare ≡ true

@@ -24,12 +24,12 @@ kept_acts None emission = false
 kept_acts (Some t) emission = is_left t.left && kept_holds t.filter emission
 
 -- whether an emission of the event at this index makes its trigger act
-abbrev pub fires : InstanceSeen → ℕ → Emission → Bool
-fires i event emission = kept_acts (slice_index_or i.triggers event None) emission
+abbrev pub snapshot_fires : InstanceSeen → ℕ → Emission → Bool
+snapshot_fires i event emission = kept_acts (slice_index_or i.triggers event None) emission
 
 -- what it does in an instance, but for its hist triggers
 abbrev pub reach_of : InstanceSeen → ℕ → Emission → Reach
 reach_of i event emission = record {
   records = records i event emission;
-  fires = fires i event emission;
+  snapshot_fires = snapshot_fires i event emission;
 }

@@ -107,7 +107,7 @@ pub struct Reach {
     /// Whether its record is written.
     pub records: bool,
     /// Whether it makes the event's snapshot trigger act.
-    pub fires: bool,
+    pub snapshot_fires: bool,
 }
 
 /// A prepared emission: the index of its event; its row, with CPU and process; whether it may do anything at all; in each instance, in their order,
@@ -131,7 +131,7 @@ impl Delivery {
     pub fn new(alloc: Global) -> Delivery {
         let nothing = Reach {
             records: false,
-            fires: false,
+            snapshot_fires: false,
         };
         Delivery {
             event: 0,

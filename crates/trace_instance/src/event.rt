@@ -44,7 +44,7 @@ impl InstanceEvent {
 
     /// Whether an emission makes the snapshot trigger act.
     #[inline(always)]
-    pub(crate) fn fires(&self, emission: &Emission) -> bool
+    pub(crate) fn snapshot_fires(&self, emission: &Emission) -> bool
         ensures { result ≡ kept_acts self.now.triggers.snapshot emission.now }
     {
         match self.triggers.snapshot() {

@@ -110,7 +110,7 @@ impl EventTrigger {
     }
 
     /// Counts a snapshot trigger down after it acted.
-    pub(crate) fn count_down(&mut self)
+    pub(crate) fn count_snapshot_down(&mut self)
         ensures { self.new ≡ lists.counted self.old }
     {
         if let EventTrigger::Snapshot(snapshot) = self {

@@ -166,12 +166,12 @@ impl TriggerList {
     }
 
     /// Counts the snapshot trigger down after it acted.
-    pub(crate) fn count_down(&mut self)
+    pub(crate) fn count_snapshot_down(&mut self)
         ensures snapshot { self.new.snapshot ≡ counted_down self.old.snapshot }
         ensures hists { self.new.hists ≡ self.old.hists }
     {
         for i in 0..self.triggers.len() {
-            self.triggers[i].count_down();
+            self.triggers[i].count_snapshot_down();
         }
     }
 

@@ -1,8 +1,10 @@
 //! What a line that was done declares, makes or removes.
 
 ghost use Rattle.std.specs.Prelude.{◌≡◌, Bool, IfOk};
+ghost use Rattle.std.specs.Result.{result_ok};
 ghost use Rattle.trace_command.specs.Requests.{request_of};
 ghost use Rattle.trace_command.specs.declared.command.Command.TheVariants as commands;
+ghost use Rattle.trace_format.specs.Reading.{definition_of};
 ghost use Rattle.trace_script.specs.Changes.{change_of, change_of_request, declares};
 
 use crate::fault::LineError;
@@ -24,17 +26,24 @@ pub enum Change {
     Removes(Text),
 }
 
-/// The event that a write of this text to the file of this path declares, if it declares one.
-fn declared(alloc: Global, path: &[u8], text: &[u8]) -> Result<Option<EventDef>, AllocError>
-    ensures { (append : Bool) → IfOk result (λ event. event ≡ declares (request_of (commands.Write path.now append text.now))) }
+/// The event that a text written to `synthetic_events` declares, if it declares one.
+pub fn declared(alloc: Global, text: &[u8]) -> Result<Option<EventDef>, AllocError>
+    ensures { IfOk result (λ event. event ≡ result_ok (definition_of text.now)) }
 {
-    let Some(FileName::SyntheticEvents) = address_of(path).file else {
-        return Ok(None);
-    };
     match EventDef::parse(alloc, text) {
         Ok(event) => Ok(Some(event)),
         Err(DefinitionFault::BadDefinition { .. }) => Ok(None),
         Err(DefinitionFault::Memory) => Err(AllocError),
+    }
+}
+
+/// The event that a write of this text to the file of this path declares.
+fn declared_by(alloc: Global, path: &[u8], text: &[u8]) -> Result<Option<EventDef>, AllocError>
+    ensures { (append : Bool) → IfOk result (λ event. event ≡ declares (request_of (commands.Write path.now append text.now))) }
+{
+    match address_of(path).file {
+        Some(FileName::SyntheticEvents) => declared(alloc, text),
+        _ => Ok(None),
     }
 }
 
@@ -52,7 +61,7 @@ fn change_of_command(alloc: Global, command: &Command) -> Result<Option<Change>,
             None => Ok(None),
         },
         Command::Write { path, text, .. } => {
-            match declared(alloc, path.as_bytes(), text.as_bytes())? {
+            match declared_by(alloc, path.as_bytes(), text.as_bytes())? {
                 Some(event) => Ok(Some(Change::Declares(event))),
                 None => Ok(None),
             }

@@ -18,7 +18,7 @@ mod token;
 mod tokens;
 mod word;
 
-pub use change::{Change, change_of};
+pub use change::{Change, change_of, declared};
 pub use command::writes_are_as_written;
 pub use emission::{EmissionHead, plain_emission};
 pub use fault::{LineError, ScriptFault};

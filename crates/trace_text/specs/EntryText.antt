@@ -5,9 +5,9 @@ use Rattle.std.specs.List.{flat_map, join_by, zip}
 use Rattle.trace_format.specs.Cells.{Datum, Whole, Bytes}
 use Rattle.hist_entries.specs.Buckets.{pattern_of, highest_from}
 use Rattle.hist_entries.specs.HistEntries.{Entry}
-use Rattle.hist_keys.specs.declared.key.Key.{Key}
-use Rattle.hist_keys.specs.declared.modifier.Modifier.{Modifier}
-use Rattle.hist_keys.specs.declared.modifier.Modifier.TheVariants.{Plain, Hex, Log2, Buckets}
+use Rattle.trace_format.specs.declared.key.Key.{Key}
+use Rattle.trace_format.specs.declared.modifier.Modifier.{Modifier}
+use Rattle.trace_format.specs.declared.modifier.Modifier.TheVariants.{Plain, Hex, Log2, Buckets}
 
 -- the blanks (32) that fill up a string to so many columns; none for a longer string, since `-` stops at 0
 abbrev pub fill : ℕ → List ℕ → List ℕ

@@ -3,7 +3,7 @@
 ghost use Rattle.std.specs.Prelude.{◌≡◌, ◌∷◌, ◌++◌, codes, option_copied, OnOk};
 ghost use Rattle.std.specs.Fmt.{decimal};
 ghost use Rattle.std.specs.List.{flat_map, join_by};
-ghost use Rattle.hist_keys.specs.declared.key.Key.{Key as KeySeen};
+ghost use Rattle.trace_format.specs.declared.key.Key.{Key as KeySeen};
 ghost use Rattle.trace_trigger.specs.SameSpecs.{filter_text};
 ghost use Rattle.trace_text.specs.TriggerText as texts;
 

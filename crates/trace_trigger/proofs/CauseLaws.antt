@@ -11,7 +11,7 @@ use Rattle.trace_filter.specs.Filters.{Parsed, IsFilter, IsRefused, parsed_of}
 use Rattle.trace_filter.proofs.FilterLemmas.{filter_or_refused}
 use Rattle.trace_trigger.specs.declared.fault.TriggerFault.{TriggerFault}
 use Rattle.trace_trigger.specs.declared.fault.TriggerFault.TheVariants.{HistSyntax, TooMany, BadSize}
-use Rattle.hist_keys.specs.declared.key.Key.{Key}
+use Rattle.trace_format.specs.declared.key.Key.{Key}
 use Rattle.trace_trigger.specs.declared.piece.ListItem.{ListItem}
 use Rattle.trace_trigger.specs.HistSizes.{rounded_size}
 use Rattle.trace_trigger.specs.HistParts.{attributes_of, tail_of, condition_of}

@@ -5,10 +5,10 @@ use Rattle.std.specs.Option.{is_none}
 use Rattle.std.proofs.lemmas.Bool.{not-false, not_from_true, or_parts, or_from}
 use Rattle.std.proofs.lemmas.List.Elements.{All-from_recursion, recursion_from_All}
 use Rattle.trace_lex.specs.Names.{is_name}
-use Rattle.hist_keys.specs.declared.modifier.Modifier.{Modifier}
-use Rattle.hist_keys.specs.declared.modifier.Modifier.TheVariants.{Plain}
+use Rattle.trace_format.specs.declared.modifier.Modifier.{Modifier}
+use Rattle.trace_format.specs.declared.modifier.Modifier.TheVariants.{Plain}
 use Rattle.trace_trigger.specs.declared.piece.ListItem.{ListItem}
-use Rattle.hist_keys.specs.Modifiers.{modifier_of}
+use Rattle.trace_format.specs.Modifiers.{modifier_of}
 use Rattle.trace_trigger.specs.HistLists.{names_of, item_name, item_suffix, is_named}
 use Rattle.trace_trigger.specs.HistOffsets.{wrong_after, is_wrong_key}
 use Rattle.trace_trigger.specs.HistGrammar.{HasName, IsKeyItem, IsKey, AreNamedApart}

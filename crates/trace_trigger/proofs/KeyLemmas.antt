@@ -2,7 +2,7 @@
 use Rattle.std.proofs.Common.{◌≡◌, ℕ, ◌+◌, Bool, not, nat_lt, cond, bytes_eq, List, [], ◌∷◌, map, Some, None, refl, ap}
 use Rattle.std.specs.List.{position, position_or_len}
 use Rattle.std.proofs.lemmas.List.{length-map}
-use Rattle.hist_keys.specs.declared.key.Key.{Key}
+use Rattle.trace_format.specs.declared.key.Key.{Key}
 use Rattle.trace_trigger.specs.HistSpecs.{key_names}
 
 first-map : {A B : Type 0} (p : B → Bool) (f : A → B) (xs : List A) → position_or_len p (map f xs) ≡ position_or_len (λ x. p (f x)) xs

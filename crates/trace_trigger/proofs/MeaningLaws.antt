@@ -8,11 +8,11 @@ use Rattle.trace_format.specs.declared.operand.Operand.{Operand}
 use Rattle.trace_format.specs.Operands.{operand_named, is_text}
 use Rattle.trace_trigger.specs.declared.fault.TriggerFault.{TriggerFault}
 use Rattle.trace_trigger.specs.declared.fault.TriggerFault.TheVariants.{WrongOperator}
-use Rattle.hist_keys.specs.declared.sort_rule.SortSource.{SortSource}
-use Rattle.hist_keys.specs.declared.key.Key.{Key}
-use Rattle.hist_keys.specs.declared.modifier.Modifier.{Modifier}
-use Rattle.hist_keys.specs.declared.modifier.Modifier.TheVariants.{Plain}
-use Rattle.hist_keys.specs.declared.sort_rule.SortSource.TheVariants as sorted
+use Rattle.trace_format.specs.declared.sort_rule.SortSource.{SortSource}
+use Rattle.trace_format.specs.declared.key.Key.{Key}
+use Rattle.trace_format.specs.declared.modifier.Modifier.{Modifier}
+use Rattle.trace_format.specs.declared.modifier.Modifier.TheVariants.{Plain}
+use Rattle.trace_format.specs.declared.sort_rule.SortSource.TheVariants as sorted
 use Rattle.trace_trigger.specs.declared.piece.ListItem.{ListItem}
 use Rattle.trace_trigger.specs.HistLists.{names_of, summed_items, is_hitcount, item_name, item_suffix}
 use Rattle.trace_trigger.specs.TriggerAnswers.{◌>>=◌}
@@ -20,7 +20,7 @@ use Rattle.trace_trigger.specs.HistMeanings.{each, key_as, key_meant, key_in, va
 use Rattle.trace_trigger.specs.HistSpecs.{written_of, key_names}
 use Rattle.trace_trigger.specs.HistRefusals.{CanBeKey}
 use Rattle.trace_trigger.specs.HistGrammar.{summed_names, IsKeyItem, IsKey, IsKeyOf, IsValueOf, IsSortedBy}
-use Rattle.hist_keys.specs.Modifiers.{IsSuffix, modifier_of}
+use Rattle.trace_format.specs.Modifiers.{IsSuffix, modifier_of}
 use Rattle.trace_trigger.proofs.NameLaws.{item_split, item_is}
 use Rattle.trace_trigger.proofs.KeyLaws.{modifier_in, key_modifier, own_key}
 use Rattle.trace_trigger.proofs.WrongLemmas.{Apart}

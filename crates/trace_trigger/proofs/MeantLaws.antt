@@ -5,8 +5,8 @@ use Rattle.trace_format.specs.declared.operand.Operand.{Operand}
 use Rattle.trace_filter.specs.Filters.{Parsed}
 use Rattle.trace_trigger.specs.declared.fault.TriggerFault.{TriggerFault}
 use Rattle.trace_trigger.specs.declared.fault.TriggerFault.TheVariants.{BadText, TooMany, FilterSyntax, NoSuchField, WrongOperator, HistSyntax, BadSize, Memory}
-use Rattle.hist_keys.specs.declared.key.Key.{Key}
-use Rattle.hist_keys.specs.declared.sort_rule.SortRule.{SortRule}
+use Rattle.trace_format.specs.declared.key.Key.{Key}
+use Rattle.trace_format.specs.declared.sort_rule.SortRule.{SortRule}
 use Rattle.trace_trigger.specs.declared.spec.SortKey.{SortKey}
 use Rattle.trace_trigger.specs.Frames.{filter_of}
 use Rattle.trace_trigger.specs.TriggerAnswers.{◌>>=◌, IsTold}

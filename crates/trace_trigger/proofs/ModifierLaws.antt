@@ -6,9 +6,9 @@ use Rattle.std.proofs.lemmas.List.{take-append-drop}
 use Rattle.std.proofs.lemmas.Slice.Eq.{bytes_eq-Decides}
 use Rattle.trace_lex.specs.Decimals.{decimal_number, has_leading_zero, up_to}
 use Rattle.trace_trigger.specs.Frames.{is_unblank}
-use Rattle.hist_keys.specs.declared.modifier.Modifier.{Modifier}
-use Rattle.hist_keys.specs.declared.modifier.Modifier.TheVariants.{Plain, Hex, Log2, Buckets}
-use Rattle.hist_keys.specs.Modifiers.{IsBucketSize, IsSuffix, buckets_from, buckets_of, modifier_of}
+use Rattle.trace_format.specs.declared.modifier.Modifier.{Modifier}
+use Rattle.trace_format.specs.declared.modifier.Modifier.TheVariants.{Plain, Hex, Log2, Buckets}
+use Rattle.trace_format.specs.Modifiers.{IsBucketSize, IsSuffix, buckets_from, buckets_of, modifier_of}
 use Rattle.trace_trigger.proofs.UnblankLemmas.{IsUnblank, both_unblank, number_unblank}
 
 -- ---- what is written is read

@@ -1,8 +1,8 @@
 -- What hist triggers that fit one another have in common, as theorems that speak of no program.
 use Rattle.std.specs.Prelude.{◌≡◌, ◌↔◌, ℕ, true, List, length, map, Ok}
 use Rattle.trace_format.specs.Definitions.{Definition}
-use Rattle.hist_keys.specs.declared.key.Key.{Key}
-use Rattle.hist_keys.specs.declared.modifier.Modifier.{Modifier}
+use Rattle.trace_format.specs.declared.key.Key.{Key}
+use Rattle.trace_format.specs.declared.modifier.Modifier.{Modifier}
 use Rattle.trace_trigger.specs.HistSpecs.{SpecSeen}
 use Rattle.trace_trigger.specs.HistTexts.{spec_of}
 use Rattle.trace_trigger.specs.FittingSpecs.{Fits, is_fitting}

@@ -5,7 +5,7 @@ use Rattle.std.specs.Cmp.Lexicographic.{pointwise}
 use Rattle.trace_format.specs.Operands.{is_text}
 use Rattle.trace_trigger.specs.HistSpecs.{SpecSeen, written_of}
 use Rattle.trace_trigger.specs.SameSpecs.{same_sort_key}
-use Rattle.hist_keys.specs.declared.key.Key.{Key}
+use Rattle.trace_format.specs.declared.key.Key.{Key}
 
 -- of each key, whether it is a string in the trigger's event
 abbrev pub are_texts : List Key → List Bool

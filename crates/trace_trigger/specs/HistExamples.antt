@@ -9,13 +9,13 @@ use Rattle.trace_format.specs.declared.operand.Operand.TheVariants.{Pid, Cpu, Fi
 use Rattle.trace_trigger.specs.declared.fault.TriggerFault.{TriggerFault}
 use Rattle.trace_trigger.specs.declared.fault.TriggerFault.TheVariants.{HistSyntax, TooMany, NoSuchField, WrongOperator, BadSize, FilterSyntax}
 use Rattle.trace_trigger.specs.declared.spec.Action.TheVariants.{Attach, Pause, Continue, Clear}
-use Rattle.hist_keys.specs.declared.key.Key.{Key}
-use Rattle.hist_keys.specs.declared.modifier.Modifier.{Modifier}
-use Rattle.hist_keys.specs.declared.modifier.Modifier.TheVariants.{Plain, Hex, Log2, Buckets}
+use Rattle.trace_format.specs.declared.key.Key.{Key}
+use Rattle.trace_format.specs.declared.modifier.Modifier.{Modifier}
+use Rattle.trace_format.specs.declared.modifier.Modifier.TheVariants.{Plain, Hex, Log2, Buckets}
 use Rattle.trace_trigger.specs.declared.spec.SortKey.{SortKey}
-use Rattle.hist_keys.specs.declared.sort_rule.SortRule.{SortRule}
-use Rattle.hist_keys.specs.declared.sort_rule.SortSource.{SortSource}
-use Rattle.hist_keys.specs.declared.sort_rule.SortSource.TheVariants as sorted
+use Rattle.trace_format.specs.declared.sort_rule.SortRule.{SortRule}
+use Rattle.trace_format.specs.declared.sort_rule.SortSource.{SortSource}
+use Rattle.trace_format.specs.declared.sort_rule.SortSource.TheVariants as sorted
 use Rattle.trace_trigger.specs.HistSpecs.{SpecSeen}
 use Rattle.trace_trigger.specs.HistTexts.{spec_of}
 

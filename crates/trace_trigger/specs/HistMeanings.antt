@@ -7,17 +7,17 @@ use Rattle.trace_format.specs.declared.operand.Operand.{Operand}
 use Rattle.trace_format.specs.Operands.{operand_named, is_text}
 use Rattle.trace_trigger.specs.declared.fault.TriggerFault.{TriggerFault}
 use Rattle.trace_trigger.specs.declared.fault.TriggerFault.TheVariants.{TooMany, NoSuchField, WrongOperator, BadSize}
-use Rattle.hist_keys.specs.declared.key.Key.{Key}
-use Rattle.hist_keys.specs.declared.modifier.Modifier.TheVariants.{Plain}
+use Rattle.trace_format.specs.declared.key.Key.{Key}
+use Rattle.trace_format.specs.declared.modifier.Modifier.TheVariants.{Plain}
 use Rattle.trace_trigger.specs.declared.spec.SortKey.{SortKey}
-use Rattle.hist_keys.specs.declared.sort_rule.SortRule.{SortRule}
-use Rattle.hist_keys.specs.declared.sort_rule.SortSource.{SortSource}
-use Rattle.hist_keys.specs.declared.sort_rule.SortSource.TheVariants as sorted
+use Rattle.trace_format.specs.declared.sort_rule.SortRule.{SortRule}
+use Rattle.trace_format.specs.declared.sort_rule.SortSource.{SortSource}
+use Rattle.trace_format.specs.declared.sort_rule.SortSource.TheVariants as sorted
 use Rattle.trace_trigger.specs.declared.piece.ListItem.{ListItem}
 use Rattle.trace_trigger.specs.TriggerAnswers.{◌>>=◌}
 use Rattle.trace_trigger.specs.HistSizes.{rounded_size}
 use Rattle.trace_trigger.specs.HistLists.{Lists, summed_items, is_hitcount, item_name, item_suffix}
-use Rattle.hist_keys.specs.Modifiers.{modifier_of}
+use Rattle.trace_format.specs.Modifiers.{modifier_of}
 
 -- ---- how many
 

@@ -10,7 +10,7 @@ use Rattle.trace_trigger.specs.declared.attribute.Attribute.{Attribute}
 use Rattle.trace_trigger.specs.declared.piece.ListItem.{ListItem}
 use Rattle.trace_trigger.specs.HistParts.{attributes_of, end_of, tail_of, is_condition, offset_in}
 use Rattle.trace_trigger.specs.HistLists.{Lists, lists_of, is_same_topic, is_listed, is_sortable, is_named, item_name, item_suffix, is_direction}
-use Rattle.hist_keys.specs.Modifiers.{modifier_of}
+use Rattle.trace_format.specs.Modifiers.{modifier_of}
 
 -- the elements of a list that are wrong, each judged by those before it and by itself
 abbrev pub wrong_after : {X : Type 0} → (List X → X → Bool) → List X → List X → List X

@@ -2,10 +2,10 @@
 use Rattle.std.specs.Prelude.{ℕ, List, map, Option}
 use Rattle.trace_format.specs.declared.operand.Operand.{Operand}
 use Rattle.trace_filter.specs.Filters.{Parsed}
-use Rattle.hist_keys.specs.declared.key.Key.{Key}
+use Rattle.trace_format.specs.declared.key.Key.{Key}
 use Rattle.trace_trigger.specs.declared.spec.Action.{Action}
 use Rattle.trace_trigger.specs.declared.spec.SortKey.{SortKey}
-use Rattle.hist_keys.specs.declared.sort_rule.SortRule.{SortRule}
+use Rattle.trace_format.specs.declared.sort_rule.SortRule.{SortRule}
 
 -- keys as written
 abbrev pub written_of : List Key → List (List ℕ)

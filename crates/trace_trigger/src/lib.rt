@@ -18,6 +18,6 @@ mod trigger;
 mod written_lists;
 
 pub use fault::TriggerFault;
-pub use hist_keys::{Key, Modifier, SortRule, SortSource};
 pub use spec::{Action, HistSpec, SortKey};
+pub use trace_format::{Key, Modifier, SortRule, SortSource};
 pub use trigger::{SnapshotTrigger, TriggerText};

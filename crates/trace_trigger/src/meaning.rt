@@ -2,7 +2,7 @@
 
 ghost use Rattle.std.specs.Prelude.{◌≡◌, Ok, MatchResult, IfOk, bytes_eq, [], map};
 ghost use Rattle.std.specs.List.{position};
-ghost use Rattle.hist_keys.specs.declared.key.Key.{Key as KeySeen};
+ghost use Rattle.trace_format.specs.declared.key.Key.{Key as KeySeen};
 ghost use Rattle.trace_trigger.specs.HistMeanings as meanings;
 ghost use Rattle.trace_trigger.specs.HistLists as lists;
 ghost use Rattle.trace_trigger.specs.HistSpecs.{key_names};
@@ -14,9 +14,8 @@ use crate::piece::ListItem;
 use crate::size::rounded_size;
 use crate::spec::SortKey;
 use crate::written_lists::{WrittenLists, is_descending, is_hitcount, item_name, item_suffix};
-use hist_keys::{Key, Modifier, SortRule, SortSource};
 use std::alloc::{AllocError, Global};
-use trace_format::{Field, Operand, Text};
+use trace_format::{Field, Key, Modifier, Operand, SortRule, SortSource, Text};
 use trace_lex::decimal_number;
 
 /// There are at most so many keys, and values besides `hitcount`.

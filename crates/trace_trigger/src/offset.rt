@@ -13,7 +13,7 @@ use crate::piece::ListItem;
 use crate::written_lists::{
     WrittenLists, is_direction, is_listed, is_named, is_same_topic, item_name, item_suffix,
 };
-use hist_keys::Modifier;
+use trace_format::Modifier;
 use trace_lex::{all_digits, is_name};
 
 /// The earlier of two offsets, if there are any.

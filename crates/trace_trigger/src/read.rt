@@ -17,11 +17,10 @@ use crate::meaning::{keys_of, names_of, size_of, sort_of, summed, value_sources}
 use crate::offset::wrong_offset;
 use crate::spec::{HistSpec, SortKey};
 use crate::written_lists::WrittenLists;
-use hist_keys::{Key, SortRule};
 use std::alloc::{AllocError, Global};
 use std::marker::Model;
 use trace_filter::Filter;
-use trace_format::{EventDef, Operand, Text};
+use trace_format::{EventDef, Key, Operand, SortRule, Text};
 
 /// What the attributes of a string say, unless the string breaks the grammar. They are cut out already, and so is the tail, which is what follows
 /// the first word and blanks.

@@ -13,11 +13,10 @@ use crate::fault::TriggerFault;
 use crate::hist_parts::{condition_of, cut};
 use crate::meaning::is_too_many;
 use crate::read::{read_written, spec_from};
-use hist_keys::{Key, SortRule};
 use std::alloc::Global;
 use std::marker::Model;
 use trace_filter::Filter;
-use trace_format::{EventDef, Operand, Row, Text};
+use trace_format::{EventDef, Key, Operand, Row, SortRule, Text};
 
 /// A key that entries are printed by.
 #[derive(PartialEq, Eq, Drop)]

@@ -1,4 +1,5 @@
 pub mod Limits
 pub mod Living
 pub mod Calls
+pub mod AddressLemmas
 pub mod BookAnswers

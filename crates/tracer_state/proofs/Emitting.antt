@@ -23,7 +23,7 @@ use Rattle.tracer_specification.specs.Snapshots.{is_exchanged_by}
 use Rattle.tracer_specification.specs.Triggers as triggers
 use Rattle.tracer_specification.specs.Triggers.{acts, is_left, passes, times_left, snapshot_trigger_of}
 use Rattle.trace_instance.specs.Instances.{InstanceSeen, InstanceStandsFor, IsAlike, kept_as}
-use Rattle.trace_instance.specs.Rows.{fires, kept_acts, kept_holds, records}
+use Rattle.trace_instance.specs.Rows.{snapshot_fires, kept_acts, kept_holds, records}
 use Rattle.trace_instance.specs.KeptHists.{passed}
 use Rattle.trace_instance.specs.declared.hists.AttachedHist.{AttachedHist}
 use Rattle.tracer_state.specs.States.{AllReached, CanEmit, EachCame, IsEmission, IsPreparedEmission, IsUsable, StandsFor, reach_at, IsStateAlike}
@@ -88,8 +88,8 @@ module _ (g : Config) (name : Option (List ℕ)) (past : List Request) (i : Inst
       rw (tracing, enabled, holds) refl
 
   -- and its trigger acts if they say so
-  fires-found : fires i index (counted_row e) ≡ is_exchanged_by name past (Some e)
-  fires-found =
+  snapshot_fires-found : snapshot_fires i index (counted_row e) ≡ is_exchanged_by name past (Some e)
+  snapshot_fires-found =
       ap (λ (t : Option AttachedSnapshot). kept_acts t (counted_row e)) (trigger-at name past i.triggers e.k.event.name index e.k.event stands.triggers indexed)
       ∙ acts-kept past e (snapshot_trigger_of name e.k.event past)
 
@@ -163,11 +163,11 @@ module _ (g : Config) (old new : State) (past : List Request) (name : List ℕ) 
         let named_so = alike.instances.names k n (within k inside) in
         rw named_so (ap (λ (r : Reach). r.records) (reserved.reached.each k n (within k inside))
         ∙ records-found g was.name past was.instance e d.event (stands.each k n (within k inside)) own);
-    fires = λ k n inside.
+    snapshot_fires = λ k n inside.
         let was = get_or old.instances.items k n in
         let named_so = alike.instances.names k n (within k inside) in
-        rw named_so (ap (λ (r : Reach). r.fires) (reserved.reached.each k n (within k inside))
-        ∙ fires-found g was.name past was.instance e d.event (stands.each k n (within k inside)) own);
+        rw named_so (ap (λ (r : Reach). r.snapshot_fires) (reserved.reached.each k n (within k inside))
+        ∙ snapshot_fires-found g was.name past was.instance e d.event (stands.each k n (within k inside)) own);
     bytes = λ k n inside on. rw (← stands.clock, ← at)
         (reserved.ahead.is (recorded-at old.instances.items d.reaches reserved.recorded k reserved.reached.none (within k inside) n on));
   }
@@ -199,7 +199,7 @@ module _ (g : Config) (old new : State) (past : List Request) (name : List ℕ) 
             (reserved.ahead.is_record did, omega (arith, reserved.sized did, short, shaped.page_bytes), omega (arith, inside, shaped.cpus)),
         λ k n there.
             can-fire g (get_or new.instances.items k n).name past emission.e d.event (reach_at d.reaches k) (get_or new.instances.items k n).instance
-            (still.each k n there) emission.index (emission.fires k n there),
+            (still.each k n there) emission.index (emission.snapshot_fires k n there),
         λ k n there off.
             let nothing = reserved.idle k n (within k there) off in
             (nothing.0, nothing.1, ap (λ (hists : List (List AttachedHist)). get_or hists d.event []) (same k n there) ∙ nothing.2),

@@ -11,7 +11,7 @@ use Rattle.trace_instance.proofs.LiveSide.{delivered_still, taken_in, unwritten}
 use Rattle.tracer_state.specs.States.{AllReached, EachDelivered, StaysUnlessWanted, reach_at}
 use Rattle.tracer_state.specs.declared.state.Named.{Named}
 
-undelivered : (d : Delivery) (reach : Reach) (i : InstanceSeen) → reach.records ≡ false → reach.fires ≡ false → get_or i.hists d.event [] ≡ []
+undelivered : (d : Delivery) (reach : Reach) (i : InstanceSeen) → reach.records ≡ false → reach.snapshot_fires ≡ false → get_or i.hists d.event [] ≡ []
     → IsDelivered d reach i i
 undelivered d reach i unrecorded still none =
     delivered_still d reach i i (taken_in d reach i i i (unwritten d reach i unrecorded) (record {

@@ -69,10 +69,10 @@ plan-delivered : (d : Delivery) (reach : Reach) (i j : InstanceSeen) (event : �
 plan-delivered d reach i j event is = same-event i j event is.tracing
     (ap (λ (l : List Bool). get_or l event false) is.enabled)
     (ap (λ (l : List (Option Parsed)). get_or l event None) is.filters)
-    (by reach.fires is.triggers)
+    (by reach.snapshot_fires is.triggers)
     (ap (λ (l : List (List AttachedHist)). get_or l event []) is.hists)
   where
-    by : (fires : Bool) → j.triggers ≡ (if fires then set i.triggers d.event (counted_down (get_or i.triggers d.event None)) else i.triggers)
+    by : (snapshot_fires : Bool) → j.triggers ≡ (if snapshot_fires then set i.triggers d.event (counted_down (get_or i.triggers d.event None)) else i.triggers)
         → is_some (get_or j.triggers event None) ≡ is_some (get_or i.triggers event None)
     by true same = ap (λ (l : List (Option AttachedSnapshot)). is_some (get_or l event None)) same ∙ still-triggered i.triggers d.event event
     by false same = ap (λ (l : List (Option AttachedSnapshot)). is_some (get_or l event None)) same

@@ -16,14 +16,14 @@ use Rattle.tracer_state.specs.EventPlans.{unasked}
 -- an emission does this in an instance, and triggers do nothing there
 pub record IsQuiet (i : InstanceSeen) (event : ℕ) (emission : Emission) (does : Reach) : Type 0 where
   pub reach : does ≡ reach_of i event emission
-  pub fires : does.fires ≡ false
+  pub snapshot_fires : does.snapshot_fires ≡ false
   pub hists : get_or i.hists event [] ≡ []
 
 -- by what a plan is made of
 by_parts : (tracing enabled : Bool) (filter : Option Parsed) (trigger : Option AttachedSnapshot) (hists : List AttachedHist) (emission : Emission)
     → planned (tracing && enabled) filter (is_some trigger) hists ≢ Ask
     → (unasked (planned (tracing && enabled) filter (is_some trigger) hists)
-    ≡ record { records = tracing && (enabled && kept_holds filter emission); fires = kept_acts trigger emission })
+    ≡ record { records = tracing && (enabled && kept_holds filter emission); snapshot_fires = kept_acts trigger emission })
     × (kept_acts trigger emission ≡ false) × (hists ≡ [])
 unfolding kept_holds
 by_parts tracing enabled filter (Some t) hists emission known = absurd (known refl)
@@ -40,4 +40,4 @@ planned-unasked i event emission plan reach is known told =
     let parts = by_parts i.tracing (get_or i.enabled event false) (get_or i.filters event None) (get_or i.triggers event None) (get_or i.hists event []) emission
     (λ e. known (is ∙ e)) in
     let same = told ∙ ap unasked is ∙ parts.0 in
-    record { reach = same; fires = ap (λ (r : Reach). r.fires) same ∙ parts.1; hists = parts.2 }
+    record { reach = same; snapshot_fires = ap (λ (r : Reach). r.snapshot_fires) same ∙ parts.1; hists = parts.2 }

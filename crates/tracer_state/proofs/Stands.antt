@@ -219,7 +219,7 @@ module _ (g : Config) (old new : State) (past : List Request) (request : Request
       (same_instances is.made is.removed came.many came.names (λ k d inside.
       let n = get_or old.instances.items k d in
       delivered-stands g n.name past request is.e delivery (reach_at delivery.reaches k) n.instance (get_or new.instances.items k d).instance is.emitted
-      stands.distinct (stands.each k d inside) is.index (is.records k d inside) (is.fires k d inside) is.cpu (λ on. is.bytes k d inside on) row
+      stands.distinct (stands.each k d inside) is.index (is.records k d inside) (is.snapshot_fires k d inside) is.cpu (λ on. is.bytes k d inside on) row
       (came.came k d inside)))
 
   step_stands : (change : Change) → IsChangeOf g old past request change → IsReady g old change → HasChanged old new change → IsPlanned new

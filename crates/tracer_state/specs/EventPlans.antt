@@ -13,9 +13,9 @@ use Rattle.tracer_state.specs.declared.state.State.{State}
 
 -- what an emission does where nothing is asked
 abbrev pub unasked : Plan → Reach
-unasked Record = record { records = true; fires = false }
-unasked Nothing = record { records = false; fires = false }
-unasked Ask = record { records = false; fires = false }
+unasked Record = record { records = true; snapshot_fires = false }
+unasked Nothing = record { records = false; snapshot_fires = false }
+unasked Ask = record { records = false; snapshot_fires = false }
 
 -- this holds at the index of each of the first eight instances
 abbrev pub AtEach : (ℕ → Type 0) → List Named → Type 0

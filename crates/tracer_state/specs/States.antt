@@ -81,7 +81,7 @@ pub record IsUnchanged (old new : State) : Type 0 where
 
 -- what an emission does where it does nothing
 abbrev pub no_reach : Reach
-no_reach = record { records = false; fires = false }
+no_reach = record { records = false; snapshot_fires = false }
 
 -- what it does in the instance at an index
 abbrev pub reach_at : List Reach → ℕ → Reach
@@ -93,7 +93,7 @@ AllReached R reaches instances = (k : ℕ) (n : Named) → k < length instances 
 
 -- an emission does nothing in an instance, unless some instance is said to want it
 abbrev pub StaysUnlessWanted : Delivery → Reach → InstanceSeen → Type 0
-StaysUnlessWanted d reach i = d.wanted ≡ false → (reach.records ≡ false) × (reach.fires ≡ false) × (slice_index_or i.hists d.event [] ≡ [])
+StaysUnlessWanted d reach i = d.wanted ≡ false → (reach.records ≡ false) × (reach.snapshot_fires ≡ false) × (slice_index_or i.hists d.event [] ≡ [])
 
 -- each instance has its name still, and this came of it
 pub record EachCame (R : InstanceSeen → InstanceSeen → Type 0) (old new : List Named) : Type 0 where
@@ -222,8 +222,8 @@ pub record IsEmission (g : Config) (past : List Request) (request : Request) (in
   pub pid : d.pid ≡ e.pid
   pub records : (k : ℕ) (n : Named) → k < length instances
       → (reach_at d.reaches k).records ≡ is_recorded (slice_index_or instances k n).name past e
-  pub fires : (k : ℕ) (n : Named) → k < length instances
-      → (reach_at d.reaches k).fires ≡ is_exchanged_by (slice_index_or instances k n).name past (Some e)
+  pub snapshot_fires : (k : ℕ) (n : Named) → k < length instances
+      → (reach_at d.reaches k).snapshot_fires ≡ is_exchanged_by (slice_index_or instances k n).name past (Some e)
   pub bytes : AllReached (λ reach i. reach.records ≡ true → d.record.items ≡ emitted_bytes e) d.reaches instances
 
 -- a change says of a request all that the definitions say of it, after this past, in this state

@@ -77,11 +77,11 @@ pub(crate) fn unasked(plan: Plan) -> Reach
     match plan {
         Plan::Record => Reach {
             records: true,
-            fires: false,
+            snapshot_fires: false,
         },
         Plan::Nothing | Plan::Ask => Reach {
             records: false,
-            fires: false,
+            snapshot_fires: false,
         },
     }
 }

@@ -88,7 +88,7 @@ fn reach_one(plan: Plan, instance: &Instance, event: usize, emission: &Emission)
     requires planned { plan ≡ plan_of instance.now event }
     requires event { emissions.HasEventAt event instance.now }
     ensures reach { result.reach ≡ reach_of instance.now event emission.now }
-    ensures fires { result.triggered ≡ false → result.reach.fires ≡ false }
+    ensures snapshot_fires { result.triggered ≡ false → result.reach.snapshot_fires ≡ false }
     ensures hists { result.triggered ≡ false → slice_index_or instance.now.hists event [] ≡ [] }
 {
     if !asks(plan) {
@@ -100,6 +100,6 @@ fn reach_one(plan: Plan, instance: &Instance, event: usize, emission: &Emission)
     let reach = instance.reach(event, emission);
     OneReached {
         reach,
-        triggered: reach.fires | instance.has_hists(event),
+        triggered: reach.snapshot_fires | instance.has_hists(event),
     }
 }

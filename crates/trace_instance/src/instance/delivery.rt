@@ -60,7 +60,7 @@ impl Instance {
     {
         Reach {
             records: self.records(event, emission),
-            fires: self.fires(event, emission),
+            snapshot_fires: self.snapshot_fires(event, emission),
         }
     }
 
@@ -76,11 +76,11 @@ impl Instance {
 
     // Whether it makes the event's snapshot trigger act.
     #[inline(always)]
-    fn fires(&self, event: usize, emission: &Emission) -> bool
+    fn snapshot_fires(&self, event: usize, emission: &Emission) -> bool
         requires { event < length self.now.triggers }
-        ensures { result ≡ rows.fires self.now event emission.now }
+        ensures { result ≡ rows.snapshot_fires self.now event emission.now }
     {
-        self.events[event].fires(emission)
+        self.events[event].snapshot_fires(emission)
     }
 
     /// Applies a prepared emission: writes its record, if any, over older ones if the ring is full and overwriting is on; counts its row in the hist
@@ -99,7 +99,7 @@ impl Instance {
     {
         self.write(delivery, reach);
         self.offer(delivery, passed);
-        if reach.fires {
+        if reach.snapshot_fires {
             self.exchange(delivery.event);
         }
     }
@@ -143,7 +143,7 @@ impl Instance {
         requires spare { is_some self.old.sides.spare ≡ true }
         ensures { IsExchanged event self.old self.new }
     {
-        self.events[event].triggers.count_down();
+        self.events[event].triggers.count_snapshot_down();
         self.sides.swap_armed();
     }
 }

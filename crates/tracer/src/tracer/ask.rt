@@ -3,7 +3,7 @@
 ghost use Rattle.std.specs.Prelude.{◌≡◌, ◌≤◌, List};
 ghost use Rattle.trace_command.specs.Requests.{Request, Emission, request_of};
 ghost use Rattle.tracer_specification.specs.Settings.{declared_events, ticks};
-ghost use Rattle.tracer_state.specs.AddressedRequests.{read_at, write_at};
+ghost use Rattle.tracer_state.specs.AddressedRequests.{DeclaresAtTop, read_at, write_at};
 ghost use Rattle.tracer_state.specs.ValueEmissions.{values_emission};
 ghost use Rattle.tracer.specs.Lives.{IsLive, IsCall, IsCallWithin, most_done};
 
@@ -142,6 +142,7 @@ impl Tracer {
 
     /// As `ask`, for a read of the file at this address, of a pipe of at most so many records.
     pub fn read_at(&mut self, address: Address<'_>, limit: Option<u64>) -> Result<Reply, Refusal>
+        requires { DeclaresAtTop address }
         ensures call { (past : List Request) → IsLive self.old.config past self.old
             → IsCall past self.new (read_at address.entry limit) result }
         ensures config { self.new.config ≡ self.old.config }
@@ -157,6 +158,7 @@ impl Tracer {
         append: bool,
         text: &[u8],
     ) -> Result<Reply, Refusal>
+        requires { DeclaresAtTop address }
         ensures call { (past : List Request) → IsLive self.old.config past self.old
             → IsCall past self.new (write_at address.entry append text.now) result }
         ensures config { self.new.config ≡ self.old.config }

@@ -9,7 +9,7 @@ ghost use Rattle.tracer_specification.specs.History.{emission_answer};
 ghost use Rattle.tracer_specification.specs.LateMemory.{TakesMemoryLate};
 ghost use Rattle.tracer_specification.specs.Settings.{declared_events, ticks};
 ghost use Rattle.trace_instance.specs.MemoryTaken.{TakesNoMemory};
-ghost use Rattle.tracer_state.specs.AddressedRequests.{read_at, write_at};
+ghost use Rattle.tracer_state.specs.AddressedRequests.{DeclaresAtTop, read_at, write_at};
 ghost use Rattle.tracer_state.specs.States.{IsPrepared, IsPreparedEmission, TakesMemory};
 ghost use Rattle.tracer_state.specs.ValueEmissions.{emission_by};
 ghost use Rattle.tracer.specs.Lives.{IsLive, IsPreparedWithin, IsReadyFor, CanDeliver, limited_answer, most_done};
@@ -67,6 +67,7 @@ impl Tracer {
         address: Address<'_>,
         most: Option<u64>,
     ) -> Result<Prepared, Refusal>
+        requires { DeclaresAtTop address }
         ensures prepared { (past : List Request) → IsLive self.now.config past self.now
             → IsPreparedWithin limit self.now.config past (read_at address.entry most) self.now.state result }
         ensures ready { IfOk result (IsReadyFor self.now) }
@@ -91,6 +92,7 @@ impl Tracer {
         append: bool,
         text: &[u8],
     ) -> Result<Prepared, Refusal>
+        requires { DeclaresAtTop address }
         ensures prepared { (past : List Request) → IsLive self.now.config past self.now
             → IsPreparedWithin limit self.now.config past (write_at address.entry append text.now) self.now.state result }
         ensures ready { IfOk result (IsReadyFor self.now) }

@@ -30,7 +30,7 @@ pub record AreReached (event : ℕ) (emission : Emission) (reaches : List Reach)
 -- if no instance's triggers are said to do anything, none fires, and the event has no hist triggers in any
 abbrev pub AreQuiet : ℕ → List Reach → Bool → List Named → Type 0
 AreQuiet event reaches triggered instances =
-    triggered ≡ false → AllReached (λ reach i. (reach.fires ≡ false) × (slice_index_or i.hists event [] ≡ [])) reaches instances
+    triggered ≡ false → AllReached (λ reach i. (reach.snapshot_fires ≡ false) × (slice_index_or i.hists event [] ≡ [])) reaches instances
 
 -- what was written ahead is the emission's record, if some instance records it
 pub record IsAhead (clock event : ℕ) (row : Cells) (pid : ℤ) (recorded : Bool) (bytes : List ℕ) : Type 0 where

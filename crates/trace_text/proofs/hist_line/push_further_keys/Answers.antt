@@ -1,6 +1,6 @@
 use Rattle.std.proofs.Common.{ℕ, List, ◌++◌, codes, ap, ◌∙◌}
 use Rattle.trace_format.proofs.LoopLemmas.{left}
-use Rattle.hist_keys.specs.declared.key.Key.{Key}
+use Rattle.trace_format.specs.declared.key.Key.{Key}
 use Rattle.trace_text.proofs.LoopLemmas.{one_more_after}
 use Rattle.trace_text.proofs.hist_line.push_further_keys.Goals as goal
 

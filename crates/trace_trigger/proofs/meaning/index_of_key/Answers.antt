@@ -1,5 +1,5 @@
 use Rattle.std.proofs.Common.{bytes_eq, sym, ap, ◌∙◌}
-use Rattle.hist_keys.specs.declared.key.Key.{Key}
+use Rattle.trace_format.specs.declared.key.Key.{Key}
 use Rattle.trace_trigger.proofs.Looking.{place_start, place_here, place_later, place_none}
 use Rattle.trace_trigger.proofs.meaning.index_of_key.Goals as goal
 

@@ -22,8 +22,8 @@ loop-i-preserved c =
           c.loop-i.reaches c.loop-i.i one.reach (omega (arith, was.many)) here was.each;
       none = unless_more no_reach (λ k r. r.records ≡ false) c.loop-i.reaches c.loop-i.i one.reach c.loop-i.recorded one.reach.records
           (omega (arith, was.many)) (λ off. off) was.none;
-      quiet = unless_more no_reach (λ k r. (r.fires ≡ false) × ((n : Named) → get_or (get_or instances k n).instance.hists c.args.event [] ≡ []))
-          c.loop-i.reaches c.loop-i.i one.reach c.loop-i.triggered one.triggered (omega (arith, was.many)) (λ off. (met.fires off, none off)) was.quiet;
+      quiet = unless_more no_reach (λ k r. (r.snapshot_fires ≡ false) × ((n : Named) → get_or (get_or instances k n).instance.hists c.args.event [] ≡ []))
+          c.loop-i.reaches c.loop-i.i one.reach c.loop-i.triggered one.triggered (omega (arith, was.many)) (λ off. (met.snapshot_fires off, none off)) was.quiet;
     }
 
 pub returns-clause-quiet : goal.returns-clause-quiet

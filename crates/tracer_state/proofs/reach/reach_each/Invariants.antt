@@ -10,6 +10,6 @@ invariant-loop-i l = record {
   each : (k : ℕ) → k < l.i → (n : Named)
       → slice_index_or l.reaches k no_reach ≡ reach_of (slice_index_or l.fn.instances k n).instance l.fn.event l.fn.emission;
   none : l.recorded ≡ false → (k : ℕ) → k < l.i → (slice_index_or l.reaches k no_reach).records ≡ false;
-  quiet : l.triggered ≡ false → (k : ℕ) → k < l.i → ((slice_index_or l.reaches k no_reach).fires ≡ false)
+  quiet : l.triggered ≡ false → (k : ℕ) → k < l.i → ((slice_index_or l.reaches k no_reach).snapshot_fires ≡ false)
       × ((n : Named) → slice_index_or (slice_index_or l.fn.instances k n).instance.hists l.fn.event [] ≡ []);
 }

@@ -29,4 +29,4 @@ pub returns-then-not-plan-clause-quiet : goal.returns-then-not-plan-clause-quiet
 returns-then-not-plan-clause-quiet c = λ off k n inside.
     let is = kept-reach c.args.event c.args.plan.now c.args.instances.now c.args.emission c.requires.planned c.if-not-plan.true
     c.requires.few k n inside in
-    (is.fires, is.hists)
+    (is.snapshot_fires, is.hists)

@@ -1,7 +1,7 @@
 //! How a key's values are put into buckets (histogram.rst, "hist triggers").
 
 ghost use Rattle.std.specs.Prelude.{◌≡◌};
-ghost use Rattle.hist_keys.specs.Modifiers.{modifier_of, buckets_of};
+ghost use Rattle.trace_format.specs.Modifiers.{modifier_of, buckets_of};
 
 use trace_lex::{decimal_number, has_leading_zero};
 

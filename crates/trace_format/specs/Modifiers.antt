@@ -1,8 +1,8 @@
 -- Key modifiers: how each is written after a key's name, and what such a suffix says (histogram.rst, "hist triggers").
 use Rattle.std.specs.Prelude.{◌≡◌, ℕ, ◌-◌, ◌≤◌, ◌^◌, false, nat_lt, if◌then◌else◌, bytes_eq, codes, List, [], ◌++◌, take, drop, Option, None, Some}
 use Rattle.trace_lex.specs.Decimals.{decimal_number, has_leading_zero, up_to}
-use Rattle.hist_keys.specs.declared.modifier.Modifier.{Modifier}
-use Rattle.hist_keys.specs.declared.modifier.Modifier.TheVariants.{Plain, Hex, Log2, Buckets}
+use Rattle.trace_format.specs.declared.modifier.Modifier.{Modifier}
+use Rattle.trace_format.specs.declared.modifier.Modifier.TheVariants.{Plain, Hex, Log2, Buckets}
 
 -- ---- how each is written
 

@@ -1,7 +1,8 @@
 //! The keys of a hist trigger.
 
 use crate::modifier::Modifier;
-use trace_format::{Operand, Text};
+use crate::operand::Operand;
+use trace_lex::Text;
 
 /// A key of a hist trigger: entries are told apart by the buckets of its values.
 #[derive(Drop)]

@@ -4,12 +4,12 @@ use Rattle.std.proofs.lemmas.List.Edits.{map_over_more}
 use Rattle.trace_instance.specs.Deliveries.{counted_down}
 use Rattle.trace_instance.specs.TriggerLists.{TriggersSeen, counted, hists_in, snapshot_in}
 use Rattle.trace_instance.proofs.TriggerLists.{Holds, counted-once, kept, snapshot-held}
-use Rattle.trace_instance.proofs.trigger_list.TriggerList.count_down.Goals as goal
-use Rattle.trace_instance.proofs.trigger_list.TriggerList.count_down.Goals.{After-loop-i}
+use Rattle.trace_instance.proofs.trigger_list.TriggerList.count_snapshot_down.Goals as goal
+use Rattle.trace_instance.proofs.trigger_list.TriggerList.count_snapshot_down.Goals.{After-loop-i}
 
 pub loop-i-preserved : goal.loop-i-preserved
 loop-i-preserved c =
-    rw c.count_down.ensures (map_over_more counted c.self.inside.triggers.items c.loop-i.self-inside.triggers.items c.loop-i.i c.index_mut.result.now
+    rw c.count_snapshot_down.ensures (map_over_more counted c.self.inside.triggers.items c.loop-i.self-inside.triggers.items c.loop-i.i c.index_mut.result.now
     (search rules) c.loop-i.invariant (search rules))
 
 holds : (c : After-loop-i) → Holds c.loop-i.self-inside.triggers.items (counted_down (snapshot_in c.self.inside.triggers.items)) (hists_in c.self.inside.triggers.items)
