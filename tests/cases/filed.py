@@ -1,10 +1,12 @@
-"""docs/FILES.md: that it has the files of the table that code and definitions read (crates/file_list/src/files.rt), and no others."""
+"""docs/FILES.md, and what `did you mean` names: that they have the files of the table that code and definitions read (crates/file_list/src/files.rt), and
+no others."""
 import re
 
 from cases.running import TOP, Case
 
 TABLE = TOP / "crates" / "file_list" / "src" / "files.rt"
 PAGE = TOP / "docs" / "FILES.md"
+NEAR = TOP / "crates" / "refusal_explanations" / "src" / "near.rt"
 ROW = re.compile(r'\(\s*(\w+)(?:\([^"]*\))?,\s*"(\w+)",\s*(?:Both|Read|Write),?\s*\),')
 MOUNTED = ("Tool", "OfTop", "CpuSize", "EventId", "ErrorLog")  # those of a mount only; docs/MOUNT.md has inject
 
@@ -31,5 +33,20 @@ def files_are_listed():
     )
 
 
+def near_ones_are_files():
+    rows, near = ROW.findall(TABLE.read_text()), NEAR.read_text()
+    fixed = re.findall(r'"([\w/]+)"', re.search(r"const FILES: .*? = \[(.*?)\];", near, re.S)[1])
+    of_events = re.findall(r'"(\w+)"', re.search(r"for file in &\[(.*?)\]", near)[1])
+    wrong = []
+    for what, paths, kinds in (("of no event", fixed, ("SyntheticEvents", "OfInstance", "SystemEnable", "OfCpu")), ("of an event", of_events, ("OfEvent",))):
+        named, there = sorted(path.split("/")[-1] for path in paths), sorted(name for kind, name in rows if kind in kinds)
+        if named != there:
+            wrong.append("%s: near ones %s, the table %s" % (what, named, there))
+    return wrong
+
+
 def file_cases():
-    return [Case("docs/FILES.md has the files of the table", lambda _program: files_are_listed())]
+    return [
+        Case("docs/FILES.md has the files of the table", lambda _program: files_are_listed()),
+        Case("`did you mean` knows the files of the table", lambda _program: near_ones_are_files()),
+    ]
