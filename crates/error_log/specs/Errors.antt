@@ -30,7 +30,7 @@ name_of_file path _ = path
 abbrev pub name_at : List ℕ → List ℕ
 name_at path = name_of_file path (address_of path).file
 
--- a write whose refusal isn't known yet
+-- a write of whose refusal nothing is said yet
 abbrev pub begun : Owner → ℕ → List ℕ → ErrorSeen
 begun owner time path = record { owner = owner; time = time; name = name_at path; written = []; sentence = []; at = 0 }
 

@@ -70,7 +70,7 @@ fn is_same(one: Owner, other: Owner) -> bool
 }
 
 impl NotedError {
-    /// A write to the file of this path of an instance, whose refusal isn't known yet.
+    /// A write to the file of this path of an instance, of whose refusal nothing is said yet.
     pub(crate) fn begin(
         alloc: Global,
         owner: Owner,

@@ -16,8 +16,8 @@ use trace_lex::Text;
 /// How many errors of an instance are kept.
 const MOST_ERRORS: usize = 8;
 
-/// The errors of all instances, oldest first. A write that may be refused is noted before it is asked, which takes all memory, and the note is taken
-/// back if it was done (`begin`, then `finish` or `take_back`).
+/// The errors of all instances, oldest first. Noting a refused write takes all memory first (`begin`); then it is told what was wrong, or taken back if
+/// nothing is to be noted (`finish`, `take_back`).
 #[derive(Drop)]
 pub struct ErrorLog {
     alloc: Global,
@@ -107,7 +107,7 @@ impl ErrorLog {
         }
     }
 
-    /// Notes a write to the file of this path of an instance, which may be refused. Out of memory all is as before.
+    /// Notes a write to the file of this path of an instance that was refused. Out of memory all is as before.
     pub fn begin(&mut self, owner: Owner, time: u64, path: &[u8]) -> Result<(), AllocError>
         ensures ok { OnOk result (self.new ≡ self.old ++ errors.begun owner time path.now ∷ []) }
         ensures err { OnErr result (self.new ≡ self.old) }
@@ -117,7 +117,7 @@ impl ErrorLog {
         Ok(())
     }
 
-    /// The write that was noted last was done.
+    /// The write that was noted last is not to be noted.
     pub fn take_back(&mut self)
         ensures { (before : List ErrorSeen) (error : ErrorSeen) → self.old ≡ before ++ error ∷ [] → self.new ≡ before }
     {

@@ -19,7 +19,7 @@ use crate::status;
 use std::alloc::{AllocError, Global};
 use std::marker::Model;
 use std::slice;
-use trace_command::{BorrowedEmission, Command, Config, Refusal, Reply};
+use trace_command::{BorrowedEmission, Command, Config, Refusal, Reply, address_of};
 use trace_format::FieldValue;
 use trace_lex::Text;
 use trace_script::{Line, LineError, Outcome, ScriptFault, prepare};
@@ -70,6 +70,14 @@ impl Console {
         ensures { ComesTo (after_command command) self.old self.new }
     {
         let answer = self.live.ask_within(self.limit, command);
+        self.keep(answer);
+    }
+
+    /// Reads a file, of a pipe at most so many records, as `ask` does a command.
+    fn ask_read(&mut self, path: &[u8], most: Option<u64>)
+        ensures { ComesTo (after_command (commands.Read path.now most)) self.old self.new }
+    {
+        let answer = self.live.read_at_within(self.limit, address_of(path), most);
         self.keep(answer);
     }
 
@@ -218,7 +226,7 @@ impl Console {
         ensures done { ComesTo (after_command (commands.Read path.now None)) self.old self.new }
         ensures status { result ≡ status_of self.new.last }
     {
-        self.ask_made(Command::read(self.alloc, path));
+        self.ask_read(path, None);
         self.status()
     }
 
@@ -227,7 +235,7 @@ impl Console {
         ensures done { ComesTo (after_command (commands.Read path.now (Some limit))) self.old self.new }
         ensures status { result ≡ status_of self.new.last }
     {
-        self.ask_made(Command::take(self.alloc, path, limit));
+        self.ask_read(path, Some(limit));
         self.status()
     }
 

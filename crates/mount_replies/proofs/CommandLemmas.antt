@@ -5,16 +5,21 @@ use Rattle.std.proofs.lemmas.List.{length-take-le}
 use Rattle.std.proofs.lemmas.List.Quantifiers.{position-Some}
 use Rattle.std.proofs.lemmas.List.Splits.{slice_split_first, slice_split_none}
 use Rattle.std.proofs.lemmas.List.Sums.{fails_before_first, position_or_len_is}
-use Rattle.trace_command.specs.Requests.{Request}
+use Rattle.trace_command.specs.Requests.{Request, request_of}
+use Rattle.trace_command.specs.declared.command.Command.TheVariants as commands
 use Rattle.file_list.specs.FileKinds.{takes_lines}
 use Rattle.file_list.specs.declared.file.File.{File}
-use Rattle.mount_replies.specs.Lines.{command_lines, has_newline, is_blank_line, is_newline, lines_of, one_command, pieces_of, without_newline}
+use Rattle.mount_tree.specs.Scenes.{SceneSeen}
+use Rattle.mount_tree.specs.declared.node.Owner.{Owner}
+use Rattle.mount_replies.specs.Lines.{command_lines, command_text, has_newline, is_blank_line, is_newline, lines_of, one_command, pieces_of, without_newline}
 use Rattle.mount_replies.specs.Mounted.{HasLedTo, IsRun, MountSeen, all_done, stopped_at, terms_of}
 use Rattle.mount_replies.specs.Services.{Terms}
-use Rattle.mount_replies.specs.Steps.{Asking, LineAsked, Ran}
+use Rattle.mount_replies.specs.Steps.{Asking, AsksFor, LineAsked, Ran}
+use Rattle.mount_replies.specs.declared.fault.LineFault.{LineFault}
 use Rattle.mount_replies.specs.declared.fault.Progress.{Progress}
 use Rattle.mount_replies.specs.declared.fault.Stop.{Stop}
-use Rattle.mount_replies.specs.private.LineRuns.{IsKept, IsLineDone, IsLineStopped, RunsFrom, RunsTo, refused_line}
+use Rattle.mount_replies.specs.declared.writing.Target.{Target}
+use Rattle.mount_replies.specs.private.LineRuns.{IsKept, IsLineDone, IsLineStopped, RunsFrom, RunsTo, StaysThere, refused_line, target_command}
 
 -- ---- one line
 
@@ -258,3 +263,30 @@ lines-one asking file append bytes text is one =
     ap (λ (t : Bool). if t then command_lines asking append (length bytes) 0 (pieces_of bytes) else one_command asking append (length bytes) (without_newline bytes))
     (ap (λ (b : List ℕ). takes_lines file && has_newline b) (sym is) ∙ one)
     ∙ ap (λ (b : List ℕ). one_command asking append (length bytes) b) (sym is)
+
+-- ---- a file that stays there, so that the same is asked of it
+
+pub stays-more : (old mid new : SceneSeen) (owner : Owner) (file : File) → StaysThere old mid owner file → StaysThere mid new owner file → StaysThere old new owner file
+stays-more old mid new owner file first second = record { there = second.there; path = second.path ∙ first.path }
+
+abbrev path_command : List ℕ → File → Bool → List ℕ → Asking
+path_command path file append line = AsksFor (request_of (commands.Write path append (command_text file line)))
+
+pub done-same : (past : List Request) (mid new : MountSeen) (scene : SceneSeen) (target : Target) (append : Bool) (line : List ℕ)
+    → StaysThere scene mid.scene target.owner target.file → IsLineDone past mid new (target_command mid.scene target append line)
+    → IsLineDone past mid new (target_command scene target append line)
+done-same past mid new scene target append line stays is =
+    subst (λ (p : List ℕ). IsLineDone past mid new (path_command p target.file append line)) stays.path is
+
+pub stopped-same : (past : List Request) (mid new : MountSeen) (scene : SceneSeen) (target : Target) (append : Bool) (line : List ℕ) (fault : LineFault)
+    → StaysThere scene mid.scene target.owner target.file → IsLineStopped past mid new (target_command mid.scene target append line) fault
+    → IsLineStopped past mid new (target_command scene target append line) fault
+stopped-same past mid new scene target append line fault stays is =
+    subst (λ (p : List ℕ). IsLineStopped past mid new (path_command p target.file append line) fault) stays.path is
+
+pub runs-same : (past : List Request) (done : ℕ) (mid new : MountSeen) (scene : SceneSeen) (target : Target) (append : Bool) (size : ℕ) (line : List ℕ)
+    (progress : Progress) → StaysThere scene mid.scene target.owner target.file
+    → RunsFrom past done mid new (command_lines (target_command mid.scene target) append size 0 (line ∷ [])) progress
+    → RunsFrom past done mid new (command_lines (target_command scene target) append size 0 (line ∷ [])) progress
+runs-same past done mid new scene target append size line progress stays run =
+    subst (λ (p : List ℕ). RunsFrom past done mid new (command_lines (path_command p target.file) append size 0 (line ∷ [])) progress) stays.path run

@@ -12,6 +12,8 @@ pub mod OwedLemmas
 pub mod PartLaws
 pub mod NewEvents
 pub mod DoneLemmas
+pub mod AddressLemmas
+pub mod SwitchLemmas
 pub mod ShownLemmas
 pub mod TimesLemmas
 pub mod AnsweredOnce

@@ -215,7 +215,7 @@ module _ (g : Terms) (s : Service) (pid : ℕ) (operation : Operation) (F : Open
       well-after past file text _ _ EINVAL by (OfEvent event NoCommand ends.0 ends.1 (λ keeps. unless-memory NoCommand refl (stops keeps).1) refl refl)
       (λ keeps. (stops keeps).0)
   line-notes past file event text TooLong by ends stops =
-      well-after past file text _ _ EINVAL by (OfLongLine ends.0 (λ keeps. unless-memory TooLong refl (stops keeps).1) refl refl) (λ keeps. (stops keeps).0)
+      well-after past file text _ _ EINVAL by (OfLongLine event ends.0 ends.1 (λ keeps. unless-memory TooLong refl (stops keeps).1) refl refl) (λ keeps. (stops keeps).0)
 
   -- the first of these lines is that of what was not done
   stops-first : (past : List Request) (file : OpenSeen) (event : Definition) (lines : List LineAsked) (text : List ℕ) (fault : LineFault)
@@ -281,22 +281,22 @@ module _ (g : Terms) (s : Service) (pid : ℕ) (operation : Operation) (F : Open
   switch-notes handle size file bytes switch on by written comes (Err refusal) answered =
       well file bytes _ _ (errno_of refusal) by (OfSwitch switch on size refusal written comes (answered (λ same. absurd (cc))) refl refl)
 
-  tool-notes : (handle : ℕ) (file : OpenSeen) (bytes : List ℕ) (comes : ToolWrite) → F file → Writes operation bytes
+  tool-notes : (handle : ℕ) (file : OpenSeen) (bytes : List ℕ) (comes : ToolWrite) → F file → Writes operation bytes → kind_of_file file.file ≡ kinds.Tool
       → tool_write g.config (scene_of g s) file.owner file.file bytes ≡ comes → StepNotes (write_tool g s handle file bytes comes)
-  tool-notes handle file bytes writes.Missing by written is = tt
-  tool-notes handle file bytes writes.Wrong by written is = well file bytes _ _ EINVAL by (OfWord written is refl refl)
-  tool-notes handle file bytes writes.Same by written is = tt
-  tool-notes handle file bytes (writes.Switch switch on size) by written is = switch-notes handle size file bytes switch on by written is
+  tool-notes handle file bytes writes.Missing by written tool is = tt
+  tool-notes handle file bytes writes.Wrong by written tool is = well file bytes _ _ EINVAL by (OfWord written tool is refl refl)
+  tool-notes handle file bytes writes.Same by written tool is = tt
+  tool-notes handle file bytes (writes.Switch switch on size) by written tool is = switch-notes handle size file bytes switch on by written is
 
-  other-notes : (handle : ℕ) (file : OpenSeen) (bytes : List ℕ) (kind : FileKind) → F file → Writes operation bytes
+  other-notes : (handle : ℕ) (file : OpenSeen) (bytes : List ℕ) (kind : FileKind) → F file → Writes operation bytes → kind_of_file file.file ≡ kind
       → StepNotes (write_other g s handle file bytes kind)
-  other-notes handle file bytes kinds.Tool by written =
-      tool-notes handle file bytes (tool_write g.config (scene_of g s) file.owner file.file bytes) by written refl
-  other-notes handle file bytes kinds.ErrorLog by written = tt
-  other-notes handle file bytes kinds.Text by written = text-notes handle file bytes by written
-  other-notes handle file bytes kinds.Trace by written = text-notes handle file bytes by written
-  other-notes handle file bytes kinds.Pipe by written = text-notes handle file bytes by written
-  other-notes handle file bytes kinds.Inject by written = text-notes handle file bytes by written
+  other-notes handle file bytes kinds.Tool by written is =
+      tool-notes handle file bytes (tool_write g.config (scene_of g s) file.owner file.file bytes) by written is refl
+  other-notes handle file bytes kinds.ErrorLog by written is = tt
+  other-notes handle file bytes kinds.Text by written is = text-notes handle file bytes by written
+  other-notes handle file bytes kinds.Trace by written is = text-notes handle file bytes by written
+  other-notes handle file bytes kinds.Pipe by written is = text-notes handle file bytes by written
+  other-notes handle file bytes kinds.Inject by written is = text-notes handle file bytes by written
 
   -- what its open file keeps, where open files keep lines
   abbrev Kept : OpenSeen → Type 0
@@ -399,7 +399,7 @@ module _ (g : Terms) (s : Service) (pid : ℕ) (operation : Operation) (F : Open
       → StepNotes (write_kind g s handle lock_owner pid bytes own file)
   kind-notes handle lock_owner bytes own (files.Inject event) by keeps written same =
       inject-notes handle lock_owner bytes own (slice_get (declared_events s.past) event) by keeps written (ap (λ (f : File). event_injected s f) same)
-  kind-notes handle lock_owner bytes own _ by keeps written same = other-notes handle own bytes (kind_of_file own.file) by written
+  kind-notes handle lock_owner bytes own _ by keeps written same = other-notes handle own bytes (kind_of_file own.file) by written refl
 
   write-notes : (handle lock_owner : ℕ) (bytes : List ℕ) (slot : Option OpenSeen) → ((file : OpenSeen) → slot ≡ Some file → F file)
       → ((file : OpenSeen) → slot ≡ Some file → Kept file) → Writes operation bytes → StepNotes (write_file g s handle lock_owner pid bytes slot)

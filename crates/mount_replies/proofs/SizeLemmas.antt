@@ -1,17 +1,18 @@
 -- Sizes that look-ups tell, and the texts that they counted.
-use Rattle.std.proofs.Common.{◌≡◌, ◌⊎◌, ℕ, ◌+◌, ◌-◌, ◌<◌, ◌≤◌, ◌==◌, zero, suc, Bool, true, false, if◌then◌else◌, nat_lt, List, [], ◌∷◌, ◌++◌, length, take, drop, set, get_or, Option, Some, None, Ok, inl, inr, refl, sym, ap, ◌∙◌, subst, arith, append-nil, length-drop}
+use Rattle.std.proofs.Common.{◌≡◌, ◌≢◌, ◌⊎◌, ℕ, ◌+◌, ◌-◌, ◌<◌, ◌≤◌, ◌==◌, zero, suc, Bool, true, false, if◌then◌else◌, nat_lt, List, [], ◌∷◌, ◌++◌, length, take, drop, set, get_or, Option, Some, None, Ok, inl, inr, refl, sym, ap, ◌∙◌, subst, arith, append-nil, length-drop}
 use Rattle.std.proofs.lemmas.Bool.{lt-ltb}
 use Rattle.std.proofs.lemmas.Bool.Decides.{nat_tests}
 use Rattle.std.proofs.lemmas.List.{drop_all, take_all}
-use Rattle.trace_command.specs.Requests.{Request, request_of}
-use Rattle.trace_command.specs.declared.command.Command.TheVariants.{Read}
+use Rattle.trace_command.specs.Refusals.{IsRefusal}
+use Rattle.trace_command.specs.Requests.{Request}
+use Rattle.trace_command.specs.declared.refusal.Refusal.{Refusal}
+use Rattle.trace_command.specs.declared.refusal.Refusal.TheVariants.{Memory}
 use Rattle.trace_command.specs.declared.command.Reply.{Reply as Answer}
 use Rattle.fuse_wire.specs.declared.reply.Reply.{Reply}
 use Rattle.tracer_specification.specs.History.{answer_with_room}
 use Rattle.tracer.specs.Lives.{live_answer, most_done}
 use Rattle.tracer.proofs.Limits.{limited-done}
 use Rattle.file_list.specs.FileKinds.{kind_of_file}
-use Rattle.mount_tree.specs.NodePaths.{path_of}
 use Rattle.mount_tree.specs.Scenes.{SceneSeen}
 use Rattle.mount_tree.specs.Nodes.{number_of}
 use Rattle.file_list.specs.declared.file.File.{File}
@@ -23,7 +24,7 @@ use Rattle.mount_tree.specs.declared.node.Owner.{Owner}
 use Rattle.mount_replies.specs.Mounted.{HasLedTo, IsStep, MountSeen, service_of, terms_of}
 use Rattle.mount_replies.specs.Services.{Service, Terms, count_of, latest_texts}
 use Rattle.mount_replies.specs.Sizes.{answer_now, count_text, size_by_kind, size_of_text, text_answered, text_in}
-use Rattle.mount_replies.specs.Steps.{Step, plain}
+use Rattle.mount_replies.specs.Steps.{Step, plain, read_of}
 use Rattle.mount_replies.specs.declared.counted.Counted.{Counted}
 use Rattle.mount_replies.specs.declared.sizes.Telling.{Telling}
 use Rattle.mount_replies.specs.declared.sizes.Telling.TheVariants.{Entry, Attributes}
@@ -99,23 +100,29 @@ no-recent-size g s telling owner file (Some count) found = by (count.after == le
 -- ---- texts that are shown
 
 -- the tracer's answer to a read of a file
-answered-now : (past : List Request) (now : MountSeen) (owner : Owner) (file : File) (path : List ℕ) → HasLedTo past now
-    → path ≡ path_of now.scene (nodes.File owner file)
-    → live_answer now.live.config past (request_of (Read path None)) ≡ answer_now (terms_of now) (service_of past now) owner file
-answered-now past now owner file path mounted is =
-    ap (λ (p : List ℕ). live_answer now.live.config past (request_of (Read p None)))
-    (is ∙ ap (λ (scene : SceneSeen). path_of scene (nodes.File owner file)) mounted.scene)
+answered-now : (past : List Request) (now : MountSeen) (owner : Owner) (file : File) (request : Request) → HasLedTo past now
+    → request ≡ read_of now.scene (nodes.File owner file) None
+    → live_answer now.live.config past request ≡ answer_now (terms_of now) (service_of past now) owner file
+answered-now past now owner file request mounted is =
+    ap (λ (r : Request). live_answer now.live.config past r)
+    (is ∙ ap (λ (scene : SceneSeen). read_of scene (nodes.File owner file) None) mounted.scene)
 
 -- it was prepared
-pub shown-text : (past : List Request) (now : MountSeen) (owner : Owner) (file : File) (path : List ℕ) (reply : Answer) (text : List ℕ) → HasLedTo past now
-    → path ≡ path_of now.scene (nodes.File owner file) → answer_with_room now.live.config past (request_of (Read path None)) ≡ Ok reply
+pub shown-text : (past : List Request) (now : MountSeen) (owner : Owner) (file : File) (request : Request) (reply : Answer) (text : List ℕ) → HasLedTo past now
+    → request ≡ read_of now.scene (nodes.File owner file) None → answer_with_room now.live.config past request ≡ Ok reply
     → now.live.done < most_done → text ≡ text_in reply
     → text ≡ text_answered (answer_now (terms_of now) (service_of past now) owner file)
-shown-text past now owner file path reply text mounted is given room shows =
+shown-text past now owner file request reply text mounted is given room shows =
     let few : length past < most_done = subst (λ (n : ℕ). n < most_done) mounted.lives.count room in
-    let done : live_answer now.live.config past (request_of (Read path None)) ≡ Ok reply =
-    limited-done most_done now.live.config past (request_of (Read path None)) reply given few in
-    shows ∙ ap text_answered (sym done ∙ answered-now past now owner file path mounted is)
+    let done : live_answer now.live.config past request ≡ Ok reply = limited-done most_done now.live.config past request reply given few in
+    shows ∙ ap text_answered (sym done ∙ answered-now past now owner file request mounted is)
+
+-- or it is refused
+pub shown-none : (past : List Request) (now : MountSeen) (owner : Owner) (file : File) (request : Request) (refusal : Refusal) (text : List ℕ) → HasLedTo past now
+    → request ≡ read_of now.scene (nodes.File owner file) None → IsRefusal refusal (live_answer now.live.config past request) → refusal ≢ Memory → text ≡ []
+    → text ≡ text_answered (answer_now (terms_of now) (service_of past now) owner file)
+shown-none past now owner file request refusal text mounted is refused other none =
+    none ∙ ap text_answered (sym (refused.0 other) ∙ answered-now past now owner file request mounted is)
 
 -- ---- steps
 

@@ -84,7 +84,7 @@ told-run g past after done lines text fault told is runs = elim is [
       (memory-run g past 0 lines (record { past = after; done = done; refused = Some (record { text = text; fault = fault }) }) refl runs)
 ]
 
-runs-for : (g : Terms) (past after : List Request) (done : ℕ) (lines : List LineAsked) (stop : Option Stop) (refused : Option LineRefused) → IsRefusedFor stop refused
+pub runs-for : (g : Terms) (past after : List Request) (done : ℕ) (lines : List LineAsked) (stop : Option Stop) (refused : Option LineRefused) → IsRefusedFor stop refused
     → IsRun g past 0 lines (record { past = after; done = done; refused = refused_line stop })
     → IsRun g past 0 lines (record { past = after; done = done; refused = refused })
 runs-for g past after done lines None refused is runs =

@@ -1,5 +1,5 @@
 -- The worked sessions, computed, and the one in bytes by its turns. Each definition that they need and that doesn't unfold by itself is named once.
-use Rattle.std.proofs.Common.{◌≡◌, ℕ, true, List, [], ◌∷◌, ◌++◌, map, refl, subst}
+use Rattle.std.proofs.Common.{◌≡◌, ℕ, true, List, [], ◌∷◌, map, refl, subst}
 use Rattle.std.specs.Prelude.{codes}
 use Rattle.std.specs.Fmt.{digits}
 use Rattle.trace_record.specs.Record.{head_bytes, head_of, timestamp}
@@ -28,7 +28,7 @@ use Rattle.mount_replies.specs.Injections.{left_out, pairs_of_line}
 use Rattle.mount_replies.specs.Lines.{command_lines, stream_lines}
 use Rattle.fuse_wire.specs.Parts.{number_bytes}
 use Rattle.fuse_wire.specs.declared.request.Operation.{Operation}
-use Rattle.fuse_wire.specs.declared.request.Operation.TheVariants.{Flush, Open, Read, Release, Write}
+use Rattle.fuse_wire.specs.declared.request.Operation.TheVariants.{Flush, Read, Release, Write}
 use Rattle.refusal_explanations.specs.TriggerDue.{trigger_due}
 use Rattle.refusal_explanations.specs.Wording.{refusal_words, value_words}
 use Rattle.trace_command.specs.declared.file_name.EventFile.TheVariants as per_event

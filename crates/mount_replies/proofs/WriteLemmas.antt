@@ -1,5 +1,5 @@
 -- What writes come to.
-use Rattle.std.proofs.Common.{◌≡◌, ◌≢◌, ℕ, Bool, true, false, not, if◌then◌else◌, List, [], ◌∷◌, ◌++◌, length, Option, Some, Result, Ok, Err, refl, sym, ap, subst, ◌∙◌}
+use Rattle.std.proofs.Common.{◌≡◌, ◌≢◌, ℕ, Bool, true, false, not, if◌then◌else◌, List, [], ◌∷◌, ◌++◌, length, Option, Some, None, Result, Ok, Err, ◌==◌, inl, refl, sym, ap, subst, ◌∙◌}
 use Rattle.std.specs.List.{slice_get}
 use Rattle.fuse_wire.specs.declared.errno.Errno.{Errno}
 use Rattle.fuse_wire.specs.declared.errno.Errno.TheVariants.{ENOENT, EINVAL, ENOMEM}
@@ -23,17 +23,20 @@ use Rattle.mount_tree.specs.declared.node.Owner.{Owner}
 use Rattle.mount_stub_files.specs.WrongWords.{wrong_offset, wrong_words}
 use Rattle.mount_stub_files.specs.declared.write.ToolWrite.TheVariants.{Wrong}
 use Rattle.mount_replies.specs.FileWrites.{begun_now, inject, switch_text, switched, write_file, write_kind, write_other, write_switch, write_text, write_tool, wrong_write}
-use Rattle.mount_replies.specs.Lines.{lines_of, noted_answer, noted_command, noted_if_first, written, written_lines}
-use Rattle.mount_replies.specs.Mounted.{AsksBy, HasLedTo, IsAsked, IsRun, IsStep, MountSeen, service_of, terms_of}
+use Rattle.mount_replies.specs.Lines.{errno_of_fault, lines_of, noted_answer, noted_command, noted_if_first, written, written_lines}
+use Rattle.mount_replies.specs.Mounted.{HasLedTo, IsAsked, IsRun, IsStep, MountSeen, service_of, terms_of}
 use Rattle.mount_replies.specs.Served.{emptied, emptied_first, open_flags}
 use Rattle.mount_replies.specs.Services.{OpenSeen, Service, Terms, file_at, free_handle, just_opened, node_of, scene_of, with_file, with_write}
-use Rattle.mount_replies.specs.Steps.{AsksNoting, LineAsked, Notes, Noting, Outcome, Ran, Step, errors_after, failed, write_of}
+use Rattle.mount_replies.specs.Steps.{AsksNoting, Keeps, LineAsked, LineRefused, Notes, Noting, Outcome, Ran, Step, errors_after, failed, write_of}
+use Rattle.mount_replies.specs.declared.fault.LineFault.{LineFault}
 use Rattle.mount_replies.specs.declared.fault.Progress.{Progress}
+use Rattle.mount_replies.specs.declared.fault.Stop.{Stop}
 use Rattle.mount_replies.specs.declared.writing.Target.{Target}
-use Rattle.mount_replies.specs.private.LineRuns.{RunsTo, path_command, refused_line}
+use Rattle.mount_replies.specs.private.LineRuns.{RunsTo, target_command}
 use Rattle.mount_replies.specs.private.Notings.{AsksNoted, IsAskedNoting}
-use Rattle.mount_replies.specs.private.Targets.{EndsCommands, Ends, IsTarget}
-use Rattle.mount_replies.proofs.Steps.{lines-step, noted-step, tells-step, unread-step}
+use Rattle.mount_replies.specs.private.Targets.{EndsCommands, IsRefusedFor, IsTarget, NotesLine, noted_target}
+use Rattle.mount_replies.proofs.Steps.{lines-step, noted-step, tells-step}
+use Rattle.mount_replies.proofs.StreamSteps.{runs-for}
 
 -- a file that is not `inject`
 pub other-kind : (g : Terms) (s : Service) (handle lock_owner pid : ℕ) (bytes : List ℕ) (own : OpenSeen) (file : File)
@@ -51,8 +54,6 @@ other-kind g s handle lock_owner pid bytes own (files.EventId event) other = ref
 other-kind g s handle lock_owner pid bytes own files.ErrorLog other = refl
 other-kind g s handle lock_owner pid bytes own (files.Inject event) other = absurd (other event refl)
 
--- ---- what is noted
-
 -- ---- one command that is noted
 
 -- memory is refused before it is
@@ -68,18 +69,44 @@ unnoted past old request error path text shown at mounted = record {
   errors = refl;
 }
 
--- it is asked of the tracer, where the errors had one more, and then are those that they become
-pub noted-asked : (past : List Request) (old mid : MountSeen) (request : Request) (answer : Result Answer Refusal) (noting : Result Answer Refusal → Noting)
-    (began now : List ErrorSeen) → IsAsked past (record old { errors = began }) mid request answer → now ≡ errors_after (noting answer) old.errors
-    → IsAskedNoting past old (record mid { errors = now }) request noting answer
-noted-asked past old mid request answer noting began now asked is = record {
+-- it was done
+pub noted-done : (past : List Request) (old mid : MountSeen) (request : Request) (answer : Answer) (error : ErrorSeen) (path text shown : List ℕ) (at : ℕ)
+    → IsAsked past old mid request (Ok answer) → IsAskedNoting past old mid request (noted_answer error path text shown at) (Ok answer)
+noted-done past old mid request answer error path text shown at asked = record {
+  answered = asked.answered;
+  mounted = asked.mounted;
+  terms = asked.terms;
+  files = asked.files;
+  parked = asked.parked;
+  counted = asked.counted;
+  errors = asked.errors;
+}
+
+-- it was refused, and there was no memory to note that
+pub noted-none : (past : List Request) (old mid : MountSeen) (request : Request) (refusal : Refusal) (error : ErrorSeen) (path text shown : List ℕ) (at : ℕ)
+    → IsAsked past old mid request (Err refusal) → IsAskedNoting past old mid request (noted_answer error path text shown at) (Err Memory)
+noted-none past old mid request refusal error path text shown at asked = record {
+  answered = λ other. absurd (other refl);
+  mounted = asked.mounted;
+  terms = asked.terms;
+  files = asked.files;
+  parked = asked.parked;
+  counted = asked.counted;
+  errors = asked.errors;
+}
+
+-- or it was noted
+pub noted-refused : (past : List Request) (old mid : MountSeen) (request : Request) (refusal : Refusal) (error : ErrorSeen) (path text shown : List ℕ) (at : ℕ)
+    (now : List ErrorSeen) → IsAsked past old mid request (Err refusal) → now ≡ errors_after (noted_answer error path text shown at (Err refusal)) mid.errors
+    → IsAskedNoting past old (record mid { errors = now }) request (noted_answer error path text shown at) (Err refusal)
+noted-refused past old mid request refusal error path text shown at now asked is = record {
   answered = asked.answered;
   mounted = record { lives = asked.mounted.lives; scene = asked.mounted.scene };
   terms = asked.terms;
   files = asked.files;
   parked = asked.parked;
   counted = asked.counted;
-  errors = is;
+  errors = is ∙ ap (λ (e : List ErrorSeen). errors_after (noted_answer error path text shown at (Err refusal)) e) asked.errors;
 }
 
 -- ---- lines that are commands
@@ -92,22 +119,23 @@ own-path past old own target mounted is =
     ∙ ap (λ (o : Owner). path_of (scene_of (terms_of old) (service_of past old)) (nodes.File o target.file)) (sym is.owner)
     ∙ ap (λ (f : File). path_of (scene_of (terms_of old) (service_of past old)) (nodes.File own.owner f)) (sym is.file_is)
 
-own-lines : (own : OpenSeen) (target : Target) (bytes path own_path : List ℕ) → IsTarget own target → path ≡ own_path
-    → lines_of (path_command path target.file) target.file target.append bytes
-    ≡ lines_of (path_command own_path own.file) own.file (not own.starts_over) bytes
-own-lines own target bytes path own_path is same =
-    ap (λ (p : List ℕ). lines_of (path_command p target.file) target.file target.append bytes) same
-    ∙ ap (λ (f : File). lines_of (path_command own_path f) f target.append bytes) (sym is.file_is)
-    ∙ ap (λ (a : Bool). lines_of (path_command own_path own.file) own.file a bytes) (sym is.append)
+own-lines : (past : List Request) (old : MountSeen) (own : OpenSeen) (target : Target) (bytes : List ℕ) → HasLedTo past old → IsTarget own target
+    → lines_of (target_command old.scene target) target.file target.append bytes
+    ≡ written_lines (scene_of (terms_of old) (service_of past old)) own.owner own.file (not own.starts_over) bytes
+own-lines past old own target bytes mounted is =
+    let S = scene_of (terms_of old) (service_of past old) in
+    ap (λ (s : SceneSeen). written_lines s target.owner target.file target.append bytes) mounted.scene
+    ∙ ap (λ (o : Owner). written_lines S o target.file target.append bytes) (sym is.owner)
+    ∙ ap (λ (f : File). written_lines S own.owner f target.append bytes) (sym is.file_is)
+    ∙ ap (λ (a : Bool). written_lines S own.owner own.file a bytes) (sym is.append)
 
-own-noting : (own : OpenSeen) (target : Target) (error own_error : ErrorSeen) (path own_path : List ℕ) (progress : Progress) → IsTarget own target
-    → error ≡ own_error → path ≡ own_path
-    → noted_if_first (noted_command error path target.file) progress.done (refused_line progress.stop)
-    ≡ noted_if_first (noted_command own_error own_path own.file) progress.done (refused_line progress.stop)
-own-noting own target error own_error path own_path progress is same there =
-    ap (λ (e : ErrorSeen). noted_if_first (noted_command e path target.file) progress.done (refused_line progress.stop)) same
-    ∙ ap (λ (p : List ℕ). noted_if_first (noted_command own_error p target.file) progress.done (refused_line progress.stop)) there
-    ∙ ap (λ (f : File). noted_if_first (noted_command own_error own_path f) progress.done (refused_line progress.stop)) (sym is.file_is)
+own-noting : (own : OpenSeen) (target : Target) (error own_error : ErrorSeen) (path own_path : List ℕ) (done : ℕ) (refused : Option LineRefused)
+    → IsTarget own target → error ≡ own_error → path ≡ own_path
+    → noted_if_first (noted_command error path target.file) done refused ≡ noted_if_first (noted_command own_error own_path own.file) done refused
+own-noting own target error own_error path own_path done refused is same there =
+    ap (λ (e : ErrorSeen). noted_if_first (noted_command e path target.file) done refused) same
+    ∙ ap (λ (p : List ℕ). noted_if_first (noted_command own_error p target.file) done refused) there
+    ∙ ap (λ (f : File). noted_if_first (noted_command own_error own_path f) done refused) (sym is.file_is)
 
 own-begun : (past : List Request) (old : MountSeen) (own : OpenSeen) (target : Target) (path : List ℕ) (time : ℕ) → IsTarget own target
     → path ≡ path_of (scene_of (terms_of old) (service_of past old)) (node_of own) → time ≡ now_of past
@@ -117,45 +145,95 @@ own-begun past old own target path time is there when =
     ∙ ap (λ (p : List ℕ). begun own.owner (now_of past) p) there
 
 -- lines were done one after another, and this was told
-pub text-step : (past : List Request) (old mid new : MountSeen) (own : OpenSeen) (target : Target) (bytes path : List ℕ) (time : ℕ)
-    (began : List ErrorSeen) (progress : Progress) (reply : Reply) → HasLedTo past old → IsTarget own target
-    → path ≡ path_of old.scene (nodes.File target.owner target.file) → time ≡ now_of past → began ≡ old.errors ++ begun target.owner time path ∷ []
-    → RunsTo past (record old { errors = began }) mid (lines_of (path_command path target.file) target.file target.append bytes) progress
-    → EndsCommands mid new target path (length bytes) progress reply
+pub text-step : (past : List Request) (old mid new : MountSeen) (own : OpenSeen) (target : Target) (bytes : List ℕ) (time : ℕ) (progress : Progress)
+    (reply : Reply) → HasLedTo past old → IsTarget own target → time ≡ now_of past
+    → path_of mid.scene (nodes.File target.owner target.file) ≡ path_of old.scene (nodes.File target.owner target.file)
+    → RunsTo past old mid (lines_of (target_command old.scene target) target.file target.append bytes) progress
+    → EndsCommands mid new target time (length bytes) progress reply
     → IsStep past old new (write_text (terms_of old) (service_of past old) target.handle own bytes) (Some reply)
-text-step past old mid new own target bytes path time began progress reply mounted is path_is time_is begins run ends =
+text-step past old mid new own target bytes time progress reply mounted is time_is stays run (refused, told, end) =
     let P = path_of (scene_of (terms_of old) (service_of past old)) (node_of own) in
-    let there : path ≡ P = path_is ∙ own-path past old own target mounted is in
-    let ran : Ran = record { past = run.after; done = progress.done; refused = refused_line progress.stop } in
+    let path : List ℕ = path_of mid.scene (nodes.File target.owner target.file) in
+    let there : path ≡ P = stays ∙ own-path past old own target mounted is in
+    let ran : Ran = record { past = run.after; done = progress.done; refused = refused } in
     let lines : List LineAsked = written_lines (scene_of (terms_of old) (service_of past old)) own.owner own.file (not own.starts_over) bytes in
     let outcome : Ran → Outcome = λ r. written target.handle (length bytes) old.files r.done r.refused in
     let noting : Ran → Noting = λ r. noted_if_first (noted_command (begun_now (terms_of old) (service_of past old) own) P own.file) r.done r.refused in
-    let end : Ends mid new (written target.handle (length bytes) mid.files progress.done (refused_line progress.stop))
-    (noted_if_first (noted_command (begun target.owner time path) path target.file) progress.done (refused_line progress.stop)) old.errors reply =
-    ends old.errors (begun target.owner time path) (run.kept.errors ∙ begins) in
     let runs : IsRun (terms_of old) past 0 lines ran =
-    subst (λ (l : List LineAsked). IsRun (terms_of old) past 0 l ran) (own-lines own target bytes path P is there) run.runs in
+    subst (λ (l : List LineAsked). IsRun (terms_of old) past 0 l ran) (own-lines past old own target bytes mounted is)
+    (runs-for (terms_of old) past run.after progress.done (lines_of (target_command old.scene target) target.file target.append bytes) progress.stop
+    refused told run.runs) in
     let files_are : mid.files ≡ old.files = run.kept.files in
-    let outcomes : written target.handle (length bytes) mid.files progress.done (refused_line progress.stop) ≡ outcome ran =
-    ap (λ (f : List (Option OpenSeen)). written target.handle (length bytes) f progress.done (refused_line progress.stop)) files_are in
-    let notings = own-noting own target (begun target.owner time path) (begun_now (terms_of old) (service_of past old) own) path P progress is
+    let outcomes : written target.handle (length bytes) mid.files progress.done refused ≡ outcome ran =
+    ap (λ (f : List (Option OpenSeen)). written target.handle (length bytes) f progress.done refused) files_are in
+    let notings : noted_if_first (noted_target mid.scene target time) progress.done refused ≡ noting ran =
+    own-noting own target (begun target.owner time path) (begun_now (terms_of old) (service_of past old) own) path P progress.done refused is
     (own-begun past old own target path time is there time_is) there in
     let replied : (outcome ran).reply ≡ Some reply = ap (λ (o : Outcome). o.reply) (sym outcomes) ∙ end.told in
     subst (λ (m : MountSeen). IsStep past old m (write_text (terms_of old) (service_of past old) target.handle own bytes) (Some reply)) (sym end.now)
-    (lines-step past old mid lines outcome noting ran
-    (written target.handle (length bytes) mid.files progress.done (refused_line progress.stop)).files
-    (errors_after (noted_if_first (noted_command (begun target.owner time path) path target.file) progress.done (refused_line progress.stop)) old.errors)
+    (lines-step past old mid lines outcome noting ran (written target.handle (length bytes) mid.files progress.done refused).files
+    (errors_after (noted_if_first (noted_target mid.scene target time) progress.done refused) mid.errors)
     reply run.mounted run.kept.terms run.kept.parked run.kept.counted runs replied (ap (λ (o : Outcome). o.files) outcomes)
-    (ap (λ (n : Noting). errors_after n old.errors) notings))
+    (ap (λ (n : Noting). errors_after n mid.errors) notings ∙ ap (λ (e : List ErrorSeen). errors_after (noting ran) e) run.kept.errors))
 
--- or memory was refused before
-pub memory-text : (past : List Request) (old : MountSeen) (own : OpenSeen) (handle : ℕ) (bytes : List ℕ) → HasLedTo past old
-    → IsStep past old old (write_text (terms_of old) (service_of past old) handle own bytes) (Some (replies.Error ENOMEM))
-memory-text past old own handle bytes mounted =
-    let P = path_of (scene_of (terms_of old) (service_of past old)) (node_of own) in
-    unread-step past old (written_lines (scene_of (terms_of old) (service_of past old)) own.owner own.file (not own.starts_over) bytes)
-    (λ (r : Ran). written handle (length bytes) old.files r.done r.refused)
-    (λ (r : Ran). noted_if_first (noted_command (begun_now (terms_of old) (service_of past old) own) P own.file) r.done r.refused) mounted refl refl
+-- how a write of lines ends: all were done, or some before the one that was not, or none was, which is noted
+pub commands-ended : (old : MountSeen) (target : Target) (time size : ℕ) (progress : Progress) (files : List (Option OpenSeen)) → progress.stop ≡ None
+    → files ≡ (if progress.done == 0 then old.files else with_write target.handle old.files)
+    → EndsCommands old (record old { files = files }) target time size progress (replies.Written size)
+commands-ended old target time size progress files all is =
+    (None, subst (λ (s : Option Stop). IsRefusedFor s None) (sym all) refl, record { told = refl; now = ap (λ (f : List (Option OpenSeen)). record old { files = f }) is })
+
+pub commands-more : (old : MountSeen) (target : Target) (time size : ℕ) (progress : Progress) (stop : Stop) (files : List (Option OpenSeen))
+    → progress.stop ≡ Some stop → (progress.done == 0) ≡ false → files ≡ with_write target.handle old.files
+    → EndsCommands old (record old { files = files }) target time size progress (replies.Written progress.done)
+commands-more old target time size progress stop files stopped some is =
+    let line : LineRefused = record { text = stop.line.now; fault = stop.fault } in
+    let outcome : written target.handle size old.files progress.done (Some line) ≡ record { reply = Some (replies.Written progress.done); files = with_write target.handle old.files } =
+    ap (λ (t : Bool). if t then record { reply = Some (replies.Error (errno_of_fault line.fault)); files = old.files }
+    else record { reply = Some (replies.Written progress.done); files = with_write target.handle old.files }) some in
+    let noting : noted_if_first (noted_target old.scene target time) progress.done (Some line) ≡ Keeps =
+    ap (λ (t : Bool). if t then noted_target old.scene target time line.text line.fault else Keeps) some in (
+      Some line,
+      subst (λ (s : Option Stop). IsRefusedFor s (Some line)) (sym stopped) (stop.fault, inl refl, refl),
+      record {
+        told = ap (λ (o : Outcome). o.reply) outcome;
+        now = ap (λ (f : List (Option OpenSeen)). record old { files = f }) (is ∙ ap (λ (o : Outcome). o.files) (sym outcome))
+            ∙ ap (λ (n : Noting). record old { files = (written target.handle size old.files progress.done (Some line)).files; errors = errors_after n old.errors }) (sym noting);
+      },
+    )
+
+pub commands-refused : (old new : MountSeen) (target : Target) (time size : ℕ) (progress : Progress) (stop : Stop) (told : LineFault) (errno : Errno)
+    → progress.stop ≡ Some stop → (progress.done == 0) ≡ true → NotesLine old new target time stop told → errno ≡ errno_of_fault told
+    → EndsCommands old new target time size progress (replies.Error errno)
+commands-refused old new target time size progress stop told errno stopped none noted is =
+    let line : LineRefused = record { text = stop.line.now; fault = told } in
+    let outcome : written target.handle size old.files progress.done (Some line) ≡ record { reply = Some (replies.Error (errno_of_fault told)); files = old.files } =
+    ap (λ (t : Bool). if t then record { reply = Some (replies.Error (errno_of_fault told)); files = old.files }
+    else record { reply = Some (replies.Written progress.done); files = with_write target.handle old.files }) none in
+    let noting : noted_if_first (noted_target old.scene target time) progress.done (Some line) ≡ noted_target old.scene target time stop.line.now told =
+    ap (λ (t : Bool). if t then noted_target old.scene target time stop.line.now told else Keeps) none in (
+      Some line,
+      subst (λ (s : Option Stop). IsRefusedFor s (Some line)) (sym stopped) (told, noted.0, refl),
+      record {
+        told = ap (λ (o : Outcome). o.reply) outcome ∙ ap (λ (e : Errno). Some (replies.Error e)) (sym is);
+        now = noted.1 ∙ ap (λ (n : Noting). record old { errors = errors_after n old.errors }) (sym noting)
+            ∙ ap (λ (f : List (Option OpenSeen)). record old { files = f; errors = errors_after (noted_if_first (noted_target old.scene target time) progress.done (Some line)) old.errors })
+            (sym (ap (λ (o : Outcome). o.files) outcome));
+      },
+    )
+
+-- why no line was done is noted, but where memory was refused
+pub line-noted : (old mid : MountSeen) (target : Target) (time : ℕ) (path : List ℕ) (stop : Stop) (began errors : List ErrorSeen)
+    → path ≡ path_of old.scene (nodes.File target.owner target.file) → began ≡ old.errors ++ begun target.owner time path ∷ []
+    → ((before : List ErrorSeen) (error : ErrorSeen) → began ≡ before ++ error ∷ []
+    → errors ≡ errors_after (noted_command error path target.file stop.line.now stop.fault) before)
+    → NotesLine old (record old { errors = errors }) target time stop stop.fault
+line-noted old mid target time path stop began errors there begins notes = (
+  inl refl,
+  ap (λ (e : List ErrorSeen). record old { errors = e })
+      (notes old.errors (begun target.owner time path) begins
+      ∙ ap (λ (p : List ℕ). errors_after (noted_command (begun target.owner time p) p target.file stop.line.now stop.fault) old.errors) there),
+)
 
 -- ---- files that tools ask for
 
@@ -226,33 +304,6 @@ wrong-step past old mid own owner file handle bytes errors mounted owner_is file
     subst (λ (m : MountSeen). IsStep past old m (write_tool (terms_of old) (service_of past old) handle own bytes Wrong) (Some (replies.Error EINVAL)))
     (ap (λ (m : MountSeen). record m { errors = errors }) (sym begins))
     (tells-step past old (wrong_write (terms_of old) (service_of past old) own bytes) true (replies.Error EINVAL) old.files old.files errors mounted refl noted)
-
--- ---- one command that is noted
-
--- a write was begun, and then asked
-pub begun-asked : (past : List Request) (old first mid : MountSeen) (request : Request) (answer : Result Answer Refusal)
-    (noting : Result Answer Refusal → Noting) (error : ErrorSeen) (now : List ErrorSeen)
-    → first ≡ record old { errors = old.errors ++ error ∷ [] } → HasLedTo past old → (HasLedTo past first → IsAsked past first mid request answer)
-    → (mid.errors ≡ old.errors ++ error ∷ [] → now ≡ errors_after (noting answer) old.errors)
-    → IsAskedNoting past old (record mid { errors = now }) request noting answer
-begun-asked past old first mid request answer noting error now begins mounted asks becomes =
-    let there : HasLedTo past first = subst (λ (m : MountSeen). HasLedTo past m) (sym begins) (record { lives = mounted.lives; scene = mounted.scene }) in
-    let asked : IsAsked past first mid request answer = asks there in
-    let from : IsAsked past (record old { errors = old.errors ++ error ∷ [] }) mid request answer =
-    subst (λ (m : MountSeen). IsAsked past m mid request answer) begins asked in
-    noted-asked past old mid request answer noting (old.errors ++ error ∷ []) now from (becomes from.errors)
-
--- the write of a text to another file by its path
-pub write-noted : (past : List Request) (old first asked mid : MountSeen) (path own_path text : List ℕ) (answer : Result Answer Refusal)
-    (noting : Result Answer Refusal → Noting) (error : ErrorSeen) (now : List ErrorSeen)
-    → first ≡ record old { errors = old.errors ++ error ∷ [] } → HasLedTo past old
-    → AsksBy first asked (request_of (commands.Write path false text)) answer → mid ≡ asked → path ≡ own_path
-    → (mid.errors ≡ old.errors ++ error ∷ [] → now ≡ errors_after (noting answer) old.errors)
-    → IsAskedNoting past old (record mid { errors = now }) (request_of (commands.Write own_path false text)) noting answer
-write-noted past old first asked mid path own_path text answer noting error now begins mounted asks is there becomes =
-    begun-asked past old first mid (request_of (commands.Write own_path false text)) answer noting error now begins mounted
-    (λ (led : HasLedTo past first). subst (λ (m : MountSeen). IsAsked past first m (request_of (commands.Write own_path false text)) answer) (sym is)
-    (subst (λ (p : List ℕ). IsAsked past first asked (request_of (commands.Write p false text)) answer) there (asks past led))) becomes
 
 -- ---- a switch
 

@@ -203,11 +203,11 @@ pub data IsBlamed (g : Terms) (s : Service) (pid : ℕ) (operation : Operation) 
       → (KeepLines s → IsFirstNotDone g s pid operation file event text fault) → errno ≡ errno_of_fault fault
       → offset ≡ injection_offset event text (refusal_in fault) → IsBlamed g s pid operation file text offset errno
   -- of one that has not ended and is too long, the first that has no room
-  OfLongLine : EndsLines operation → (KeepLines s → IsAllNotDone operation file text) → errno ≡ EINVAL → offset ≡ most_kept
-      → IsBlamed g s pid operation file text offset errno
+  OfLongLine : (event : Definition) → EndsLines operation → event_injected s file.file ≡ Some event → (KeepLines s → IsAllNotDone operation file text)
+      → errno ≡ EINVAL → offset ≡ most_kept → IsBlamed g s pid operation file text offset errno
   -- of what was written to a file that tools ask for, where its first word begins, if no byte of it can be taken
-  OfWord : Writes operation text → tool_write g.config (scene_of g s) file.owner file.file text ≡ writes.Wrong → errno ≡ EINVAL → offset ≡ wrong_offset text
-      → IsBlamed g s pid operation file text offset errno
+  OfWord : Writes operation text → kind_of_file file.file ≡ kinds.Tool → tool_write g.config (scene_of g s) file.owner file.file text ≡ writes.Wrong
+      → errno ≡ EINVAL → offset ≡ wrong_offset text → IsBlamed g s pid operation file text offset errno
   -- or if the switch that it names refuses it
   OfSwitch : (switch : File) (on : Bool) (size : ℕ) (refusal : Refusal) → Writes operation text
       → tool_write g.config (scene_of g s) file.owner file.file text ≡ writes.Switch switch on size → IsNotWritten g s file switch (switch_text on) refusal

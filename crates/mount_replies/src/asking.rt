@@ -1,19 +1,23 @@
 //! Commands that a mounted tracer asks of its tracer.
 //!
-//! The folders and files have to be those that the commands done give. A command that may change them is first noted in the scene, which takes memory,
-//! and the note is taken back if the command is refused.
+//! A file is read and written by its address; a path is made only to note a refusal. The folders and files have to be those that the commands done give: a
+//! command that may change them is first noted in the scene, which takes memory, and the note is taken back if the command is refused.
 
-ghost use Rattle.std.specs.Prelude.{◌≡◌, ◌∷◌, ◌++◌, [], Bool, false, IfOk, OnErr, OnOk, List};
+ghost use Rattle.std.specs.Prelude.{◌≡◌, ◌∷◌, ◌++◌, [], Bool, false, true, IfOk, None, OnErr, OnOk, List, Some};
+ghost use Rattle.std.specs.Result.{result_ok};
+ghost use Rattle.trace_format.specs.Reading.{definition_of};
 ghost use Rattle.trace_command.specs.Requests.{Request, request_of};
 ghost use Rattle.trace_command.specs.declared.command.Command.TheVariants as commands;
 ghost use Rattle.tracer_specification.specs.Settings.{declares, made, now_of, removed};
 ghost use Rattle.error_log.specs.Errors.{begun};
+ghost use Rattle.mount_tree.specs.Children.{is_there};
 ghost use Rattle.mount_tree.specs.NodePaths.{path_of};
 ghost use Rattle.mount_tree.specs.declared.node.Node.TheVariants as nodes;
 ghost use Rattle.mount_replies.specs.Lines.{noted_answer};
-ghost use Rattle.mount_replies.specs.Mounted.{AsksBy, HasLedTo, IsQuiet};
+ghost use Rattle.mount_replies.specs.Mounted.{AsksBy, HasLedTo, IsAsked, IsQuiet};
 ghost use Rattle.mount_replies.specs.Served.{instance_path};
 ghost use Rattle.mount_replies.specs.Steps.{read_of, write_of};
+ghost use Rattle.mount_replies.specs.private.LineRuns.{StaysThere};
 ghost use Rattle.mount_replies.specs.private.Notings.{AsksNoted};
 
 use crate::errno::errno_of_refused;
@@ -22,23 +26,10 @@ use crate::noting::note_answer;
 use fuse_wire::Errno;
 use mount_tree::{File, Node, Owner};
 use std::alloc::{AllocError, Global};
-use trace_command::{Command, FileName, Refusal, Reply, address_of, instance_of};
-use trace_format::{DefinitionFault, EventDef};
+use trace_command::{Command, Refusal, Reply, instance_of};
+use trace_format::EventDef;
 use trace_lex::Text;
-
-/// The event that a write of this text to this path declares, if it declares one.
-fn declared(alloc: Global, path: &[u8], text: &[u8]) -> Result<Option<EventDef>, AllocError>
-    ensures { (append : Bool) → IfOk result (λ event. event ≡ declares (request_of (commands.Write path.now append text.now))) }
-{
-    let Some(FileName::SyntheticEvents) = address_of(path).file else {
-        return Ok(None);
-    };
-    match EventDef::parse(alloc, text) {
-        Ok(event) => Ok(Some(event)),
-        Err(DefinitionFault::BadDefinition { .. }) => Ok(None),
-        Err(DefinitionFault::Memory) => Err(AllocError),
-    }
-}
+use trace_script::declared;
 
 /// The path of an instance's folder.
 fn instance_path(alloc: Global, name: &[u8]) -> Result<Text, AllocError>
@@ -67,47 +58,103 @@ impl Mount {
         self.live.ask(command)
     }
 
-    /// Reads a file; of a pipe at most so many records.
+    /// Reads a file that is there; of a pipe at most so many records.
     pub(crate) fn ask_read(
         &mut self,
         owner: Owner,
         file: File,
         limit: Option<u64>,
     ) -> Result<Reply, Refusal>
+        requires { is_there self.old.scene (nodes.File owner file) ≡ true }
         ensures { AsksBy self.old self.new (read_of self.old.scene (nodes.File owner file) limit) result }
     {
-        let Ok(path) = self.path_of(owner, file) else {
-            return Err(Refusal::Memory);
-        };
-        self.ask(Command::Read { path, limit })
+        let address = self.scene.address(owner, file);
+        self.live.read_at(address, limit)
     }
 
-    /// Writes a text to the file of a path, by `>` or, to append, by `>>`.
+    /// Writes a text to a file that is there, by `>` or, to append, by `>>`.
     pub(crate) fn ask_write(
         &mut self,
-        path: &[u8],
+        owner: Owner,
+        file: File,
         append: bool,
         text: &[u8],
     ) -> Result<Reply, Refusal>
-        ensures { AsksBy self.old self.new (request_of (commands.Write path.now append text.now)) result }
+        requires { is_there self.old.scene (nodes.File owner file) ≡ true }
+        ensures asked { AsksBy self.old self.new (write_of self.old.scene (nodes.File owner file) append text.now) result }
+        ensures stays { StaysThere self.old.scene self.new.scene owner file }
+        ensures refused { OnErr result (self.new.scene ≡ self.old.scene) }
     {
-        let Ok(event) = declared(self.alloc, path, text) else {
-            return Err(Refusal::Memory);
-        };
-        let Ok(path) = Text::from_slice(self.alloc, path) else {
-            return Err(Refusal::Memory);
-        };
-        let Ok(text) = Text::from_slice(self.alloc, text) else {
-            return Err(Refusal::Memory);
-        };
-        let command = Command::Write { path, append, text };
-        match event {
-            Some(event) => self.ask_declaration(command, &event),
-            None => self.ask(command),
+        match file {
+            File::SyntheticEvents => self.declare(owner, append, text),
+            _ => self.write_at(owner, file, append, text),
         }
     }
 
-    /// Notes a write to a file that may be refused. If memory is refused, nothing has changed.
+    // Writes a text to a file that is there, which declares no event.
+    fn write_at(
+        &mut self,
+        owner: Owner,
+        file: File,
+        append: bool,
+        text: &[u8],
+    ) -> Result<Reply, Refusal>
+        requires { is_there self.old.scene (nodes.File owner file) ≡ true }
+        ensures asked { (past : List Request) → HasLedTo past self.old
+            → declares (write_of self.old.scene (nodes.File owner file) append text.now) ≡ None
+            → IsAsked past self.old self.new (write_of self.old.scene (nodes.File owner file) append text.now) result }
+        ensures scene { self.new.scene ≡ self.old.scene }
+    {
+        let address = self.scene.address(owner, file);
+        self.live.write_at(address, append, text)
+    }
+
+    // Writes a text to the declarations.
+    fn declare(&mut self, owner: Owner, append: bool, text: &[u8]) -> Result<Reply, Refusal>
+        requires { is_there self.old.scene (nodes.File owner File.SyntheticEvents) ≡ true }
+        ensures asked { AsksBy self.old self.new (write_of self.old.scene (nodes.File owner File.SyntheticEvents) append text.now) result }
+        ensures stays { StaysThere self.old.scene self.new.scene owner File.SyntheticEvents }
+        ensures refused { OnErr result (self.new.scene ≡ self.old.scene) }
+    {
+        match declared(self.alloc, text) {
+            Ok(Some(event)) => self.declare_event(owner, append, text, &event),
+            Ok(None) => self.write_at(owner, File::SyntheticEvents, append, text),
+            Err(_) => Err(Refusal::Memory),
+        }
+    }
+
+    // Writes a text that declares this event.
+    fn declare_event(
+        &mut self,
+        owner: Owner,
+        append: bool,
+        text: &[u8],
+        event: &EventDef,
+    ) -> Result<Reply, Refusal>
+        requires there { is_there self.old.scene (nodes.File owner File.SyntheticEvents) ≡ true }
+        requires declared { result_ok (definition_of text.now) ≡ Some event.now }
+        ensures asked { AsksBy self.old self.new (write_of self.old.scene (nodes.File owner File.SyntheticEvents) append text.now) result }
+        ensures stays { StaysThere self.old.scene self.new.scene owner File.SyntheticEvents }
+        ensures refused { OnErr result (self.new.scene ≡ self.old.scene) }
+    {
+        if !self.scene.can_declare() {
+            return Err(Refusal::Memory);
+        }
+        let name = event.name();
+        let Ok(()) = self.scene.add_event(name) else {
+            return Err(Refusal::Memory);
+        };
+        let address = self.scene.address(owner, File::SyntheticEvents);
+        match self.live.write_at(address, append, text) {
+            Ok(reply) => Ok(reply),
+            Err(refusal) => {
+                self.scene.take_back_event(name);
+                Err(refusal)
+            }
+        }
+    }
+
+    /// Notes a write to a file that was refused. If memory is refused, nothing has changed.
     pub(crate) fn begin_note(&mut self, owner: Owner, file: File) -> Result<(), AllocError>
         ensures ok { (past : List Request) → HasLedTo past self.old → OnOk result (self.new ≡ record self.old {
           errors = self.old.errors ++ begun owner (now_of past) (path_of self.old.scene (nodes.File owner file)) ∷ [];
@@ -130,47 +177,23 @@ impl Mount {
         shown: &[u8],
         at: usize,
     ) -> Result<(), Errno>
+        requires { is_there self.old.scene (nodes.File owner asked) ≡ true }
         ensures { (past : List Request) → HasLedTo past self.old
             → AsksNoted past self.old self.new (write_of self.old.scene (nodes.File owner asked) false text.now)
             (noted_answer (begun owner (now_of past) (path_of self.old.scene (nodes.File owner file)))
             (path_of self.old.scene (nodes.File owner asked)) text.now shown.now at) result }
     {
-        let Ok(asked_path) = self.path_of(owner, asked) else {
-            return Err(Errno::ENOMEM);
-        };
-        let path = asked_path.as_bytes();
-        let Ok(()) = self.begin_note(owner, file) else {
-            return Err(Errno::ENOMEM);
-        };
-        match self.ask_write(path, false, text) {
-            Ok(_) => {
-                self.errors.take_back();
-                Ok(())
-            }
+        match self.ask_write(owner, asked, false, text) {
+            Ok(_) => Ok(()),
             Err(refusal) => {
-                note_answer(&mut self.errors, path, text, shown, at, &refusal);
+                let Ok(path) = self.path_of(owner, asked) else {
+                    return Err(Errno::ENOMEM);
+                };
+                let Ok(()) = self.begin_note(owner, file) else {
+                    return Err(Errno::ENOMEM);
+                };
+                note_answer(&mut self.errors, path.as_bytes(), text, shown, at, &refusal);
                 Err(errno_of_refused(refusal))
-            }
-        }
-    }
-
-    // Asks a command that declares this event.
-    fn ask_declaration(&mut self, command: Command, event: &EventDef) -> Result<Reply, Refusal>
-        requires { declares (request_of command) ≡ Some event.now }
-        ensures { AsksBy self.old self.new (request_of command) result }
-    {
-        if !self.scene.can_declare() {
-            return Err(Refusal::Memory);
-        }
-        let name = event.name();
-        if self.scene.add_event(name).is_err() {
-            return Err(Refusal::Memory);
-        }
-        match self.live.ask(command) {
-            Ok(reply) => Ok(reply),
-            Err(refusal) => {
-                self.scene.take_back_event(name);
-                Err(refusal)
             }
         }
     }

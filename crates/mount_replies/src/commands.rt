@@ -1,15 +1,18 @@
 //! Lines that are commands: all that is written to a file of the tracer, or, to the declarations and to a trigger, each line of it.
 
-ghost use Rattle.std.specs.Prelude.{◌≡◌, ◌<◌, ◌≤◌, ◌+◌, ◌&&◌, ◌∷◌, [], List, drop, length};
+ghost use Rattle.std.specs.Prelude.{◌≡◌, ◌<◌, ◌≤◌, ◌+◌, ◌&&◌, ◌∷◌, [], List, drop, length, true};
 ghost use Rattle.std.specs.List.{position};
 ghost use Rattle.trace_command.specs.Requests.{Request};
 ghost use Rattle.file_list.specs.FileKinds.{takes_lines};
+ghost use Rattle.mount_tree.specs.Children.{is_there};
+ghost use Rattle.mount_tree.specs.declared.node.Node.TheVariants as nodes;
 ghost use Rattle.mount_replies.specs.Lines as lines;
 ghost use Rattle.mount_replies.specs.Mounted.{HasLedTo};
-ghost use Rattle.mount_replies.specs.private.LineRuns.{DoesLine, RunsFrom, RunsTo, path_command};
+ghost use Rattle.mount_replies.specs.private.LineRuns.{DoesLine, RunsFrom, RunsTo, StaysThere, target_command};
 
 use crate::fault::{LineFault, Progress, Stop};
 use crate::mount::Mount;
+use crate::writing::Target;
 use mount_tree::File;
 use trace_command::EventFile;
 
@@ -77,37 +80,29 @@ fn is_several(file: File, text: &[u8]) -> bool
 }
 
 impl Mount {
-    // Does a line.
-    fn do_command(
-        &mut self,
-        file: File,
-        path: &[u8],
-        append: bool,
-        line: &[u8],
-    ) -> Result<(), LineFault>
-        ensures { (past : List Request) → HasLedTo past self.old
-            → DoesLine past self.old self.new (path_command path.now file append line.now) result }
+    // Does a line, by `>` or, to append, by `>>`.
+    fn do_command(&mut self, target: Target, append: bool, line: &[u8]) -> Result<(), LineFault>
+        requires { is_there self.old.scene (nodes.File target.owner target.file) ≡ true }
+        ensures did { (past : List Request) → HasLedTo past self.old
+            → DoesLine past self.old self.new (target_command self.old.scene target append line.now) result }
+        ensures stays { StaysThere self.old.scene self.new.scene target.owner target.file }
     {
-        match self.ask_write(path, append, command_text(file, line)) {
+        let text = command_text(target.file, line);
+        match self.ask_write(target.owner, target.file, append, text) {
             Ok(_) => Ok(()),
             Err(refusal) => Err(LineFault::Refused(refusal)),
         }
     }
 
     // Does one line, which is all that was written but perhaps a newline.
-    fn do_one_command<'a>(
-        &mut self,
-        file: File,
-        path: &[u8],
-        append: bool,
-        size: usize,
-        line: &'a [u8],
-    ) -> Progress<'a>
+    fn do_one_command<'a>(&mut self, target: Target, size: usize, line: &'a [u8]) -> Progress<'a>
+        requires { is_there self.old.scene (nodes.File target.owner target.file) ≡ true }
         ensures runs { (past : List Request) → HasLedTo past self.old
-            → RunsTo past self.old self.new (lines.one_command (path_command path.now file) append size line.now) result }
+            → RunsTo past self.old self.new (lines.one_command (target_command self.old.scene target) target.append size line.now) result }
         ensures few { result.done ≤ size }
+        ensures stays { StaysThere self.old.scene self.new.scene target.owner target.file }
     {
-        match self.do_command(file, path, append, line) {
+        match self.do_command(target, target.append, line) {
             Ok(()) => Progress {
                 done: size,
                 stop: None,
@@ -120,20 +115,16 @@ impl Mount {
     }
 
     // Does the lines that end, and then the last one. Blank ones are none.
-    fn do_command_lines<'a>(
-        &mut self,
-        file: File,
-        path: &[u8],
-        append: bool,
-        bytes: &'a [u8],
-    ) -> Progress<'a>
+    fn do_command_lines<'a>(&mut self, target: Target, bytes: &'a [u8]) -> Progress<'a>
+        requires { is_there self.old.scene (nodes.File target.owner target.file) ≡ true }
         ensures runs { (past : List Request) → HasLedTo past self.old
             → RunsTo past self.old self.new
-            (lines.command_lines (path_command path.now file) append (length bytes.now) 0 (lines.pieces_of bytes.now)) result }
+            (lines.command_lines (target_command self.old.scene target) target.append (length bytes.now) 0 (lines.pieces_of bytes.now)) result }
         ensures few { result.done ≤ length bytes.now }
+        ensures stays { StaysThere self.old.scene self.new.scene target.owner target.file }
     {
         let mut rest = bytes;
-        let mut append = append;
+        let mut append = target.append;
         let mut from = 0usize;
         let mut done = 0usize;
         while let Some(at) = newline_at(rest) {
@@ -141,7 +132,7 @@ impl Mount {
             from += at + 1;
             rest = after_newline(rest, at);
             if !is_blank(line) {
-                if let Err(fault) = self.do_command(file, path, append, line) {
+                if let Err(fault) = self.do_command(target, append, line) {
                     return Progress {
                         done,
                         stop: Some(Stop { line, fault }),
@@ -151,27 +142,28 @@ impl Mount {
                 done = from;
             }
         }
-        self.do_last_command(file, path, append, done, bytes.len(), rest)
+        self.do_last_command(target, append, done, bytes.len(), rest)
     }
 
     // Does a line that need not end, after so many bytes were done; a blank one is none.
     fn do_last_command<'a>(
         &mut self,
-        file: File,
-        path: &[u8],
+        target: Target,
         append: bool,
         done: usize,
         size: usize,
         line: &'a [u8],
     ) -> Progress<'a>
+        requires { is_there self.old.scene (nodes.File target.owner target.file) ≡ true }
         ensures runs { (past : List Request) → HasLedTo past self.old → RunsFrom past done self.old self.new
-            (lines.command_lines (path_command path.now file) append size 0 (line.now ∷ [])) result }
+            (lines.command_lines (target_command self.old.scene target) append size 0 (line.now ∷ [])) result }
         ensures few { done ≤ size → result.done ≤ size }
+        ensures stays { StaysThere self.old.scene self.new.scene target.owner target.file }
     {
         if is_blank(line) {
             return Progress { done, stop: None };
         }
-        match self.do_command(file, path, append, line) {
+        match self.do_command(target, append, line) {
             Ok(()) => Progress {
                 done: size,
                 stop: None,
@@ -183,23 +175,19 @@ impl Mount {
         }
     }
 
-    /// Does what is written to the file of a path that one opened: one command, or, of several lines to a file that takes lines, one for each.
-    pub(crate) fn do_commands<'a>(
-        &mut self,
-        file: File,
-        path: &[u8],
-        append: bool,
-        bytes: &'a [u8],
-    ) -> Progress<'a>
-        ensures runs { (past : List Request) → HasLedTo past self.old
-            → RunsTo past self.old self.new (lines.lines_of (path_command path.now file) file append bytes.now) result }
+    /// Does what is written to an open file that is there: one command, or, of several lines to a file that takes lines, one for each.
+    pub(crate) fn do_commands<'a>(&mut self, target: Target, bytes: &'a [u8]) -> Progress<'a>
+        requires { is_there self.old.scene (nodes.File target.owner target.file) ≡ true }
+        ensures runs { (past : List Request) → HasLedTo past self.old → RunsTo past self.old self.new
+            (lines.lines_of (target_command self.old.scene target) target.file target.append bytes.now) result }
         ensures few { result.done ≤ length bytes.now }
+        ensures stays { StaysThere self.old.scene self.new.scene target.owner target.file }
     {
         let text = without_newline(bytes);
-        if is_several(file, text) {
-            self.do_command_lines(file, path, append, bytes)
+        if is_several(target.file, text) {
+            self.do_command_lines(target, bytes)
         } else {
-            self.do_one_command(file, path, append, bytes.len(), text)
+            self.do_one_command(target, bytes.len(), text)
         }
     }
 }

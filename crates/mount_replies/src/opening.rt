@@ -3,6 +3,7 @@
 ghost use Rattle.std.specs.Prelude.{◌≡◌, true, false, List, Some};
 ghost use Rattle.trace_command.specs.Requests.{Request};
 ghost use Rattle.tracer_specification.specs.Settings.{now_of};
+ghost use Rattle.mount_tree.specs.Children.{is_there};
 ghost use Rattle.mount_tree.specs.declared.node.Node.TheVariants as nodes;
 ghost use Rattle.mount_replies.specs.Mounted.{HasLedTo, IsStep, StepsBy, service_of, terms_of};
 ghost use Rattle.mount_replies.specs.Served.{clears as cleared_by, emptied, emptying_of, handed_out, open_flags as flags_of, opened, poll_file, poll_pipe as polled};
@@ -93,6 +94,7 @@ impl Mount {
 
     // OPEN of a file that is there.
     fn open_file(&mut self, owner: Owner, file: File, flags: u32) -> Reply<'static>
+        requires { is_there self.old.scene (nodes.File owner file) ≡ true }
         ensures step { (past : List Request) → HasLedTo past self.old
             → IsStep past self.old self.new (opened self.old.scene (now_of past) flags (Some (nodes.File owner file)) self.old.files) (Some result) }
         ensures short { IsShort result }
@@ -138,6 +140,7 @@ impl Mount {
     // OPEN of a file to be emptied, which asks to write something. It has its handle, which takes memory, before that is asked, and gives it back if that is
     // refused.
     fn open_emptied(&mut self, owner: Owner, file: File, emptying: Emptying) -> Reply<'static>
+        requires { is_there self.old.scene (nodes.File owner emptying.file) ≡ true }
         ensures step { (past : List Request) → HasLedTo past self.old → IsStep past self.old self.new
             (emptied self.old.scene (now_of past) (just_opened owner file false) self.old.files emptying.file emptying.text.now) (Some result) }
         ensures short { IsShort result }

@@ -1,10 +1,11 @@
 //! Reads of open files.
 
-ghost use Rattle.std.specs.Prelude.{◌≡◌, ◌≤◌, ℕ, [], List, Some, vec_capacity};
+ghost use Rattle.std.specs.Prelude.{◌≡◌, ◌≤◌, ℕ, [], List, Some, true, vec_capacity};
 ghost use Rattle.fuse_wire.specs.Replies.{reply_bytes};
 ghost use Rattle.fuse_wire.specs.declared.reply.Reply.TheVariants as replies;
 ghost use Rattle.trace_command.specs.Requests.{Request};
 ghost use Rattle.file_list.specs.FileKinds.{kind_of_file};
+ghost use Rattle.mount_tree.specs.Children.{is_there};
 ghost use Rattle.mount_tree.specs.declared.node.Node.TheVariants as nodes;
 ghost use Rattle.error_log.specs.Logs.{log_text};
 ghost use Rattle.mount_stub_files.specs.ToolTexts.{tool_text};
@@ -106,6 +107,7 @@ impl Mount {
         offset: u64,
         out: &mut Vec<u8>,
     )
+        requires there { is_there self.old.scene (nodes.File owner file) ≡ true }
         requires room { most_reply ≤ vec_capacity out.old }
         ensures told { (past : List Request) (own : OpenSeen) → HasLedTo past self.old → file_at read.handle self.old.files ≡ Some own
             → own.owner ≡ owner → own.file ≡ file → IsTold past self.old self.new
@@ -126,6 +128,7 @@ impl Mount {
 
     // READ of a file that is no pipe: it goes on in the text that an earlier read made, or makes it.
     fn read_text(&mut self, read: Parked, owner: Owner, file: File, offset: u64, out: &mut Vec<u8>)
+        requires there { is_there self.old.scene (nodes.File owner file) ≡ true }
         requires room { most_reply ≤ vec_capacity out.old }
         ensures told { (past : List Request) (own : OpenSeen) → HasLedTo past self.old → file_at read.handle self.old.files ≡ Some own
             → own.owner ≡ owner → own.file ≡ file → IsTold past self.old self.new
@@ -150,6 +153,7 @@ impl Mount {
 
     // Makes the text of a file that is no pipe.
     fn make_text(&mut self, read: Parked, owner: Owner, file: File, offset: u64, out: &mut Vec<u8>)
+        requires there { is_there self.old.scene (nodes.File owner file) ≡ true }
         requires room { most_reply ≤ vec_capacity out.old }
         ensures told { (past : List Request) → HasLedTo past self.old → IsTold past self.old self.new
             (text_made (terms_of self.old) (service_of past self.old) self.old.scene read offset owner file (kind_of_file file)) read.unique out.new.items }
@@ -195,6 +199,7 @@ impl Mount {
 
     // Makes the text of any other file: asks the tracer.
     fn read_anew(&mut self, read: Parked, owner: Owner, file: File, offset: u64, out: &mut Vec<u8>)
+        requires there { is_there self.old.scene (nodes.File owner file) ≡ true }
         requires room { most_reply ≤ vec_capacity out.old }
         ensures told { TellsBy self.old self.new
             (anew self.old.scene read.handle offset read.size (nodes.File owner file) self.old.files) read.unique out.new.items }
@@ -228,6 +233,7 @@ impl Mount {
         has_read: bool,
         out: &mut Vec<u8>,
     )
+        requires there { is_there self.old.scene (nodes.File owner file) ≡ true }
         requires room { most_reply ≤ vec_capacity out.old }
         requires empty { out.old.items ≡ [] }
         ensures told { (past : List Request) (own : OpenSeen) → HasLedTo past self.old → file_at read.handle self.old.files ≡ Some own
@@ -293,6 +299,7 @@ impl Mount {
 
     // Takes records of a pipe.
     fn read_records(&mut self, read: Parked, owner: Owner, file: File, out: &mut Vec<u8>)
+        requires there { is_there self.old.scene (nodes.File owner file) ≡ true }
         requires room { most_reply ≤ vec_capacity out.old }
         ensures told { TellsBy self.old self.new
             (taking self.old.scene read.handle read.size (nodes.File owner file) self.old.files) read.unique out.new.items }

@@ -1,8 +1,9 @@
 //! Look-ups, and the sizes that they tell: the length of what a file shows, which is remembered until a command is done.
 
-ghost use Rattle.std.specs.Prelude.{◌≡◌, List, Some, IfOk, length};
+ghost use Rattle.std.specs.Prelude.{◌≡◌, List, Some, IfOk, IfSome, length, true};
 ghost use Rattle.trace_command.specs.Requests.{Request};
 ghost use Rattle.file_list.specs.FileKinds.{kind_of_file};
+ghost use Rattle.mount_tree.specs.Children.{is_there};
 ghost use Rattle.mount_tree.specs.declared.node.Node.TheVariants as nodes;
 ghost use Rattle.mount_replies.specs.Mounted.{HasLedTo, IsStep, service_of, terms_of};
 ghost use Rattle.mount_replies.specs.Services.{count_of};
@@ -32,22 +33,26 @@ enum Telling {
 impl Mount {
     // What a read of a file that the tracer has would show now. This is no command.
     fn shown_text(&self, owner: Owner, file: File) -> Result<Text, AllocError>
+        requires { is_there self.now.scene (nodes.File owner file) ≡ true }
         ensures { (past : List Request) → HasLedTo past self.now → IfOk result (λ text.
             text ≡ sizes.text_answered (sizes.answer_now (terms_of self.now) (service_of past self.now) owner file)) }
     {
-        let path = self.path_of(owner, file)?;
-        match self.live.prepare_read(MOST_DONE, path.as_bytes(), None) {
+        let address = self.scene.address(owner, file);
+        match self.live.prepare_read_at(MOST_DONE, address, None) {
             Ok(mut prepared) => match mem::replace(&mut prepared.reply, Answer::Done) {
                 Answer::Text(text) => Ok(text),
                 Answer::Done => Ok(Text::new(self.alloc)),
             },
-            Err(Refusal::Memory) => Err(AllocError),
-            Err(_) => Ok(Text::new(self.alloc)),
+            Err(refusal) => match refusal {
+                Refusal::Memory => Err(AllocError),
+                _ => Ok(Text::new(self.alloc)),
+            },
         }
     }
 
     // What a read of a file that is no pipe would show now.
     fn text_now(&self, owner: Owner, file: File) -> Result<Text, AllocError>
+        requires { is_there self.now.scene (nodes.File owner file) ≡ true }
         ensures { (past : List Request) → HasLedTo past self.now → IfOk result (λ text.
             text ≡ sizes.text_now (terms_of self.now) (service_of past self.now) owner file) }
     {
@@ -75,6 +80,7 @@ impl Mount {
     // Counts the text of a file that is no pipe.
     #[inline(never)]
     fn count_text(&mut self, telling: Telling, owner: Owner, file: File) -> Reply<'static>
+        requires { is_there self.old.scene (nodes.File owner file) ≡ true }
         ensures step { (past : List Request) → HasLedTo past self.old → IsStep past self.old self.new
             (sizes.count_text (terms_of self.old) (service_of past self.old) (telling_of telling (terms_of self.old) (nodes.File owner file)) owner file) (Some result) }
         ensures short { IsShort result }
@@ -124,6 +130,7 @@ impl Mount {
 
     // Tells of a file.
     fn tell_file(&mut self, telling: Telling, owner: Owner, file: File) -> Reply<'static>
+        requires { is_there self.old.scene (nodes.File owner file) ≡ true }
         ensures step { (past : List Request) → HasLedTo past self.old → IsStep past self.old self.new
             (sizes.size_by_kind (terms_of self.old) (service_of past self.old) (telling_of telling (terms_of self.old) (nodes.File owner file))
             owner file (kind_of_file file)) (Some result) }
@@ -143,6 +150,7 @@ impl Mount {
 
     // Tells of a node, if it is there.
     fn tell_node(&mut self, telling: Telling, node: Option<Node>) -> Reply<'static>
+        requires { IfSome node (λ n. is_there self.old.scene n ≡ true) }
         ensures step { (past : List Request) → HasLedTo past self.old → IsStep past self.old self.new
             (sized_step telling (terms_of self.old) (service_of past self.old) node) (Some result) }
         ensures short { IsShort result }

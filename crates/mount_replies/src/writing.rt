@@ -1,9 +1,11 @@
 //! Writes to open files, and folders that are made and removed.
 
-ghost use Rattle.std.specs.Prelude.{◌≡◌, ◌<◌, ◌^◌, ◌++◌, ◌∷◌, [], List, Some, length};
+ghost use Rattle.std.specs.Prelude.{◌≡◌, ◌<◌, ◌^◌, List, Some, length, true};
 ghost use Rattle.trace_command.specs.Requests.{Request};
 ghost use Rattle.tracer_specification.specs.Settings.{now_of};
 ghost use Rattle.file_list.specs.FileKinds.{kind_of_file};
+ghost use Rattle.mount_tree.specs.Children.{is_there};
+ghost use Rattle.mount_tree.specs.declared.node.Node.TheVariants as nodes;
 ghost use Rattle.mount_stub_files.specs.ToolWrites.{tool_write};
 ghost use Rattle.mount_replies.specs.FileWrites.{switch_text as text_of_switch, write_file, write_log as log_step, write_other as other_step, write_same, write_switch as switch_step, write_text as text_step, write_tool as tool_step};
 ghost use Rattle.mount_replies.specs.Mounted.{HasLedTo, IsStep, StepsBy, service_of, terms_of};
@@ -11,15 +13,16 @@ ghost use Rattle.mount_replies.specs.Served.{make_folder as making, make_instanc
 ghost use Rattle.mount_replies.specs.Services.{OpenSeen, file_at};
 ghost use Rattle.mount_replies.specs.Told.{known};
 ghost use Rattle.mount_replies.specs.private.ShortReplies.{IsShort};
-ghost use Rattle.mount_replies.specs.private.Targets.{EndsCommands, IsTarget};
+ghost use Rattle.mount_replies.specs.private.Targets.{EndsCommands, IsTarget, NotesLine};
 
 use crate::errno::errno_of;
-use crate::fault::Progress;
+use crate::fault::{LineFault, Progress, Stop};
 use crate::mount::Mount;
 use crate::noting::{forget, note_command, note_wrong};
 use fuse_wire::{Errno, Reply};
 use mount_stub_files::{ToolWrite, write_of, wrong_offset};
 use mount_tree::{File, FileKind, Folder, Node, Owner};
+use trace_command::Refusal;
 
 /// An open file that is written to: its handle, whose it is and which, and whether a write appends.
 #[derive(Clone, Copy)]
@@ -71,7 +74,8 @@ impl Mount {
 
     // WRITE of a file other than `inject`.
     fn write_other(&mut self, target: Target, bytes: &[u8]) -> Reply<'static>
-        requires { length bytes.now < 2 ^ 32 }
+        requires few { length bytes.now < 2 ^ 32 }
+        requires there { is_there self.old.scene (nodes.File target.owner target.file) ≡ true }
         ensures step { (past : List Request) (own : OpenSeen) → HasLedTo past self.old → IsTarget own target → IsStep past self.old self.new
             (other_step (terms_of self.old) (service_of past self.old) target.handle own bytes.now (kind_of_file target.file)) (Some result) }
         ensures short { IsShort result }
@@ -155,6 +159,7 @@ impl Mount {
         size: u32,
         bytes: &[u8],
     ) -> Reply<'static>
+        requires { is_there self.old.scene (nodes.File target.owner switch) ≡ true }
         ensures step { (past : List Request) (own : OpenSeen) → HasLedTo past self.old → IsTarget own target → IsStep past self.old self.new
             (switch_step (terms_of self.old) (service_of past self.old) target.handle own bytes.now switch on size) (Some result) }
         ensures short { IsShort result }
@@ -178,56 +183,62 @@ impl Mount {
 
     // WRITE of a file that the tracer has.
     fn write_text(&mut self, target: Target, bytes: &[u8]) -> Reply<'static>
-        requires { length bytes.now < 2 ^ 32 }
+        requires few { length bytes.now < 2 ^ 32 }
+        requires there { is_there self.old.scene (nodes.File target.owner target.file) ≡ true }
         ensures step { (past : List Request) (own : OpenSeen) → HasLedTo past self.old → IsTarget own target → IsStep past self.old self.new
             (text_step (terms_of self.old) (service_of past self.old) target.handle own bytes.now) (Some result) }
         ensures short { IsShort result }
     {
-        let Target { owner, file, .. } = target;
-        let Ok(text) = self.path_of(owner, file) else {
-            return Reply::Error(Errno::ENOMEM);
-        };
-        let path = text.as_bytes();
         let time = self.live.now();
-        let Ok(()) = self.errors.begin(owner, time, path) else {
-            return Reply::Error(Errno::ENOMEM);
-        };
-        let progress = self.do_commands(file, path, target.append, bytes);
-        self.end_commands(target, path, bytes.len() as u32, progress)
+        let progress = self.do_commands(target, bytes);
+        self.end_commands(target, time, bytes.len() as u32, progress)
     }
 
-    // Tells how many bytes were written of lines that are commands, or why none were, which is noted.
+    // Tells how many bytes were written of lines that are commands, or why none were, which is noted of a write that came at this time.
     fn end_commands(
         &mut self,
         target: Target,
-        path: &[u8],
+        time: u64,
         size: u32,
         progress: Progress<'_>,
     ) -> Reply<'static>
         requires { progress.done < 2 ^ 32 }
-        ensures ends { EndsCommands self.old self.new target path.now size progress.entry result }
+        ensures ends { EndsCommands self.old self.new target time size progress.entry result }
         ensures short { IsShort result }
     {
-        match progress.stop {
-            Some(stop) if progress.done == 0 => {
-                note_command(&mut self.errors, path, target.file, stop.line, &stop.fault);
-                Reply::Error(stop.fault.errno())
-            }
-            Some(_) => {
-                self.errors.take_back();
+        let Progress { done, stop } = progress;
+        let Some(stop) = stop else {
+            if done > 0 {
                 self.files.note_write(target.handle);
-                Reply::Written {
-                    size: progress.done as u32,
-                }
             }
-            None => {
-                self.errors.take_back();
-                if progress.done > 0 {
-                    self.files.note_write(target.handle);
-                }
-                Reply::Written { size }
-            }
+            return Reply::Written { size };
+        };
+        if done > 0 {
+            self.files.note_write(target.handle);
+            return Reply::Written { size: done as u32 };
         }
+        Reply::Error(self.note_line(target, time, stop).errno())
+    }
+
+    // Notes why a line is not done, of a write that came at this time. What is told: that, or that there was no memory to note it.
+    fn note_line(&mut self, target: Target, time: u64, stop: Stop<'_>) -> LineFault
+        ensures { NotesLine self.old self.new target time stop.entry result }
+    {
+        let Target { owner, file, .. } = target;
+        let Ok(path) = self.path_of(owner, file) else {
+            return LineFault::Refused(Refusal::Memory);
+        };
+        let Ok(()) = self.errors.begin(owner, time, path.as_bytes()) else {
+            return LineFault::Refused(Refusal::Memory);
+        };
+        note_command(
+            &mut self.errors,
+            path.as_bytes(),
+            file,
+            stop.line,
+            &stop.fault,
+        );
+        stop.fault
     }
 
     /// MKDIR: in `instances` alone.

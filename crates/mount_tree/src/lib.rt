@@ -1,6 +1,7 @@
 //! The folders and files of a mounted tracer: which there are, what they are called, and the numbers by which a file system knows them.
 #![tactic(auto)]
 
+mod address;
 mod entry;
 mod fixed;
 pub mod laws;

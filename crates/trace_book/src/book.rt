@@ -29,7 +29,7 @@ use command_log::{Entries, History};
 use std::alloc::Global;
 use std::marker::Model;
 use std::slice;
-use trace_command::{BorrowedEmission, Command, Config, Refusal, Reply};
+use trace_command::{BorrowedEmission, Command, Config, Refusal, Reply, address_of};
 use trace_format::{Pair, borrowed};
 use trace_instance::Instance;
 use tracer::{Tracer, let_go, single};
@@ -203,7 +203,7 @@ impl Book {
             (record { ticket = ticket; by = by; command = Command.Read path.now limit }) result }
     {
         let room = self.live.config().history_limit;
-        let prepared = self.live.prepare_read(room, path, limit)?;
+        let prepared = self.live.prepare_read_at(room, address_of(path), limit)?;
         self.history.write_read_ahead(ticket, by, path, limit)?;
         let shown = self.live.carry_out(prepared)?;
         self.history.append_written();

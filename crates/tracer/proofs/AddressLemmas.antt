@@ -1,5 +1,10 @@
 -- Where paths lead.
-use Rattle.std.proofs.Common.{◌≡◌, true, false, Bool, List, [], ℕ, ◌∷◌, Option, Some, None, is_some, refl, subst, sym, if◌then◌else◌}
+use Rattle.std.proofs.Common.{◌≡◌, true, false, Bool, List, [], ℕ, ◌∷◌, Option, Some, None, is_some, refl, ap, subst, sym, if◌then◌else◌}
+use Rattle.trace_command.specs.FileNames.{address_at}
+use Rattle.trace_command.specs.Requests.{ReadFile, request_of}
+use Rattle.trace_command.specs.declared.address.Address.{Address as Borrowed}
+use Rattle.trace_command.specs.declared.command.Command.TheVariants.{Read}
+use Rattle.tracer_state.specs.AddressedRequests.{read_at}
 use Rattle.trace_command.specs.Paths.{Address, File, OfCpu, OfEvent, OfInstance, SyntheticEvents, address_in, address_of, below_mount_point, file_in, file_of_instance, is_instance, parts}
 
 abbrev Declares : Address → Type 0
@@ -28,3 +33,8 @@ pub paths-declare : (path : List ℕ) (address : Address) → address ≡ addres
     → file_of_instance address.file ≡ address.file
 unfolding address_of
 paths-declare path address is = subst Declares (sym is) (parts-declare (parts (below_mount_point path)))
+
+-- a read of the file that a path leads to
+pub read-leads : (path : List ℕ) (address : Borrowed) (limit : Option ℕ) → address_at address ≡ address_of path
+    → read_at address limit ≡ request_of (Read path limit)
+read-leads path address limit is = ap (λ (a : Address). ReadFile a.instance a.file limit) is

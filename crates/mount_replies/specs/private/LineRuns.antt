@@ -1,15 +1,20 @@
 -- What doing one line of a write comes to, and lines one after another, for the functions that do so.
-use Rattle.std.specs.Prelude.{◌≡◌, ℕ, Bool, List, ◌∷◌, Option, Some, None, Result, Ok, Err}
-use Rattle.trace_command.specs.Requests.{Request, request_of}
-use Rattle.trace_command.specs.declared.command.Command.TheVariants as commands
+use Rattle.std.specs.Prelude.{◌≡◌, ℕ, Bool, true, List, ◌∷◌, Option, Some, None, Result, Ok, Err}
+use Rattle.trace_command.specs.Requests.{Request}
 use Rattle.tracer_specification.specs.Settings.{declared_events}
 use Rattle.file_list.specs.declared.file.File.{File}
-use Rattle.mount_replies.specs.Lines.{command_text}
+use Rattle.mount_tree.specs.Children.{is_there}
+use Rattle.mount_tree.specs.NodePaths.{path_of}
+use Rattle.mount_tree.specs.Scenes.{SceneSeen}
+use Rattle.mount_tree.specs.declared.node.Node.TheVariants as nodes
+use Rattle.mount_tree.specs.declared.node.Owner.{Owner}
+use Rattle.mount_replies.specs.Lines.{line_command}
 use Rattle.mount_replies.specs.Mounted.{HasLedTo, IsRun, MountSeen, stopped_at, terms_of}
-use Rattle.mount_replies.specs.Steps.{Asking, AsksFor, LineAsked, LineRefused, Ran}
+use Rattle.mount_replies.specs.Steps.{Asking, LineAsked, LineRefused, Ran}
 use Rattle.mount_replies.specs.declared.fault.LineFault.{LineFault}
 use Rattle.mount_replies.specs.declared.fault.Progress.{Progress}
 use Rattle.mount_replies.specs.declared.fault.Stop.{Stop}
+use Rattle.mount_replies.specs.declared.writing.Target.{Target}
 
 -- nothing but what was done has changed
 pub record IsKept (old new : MountSeen) : Type 0 where
@@ -54,9 +59,14 @@ abbrev pub DoesLine : List Request → MountSeen → MountSeen → Asking → Re
 DoesLine past old new asking (Ok done) = IsLineDone past old new asking
 DoesLine past old new asking (Err fault) = IsLineStopped past old new asking fault
 
--- the command that a line is for the file of a path
-abbrev pub path_command : List ℕ → File → Bool → List ℕ → Asking
-path_command path file append line = AsksFor (request_of (commands.Write path append (command_text file line)))
+-- the file that is written to is there still, by the same path: only a declaration changes what is there
+pub record StaysThere (old new : SceneSeen) (owner : Owner) (file : File) : Type 0 where
+  pub there : is_there new (nodes.File owner file) ≡ true
+  pub path : path_of new (nodes.File owner file) ≡ path_of old (nodes.File owner file)
+
+-- the command that a line is for the file of a target
+abbrev pub target_command : SceneSeen → Target → Bool → List ℕ → Asking
+target_command scene target append line = line_command scene (nodes.File target.owner target.file) target.file append line
 
 -- a line that is an event declares none
 pub record IsEventDone (past : List Request) (old new : MountSeen) (asking : Asking) : Type 0 where

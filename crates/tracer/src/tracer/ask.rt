@@ -141,13 +141,29 @@ impl Tracer {
     }
 
     /// As `ask`, for a read of the file at this address, of a pipe of at most so many records.
-    pub fn read_at(&mut self, address: Address<'_>, limit: Option<u64>) -> Result<Reply, Refusal>
+    pub fn read_at(&mut self, address: Address<'_>, most: Option<u64>) -> Result<Reply, Refusal>
         requires { DeclaresAtTop address }
         ensures call { (past : List Request) → IsLive self.old.config past self.old
-            → IsCall past self.new (read_at address.entry limit) result }
+            → IsCall past self.new (read_at address.entry most) result }
         ensures config { self.new.config ≡ self.old.config }
     {
-        let prepared = self.prepare_read_at(MOST_DONE, address, limit)?;
+        self.read_at_within(MOST_DONE, address, most)
+    }
+
+    /// As `ask_within`, for the same.
+    pub fn read_at_within(
+        &mut self,
+        limit: u64,
+        address: Address<'_>,
+        most: Option<u64>,
+    ) -> Result<Reply, Refusal>
+        requires few { limit ≤ most_done }
+        requires top { DeclaresAtTop address }
+        ensures call { (past : List Request) → IsLive self.old.config past self.old
+            → IsCallWithin limit past self.new (read_at address.entry most) result }
+        ensures config { self.new.config ≡ self.old.config }
+    {
+        let prepared = self.prepare_read_at(limit, address, most)?;
         self.carry_out(prepared)
     }
 

@@ -16,7 +16,7 @@ ghost use Rattle.tracer.specs.Lives.{IsLive, IsPreparedWithin, IsReadyFor, CanDe
 
 use super::Tracer;
 use crate::discard::let_go_change;
-use trace_command::{Address, BorrowedEmission, Command, Refusal, Reply, address_of};
+use trace_command::{Address, BorrowedEmission, Command, Refusal, Reply};
 use trace_instance::WrittenText;
 use tracer_state::{Prepared, ValuesEmission};
 
@@ -42,22 +42,6 @@ impl Tracer {
             return Err(Refusal::HistoryFull);
         }
         Ok(prepared)
-    }
-
-    /// As `prepare`, for a read of this path, of a pipe of at most so many records.
-    pub fn prepare_read(
-        &self,
-        limit: u64,
-        path: &[u8],
-        most: Option<u64>,
-    ) -> Result<Prepared, Refusal>
-        ensures prepared { (past : List Request) → IsLive self.now.config past self.now
-            → IsPreparedWithin limit self.now.config past (request_of (Command.Read path.now most)) self.now.state result }
-        ensures ready { IfOk result (IsReadyFor self.now) }
-        ensures room { OnOk result (self.now.done < limit) }
-        ensures fits { OnOk result (FitsItsTypes (request_of (Command.Read path.now most))) }
-    {
-        self.prepare_read_at(limit, address_of(path), most)
     }
 
     /// As `prepare`, for a read of the file at this address, of a pipe of at most so many records.
