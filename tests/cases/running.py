@@ -8,7 +8,7 @@ from pathlib import Path
 TOP = Path(__file__).resolve().parent.parent.parent
 # what is tested, where no other program is named
 PROGRAM = Path(os.environ.get("TRACECTL_PROGRAM") or TOP / "crates" / "tracectl" / "out" / "tracectl")
-SECONDS = 120
+SECONDS = 300
 MOST_SCRIPT_BYTES = 16_777_216
 
 SMALL = ["--pages", "2", "--page-bytes", "64", "-"]  # the words for rings of two pages of two records
