@@ -37,10 +37,10 @@ fn tick(alloc: Global, number: u32) -> Result<Command, AllocError> {
 
 /// Declares an event, switches it on, and emits it five times.
 fn emit_five(alloc: Global, tracer: &mut Tracer) -> Result<(), Refusal> {
-    tracer.ask(Command::append(alloc, b"synthetic_events", b"tick u64 n")?)?;
-    tracer.ask(Command::write(alloc, b"events/synthetic/tick/enable", b"1")?)?;
+    tracer.ask(&Command::append(alloc, b"synthetic_events", b"tick u64 n")?)?;
+    tracer.ask(&Command::write(alloc, b"events/synthetic/tick/enable", b"1")?)?;
     for number in 1..6 {
-        tracer.ask(tick(alloc, number)?)?;
+        tracer.ask(&tick(alloc, number)?)?;
     }
     Ok(())
 }
@@ -79,9 +79,9 @@ fn show_emissions(rt: &impl Print, book: &Book) {
 fn trace(rt: &(impl Print + AllocGlobal), tracer: &mut Tracer) -> Result<(), Refusal> {
     let alloc = rt.alloc();
     emit_five(alloc, tracer)?;
-    let record = tracer.ask(Command::take(alloc, b"trace_pipe", 1)?)?;
+    let record = tracer.ask(&Command::take(alloc, b"trace_pipe", 1)?)?;
     show(rt, record);
-    let statistics = tracer.ask(Command::read(alloc, b"per_cpu/cpu0/stats")?)?;
+    let statistics = tracer.ask(&Command::read(alloc, b"per_cpu/cpu0/stats")?)?;
     show(rt, statistics);
     Ok(())
 }

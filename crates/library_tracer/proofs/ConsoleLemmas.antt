@@ -25,7 +25,7 @@ use Rattle.trace_script.specs.declared.line.Line.TheVariants.{Ask, Blank, End, P
 use Rattle.trace_script.specs.declared.outcome.Outcome.{Outcome}
 use Rattle.trace_script.specs.declared.outcome.Outcome.TheVariants.{Fault, Refused, Replied}
 use Rattle.library_tracer.specs.ConsolesSeen.{ConsoleSeen}
-use Rattle.library_tracer.specs.Consoles.{Asked, ComesTo, StandsFor, after_command, after_emission, after_line, after_listing, after_pairs, after_read, after_request, after_values, answered, failed, outcome_of, with_last}
+use Rattle.library_tracer.specs.Consoles.{Asked, ComesTo, NeedsNoMemory, StandsFor, after_command, after_emission, after_line, after_listing, after_pairs, after_read, after_request, after_values, answered, failed, outcome_of, with_last}
 use Rattle.library_tracer.specs.Fields.{fields_in, pairs_in}
 use Rattle.library_tracer.specs.ListedFiles.{files_after}
 
@@ -115,6 +115,22 @@ pub command_comes : (command : Command) (before after : ConsoleSeen) (live : Liv
     → ((past : List Request) → IsLive before.live.config past before.live → IsCallWithin before.limit past live (request_of command) answer)
     → ComesTo (after_command command) before after
 command_comes command before after live answer config is call = request_comes (λ past. request_of command) before after live answer config is call
+
+-- one that takes no memory
+pub command_needs_none : (command : Command) (before after : ConsoleSeen) (live : LiveSeen) (answer : Result Reply Refusal)
+    → live.config ≡ before.live.config → after ≡ record before { live = live; last = outcome_of answer }
+    → ((past : List Request) → IsLive before.live.config past before.live → IsCallWithin before.limit past live (request_of command) answer)
+    → NeedsNoMemory command before after
+command_needs_none command before after live (Ok reply) config is call asked stands none =
+    let request = request_of command in
+    let done = call asked.past stands.lives in
+    subst (λ (r : Result Reply Refusal). StandsFor after (answered r request asked)) (done.takes_none none ∙ sym (same-answer before live asked request config stands))
+    (standing before after live (Replied reply) asked (request ∷ asked.past) config is stands done.done)
+command_needs_none command before after live (Err refusal) config is call asked stands none =
+    let request = request_of command in
+    let done = call asked.past stands.lives in
+    subst (λ (r : Result Reply Refusal). StandsFor after (answered r request asked)) (done.takes_none none ∙ sym (same-answer before live asked request config stands))
+    (standing before after live (Refused refusal) asked asked.past config is stands done.refused)
 
 pub values_come : (event cpu : ℕ) (pid : ℤ) (values : List FieldValue) (before after : ConsoleSeen) (live : LiveSeen) (answer : Result Reply Refusal)
     → live.config ≡ before.live.config → after ≡ record before { live = live; last = outcome_of answer }

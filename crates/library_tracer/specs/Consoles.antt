@@ -11,6 +11,7 @@ use Rattle.trace_command.specs.declared.refusal.Refusal.TheVariants.{Memory}
 use Rattle.trace_format.specs.declared.field_value.FieldValue.{FieldValue}
 use Rattle.trace_format.specs.declared.pair.Pair.{Pair}
 use Rattle.tracer_specification.specs.Settings.{declared_events}
+use Rattle.trace_instance.specs.MemoryTaken.{TakesNoMemory}
 use Rattle.tracer.specs.Lives.{IsLive, limited_answer}
 use Rattle.tracer_state.specs.ValueEmissions.{values_emission}
 use Rattle.trace_script.specs.Lines.{line_of}
@@ -115,3 +116,8 @@ failed errors.Memory = Refused Memory
 pub record ComesTo (expected : Asked → Asked) (before after : ConsoleSeen) : Type 0 where
   pub told : (asked : Asked) → StandsFor before asked → after.last ≢ Refused Memory → StandsFor after (expected asked)
   pub memory : (asked : Asked) → StandsFor before asked → after.last ≡ Refused Memory → StandsFor after (with_last (Refused Memory) asked)
+
+-- a command that takes no memory after what the console was asked is not refused any
+abbrev pub NeedsNoMemory : Command → ConsoleSeen → ConsoleSeen → Type 0
+NeedsNoMemory command before after =
+    (asked : Asked) → StandsFor before asked → TakesNoMemory asked.past (request_of command) → StandsFor after (after_command command asked)

@@ -9,7 +9,7 @@ ghost use Rattle.trace_command.specs.declared.command.Reply.TheVariants as repli
 ghost use Rattle.trace_command.specs.declared.refusal.Refusal.TheVariants as refusals;
 ghost use Rattle.tracer_specification.specs.Waiting.{waiting};
 ghost use Rattle.tracer.specs.Lives.{most_done};
-ghost use Rattle.library_tracer.specs.Consoles.{Asked, ComesTo, StandsFor, after_command, after_emission, after_line, after_listing, after_values, failed, opened, outcome_of, with_last};
+ghost use Rattle.library_tracer.specs.Consoles.{Asked, ComesTo, NeedsNoMemory, StandsFor, after_command, after_emission, after_line, after_listing, after_values, failed, opened, outcome_of, with_last};
 ghost use Rattle.library_tracer.specs.Statuses.{offset_in, reply_in, status_of};
 ghost use Rattle.trace_script.specs.declared.outcome.Outcome.TheVariants as outcomes;
 
@@ -69,7 +69,7 @@ impl Console {
     fn ask(&mut self, command: Command)
         ensures { ComesTo (after_command command) self.old self.new }
     {
-        let answer = self.live.ask_within(self.limit, command);
+        let answer = self.live.ask_within(self.limit, &command);
         self.keep(answer);
     }
 
@@ -78,6 +78,17 @@ impl Console {
         ensures { ComesTo (after_command (commands.Read path.now most)) self.old self.new }
     {
         let answer = self.live.read_at_within(self.limit, address_of(path), most);
+        self.keep(answer);
+    }
+
+    /// Writes a string to a file, by `>` or, to append, by `>>`, as `ask` does a command.
+    fn ask_write(&mut self, path: &[u8], append: bool, text: &[u8])
+        ensures done { ComesTo (after_command (commands.Write path.now append text.now)) self.old self.new }
+        ensures takes_none { NeedsNoMemory (commands.Write path.now append text.now) self.old self.new }
+    {
+        let answer = self
+            .live
+            .write_at_within(self.limit, address_of(path), append, text);
         self.keep(answer);
     }
 
@@ -140,18 +151,6 @@ impl Console {
 }
 
 impl Console {
-    /// Does a command that was put together, or tells that memory for it was refused.
-    #[tactic(auto, using(crate::proofs::ConsoleLemmas::without_memory))]
-    fn ask_made(&mut self, command: Result<Command, AllocError>)
-        ensures made { IfOk command (λ command. ComesTo (after_command command) self.old self.new) }
-        ensures memory { IfErr command (λ error. self.new ≡ record self.old { last = outcomes.Refused refusals.Memory }) }
-    {
-        match command {
-            Ok(command) => self.ask(command),
-            Err(AllocError) => self.tell(Outcome::Refused(Refusal::Memory)),
-        }
-    }
-
     /// Does a line of a script. Nothing is done for one of a parallel part, which is out of place.
     pub fn line(&mut self, line: &[u8]) -> u32
         ensures done { ComesTo (after_line line.now) self.old self.new }
@@ -203,21 +202,23 @@ impl Console {
         self.status()
     }
 
-    /// Writes a string to a file, as `echo TEXT > PATH` does.
+    /// Writes a string to a file, as `echo TEXT > PATH` does. One that takes no memory (`TakesNoMemory`), as to a switch, is never refused any.
     pub fn write(&mut self, path: &[u8], text: &[u8]) -> u32
         ensures done { ComesTo (after_command (commands.Write path.now false text.now)) self.old self.new }
+        ensures takes_none { NeedsNoMemory (commands.Write path.now false text.now) self.old self.new }
         ensures status { result ≡ status_of self.new.last }
     {
-        self.ask_made(Command::write(self.alloc, path, text));
+        self.ask_write(path, false, text);
         self.status()
     }
 
-    /// Appends a string to a file, as `echo TEXT >> PATH` does.
+    /// Appends a string to a file, as `echo TEXT >> PATH` does, and `write` otherwise.
     pub fn append(&mut self, path: &[u8], text: &[u8]) -> u32
         ensures done { ComesTo (after_command (commands.Write path.now true text.now)) self.old self.new }
+        ensures takes_none { NeedsNoMemory (commands.Write path.now true text.now) self.old self.new }
         ensures status { result ≡ status_of self.new.last }
     {
-        self.ask_made(Command::append(self.alloc, path, text));
+        self.ask_write(path, true, text);
         self.status()
     }
 

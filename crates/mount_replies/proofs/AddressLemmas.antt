@@ -13,9 +13,11 @@ use Rattle.trace_command.specs.declared.command.Config.{Config}
 use Rattle.trace_command.specs.declared.command.Reply.{Reply as Answer}
 use Rattle.trace_command.specs.declared.file_name.EventFile.{EventFile}
 use Rattle.trace_command.specs.declared.refusal.Refusal.{Refusal}
+use Rattle.trace_command.specs.declared.refusal.Refusal.TheVariants.{Memory}
 use Rattle.trace_format.specs.Definitions.{Definition}
 use Rattle.trace_format.specs.Reading.{definition_of}
 use Rattle.tracer_specification.specs.Settings.{declares, made, removed}
+use Rattle.trace_instance.specs.MemoryTaken.{TakesNoMemory}
 use Rattle.tracer.specs.LiveSeen.{LiveSeen}
 use Rattle.tracer.specs.Lives.{IsCall, live_answer}
 use Rattle.tracer_state.specs.AddressedRequests.{DeclaresAtTop, read_at, write_at}
@@ -35,7 +37,7 @@ use Rattle.mount_tree.specs.declared.node.Node.TheVariants as nodes
 use Rattle.mount_tree.specs.declared.node.Owner.{Owner}
 use Rattle.mount_tree.specs.declared.node.Owner.TheVariants.{Top, Made}
 use Rattle.mount_replies.proofs.DoneLemmas.{events-are}
-use Rattle.mount_replies.specs.Mounted.{HasLedTo, IsAsked, MountSeen, terms_of}
+use Rattle.mount_replies.specs.Mounted.{HasLedTo, IsAnswered, IsAsked, MountSeen, terms_of}
 use Rattle.mount_replies.specs.Steps.{read_of, write_of}
 use Rattle.mount_replies.specs.Told.{known}
 use Rattle.mount_replies.specs.private.LineRuns.{StaysThere}
@@ -93,6 +95,14 @@ at-top scene owner file address there is =
 
 -- ---- calls
 
+-- the answer of the tracer
+answered-call : (past : List Request) (old : MountSeen) (live : LiveSeen) (request : Request) (answer : Result Answer Refusal) → live.config ≡ old.live.config
+    → IsCall past live request answer → IsAnswered (terms_of old) past request answer
+answered-call past old live request answer config call = record {
+  reply = subst (λ (g : Config). OrMemory answer (live_answer g past request)) config call.reply;
+  takes_none = λ none. call.takes_none none ∙ ap (λ (g : Config). live_answer g past request) config;
+}
+
 -- a command that leaves the folders and files as they are was asked of the tracer
 pub asked-call : (past : List Request) (old : MountSeen) (live : LiveSeen) (request : Request) (result : Result Answer Refusal) → HasLedTo past old
     → live.config ≡ old.live.config → IsCall past live request result → made request ≡ None → removed request ≡ None → declares request ≡ None
@@ -107,7 +117,7 @@ asked-call past old live request result mounted config call makes removes adds =
 
     by : (answer : Result Answer Refusal) → IsCall past live request answer → IsAsked past old (record old { live = live }) request answer
     by (Ok answer) call = record {
-      answered = subst (λ (g : Config). OrMemory (Ok answer) (live_answer g past request)) config call.reply;
+      answered = answered-call past old live request (Ok answer) config call;
       mounted = record { lives = call.done; scene = same ∙ sym (leaving live.config.cpus past request makes removes adds) };
       terms = terms;
       files = refl;
@@ -116,7 +126,7 @@ asked-call past old live request result mounted config call makes removes adds =
       counted = refl;
     }
     by (Err refusal) call = record {
-      answered = subst (λ (g : Config). OrMemory (Err refusal) (live_answer g past request)) config call.reply;
+      answered = answered-call past old live request (Err refusal) config call;
       mounted = record { lives = call.refused; scene = same };
       terms = terms;
       files = refl;
@@ -130,7 +140,7 @@ pub declared-call : (past : List Request) (old : MountSeen) (live : LiveSeen) (s
     → HasLedTo past old → live.config ≡ old.live.config → IsCall past live request (Ok answer) → declares request ≡ Some event
     → scene ≡ with_event event.name old.scene → IsAsked past old (record old { live = live; scene = scene }) request (Ok answer)
 declared-call past old live scene request event answer mounted config call adds is = record {
-  answered = subst (λ (g : Config). OrMemory (Ok answer) (live_answer g past request)) config call.reply;
+  answered = answered-call past old live request (Ok answer) config call;
   mounted = record {
     lives = call.done;
     scene = is ∙ ap (with_event event.name) (mounted.scene ∙ ap (λ (g : Config). scene_after g.cpus past) (sym config))
@@ -148,7 +158,7 @@ pub undeclared-call : (past : List Request) (old : MountSeen) (live : LiveSeen) 
     → live.config ≡ old.live.config → IsCall past live request (Err refusal) → scene ≡ old.scene
     → IsAsked past old (record old { live = live; scene = scene }) request (Err refusal)
 undeclared-call past old live scene request refusal mounted config call is = record {
-  answered = subst (λ (g : Config). OrMemory (Err refusal) (live_answer g past request)) config call.reply;
+  answered = answered-call past old live request (Err refusal) config call;
   mounted = record { lives = call.refused; scene = is ∙ mounted.scene ∙ ap (λ (g : Config). scene_after g.cpus past) (sym config) };
   terms = ap (λ (g : Config). record { config = g; uid = old.uid; gid = old.gid; mode = old.mode }) config;
   files = refl;
@@ -200,6 +210,25 @@ pub declares-text : (past : List Request) (mount : MountSeen) (owner : Owner) (a
 declares-text past mount owner append text mounted there =
     ap (λ (f : Option paths.File). declares (WriteFile (address_of (path_of mount.scene (nodes.File owner SyntheticEvents))).instance f append text))
     (meant-file past mount owner SyntheticEvents mounted there)
+
+-- memory for it was refused before it was asked
+pub undeclared : (past : List Request) (old : MountSeen) (scene : SceneSeen) (owner : Owner) (append : Bool) (text : List ℕ) → HasLedTo past old
+    → is_there old.scene (nodes.File owner SyntheticEvents) ≡ true → scene ≡ old.scene
+    → IsAsked past old (record old { scene = scene }) (write_of old.scene (nodes.File owner SyntheticEvents) append text) (Err Memory)
+undeclared past old scene owner append text mounted there same = record {
+  answered = record { reply = λ other. absurd (other refl); takes_none = λ none. absurd (takes none) };
+  mounted = record { lives = mounted.lives; scene = same ∙ mounted.scene };
+  terms = refl;
+  files = refl;
+  parked = refl;
+  errors = refl;
+  counted = refl;
+}
+  where
+    takes : TakesNoMemory past (write_of old.scene (nodes.File owner SyntheticEvents) append text) → ⊥
+    takes none =
+        subst (λ (f : Option paths.File). TakesNoMemory past (WriteFile (address_of (path_of old.scene (nodes.File owner SyntheticEvents))).instance f append text))
+        (meant-file past old owner SyntheticEvents mounted there) none
 
 -- ---- nodes that are found
 

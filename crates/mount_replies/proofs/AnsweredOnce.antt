@@ -164,7 +164,7 @@ other-times g before (Asks request outcome) u reply after is (answer, answered, 
 other-times g before (Parks read) u reply after is does = absurd is
 other-times g before (Interrupts number) u reply after is does =
     rw (nothing-if (is_some reply), ap (λ (s : Service). s.parked) does.1, interrupted-number number before.parked) (omega arith)
-other-times g before (AsksNoting request outcome noting) u reply after is (answer, answered, told, same) =
+other-times g before (AsksNoting request takes outcome noting) u reply after is (answer, answered, told, same) =
     rw (nothing-if (is_some reply), ap (λ (s : Service). s.parked) same) (omega arith)
 other-times g before (Tells noting takes outcome) u reply after is (inl does) =
     rw (nothing-if (is_some reply), ap (λ (s : Service). s.parked) does.1) (omega arith)
@@ -199,7 +199,7 @@ reply-parks-none g before (Asks request outcome) reply after (answer, answered, 
 reply-parks-none g before (Parks read) reply after (inl does) = absurd (let no : Some reply ≡ None = does.0 in cc)
 reply-parks-none g before (Parks read) reply after (inr does) = ap (λ (s : Service). s.parked) does.1
 reply-parks-none g before (Interrupts number) reply after does = absurd (let no : Some reply ≡ None = does.0 in cc)
-reply-parks-none g before (AsksNoting request outcome noting) reply after (answer, answered, told, same) = ap (λ (s : Service). s.parked) same
+reply-parks-none g before (AsksNoting request takes outcome noting) reply after (answer, answered, told, same) = ap (λ (s : Service). s.parked) same
 reply-parks-none g before (Tells noting takes outcome) reply after (inl does) = ap (λ (s : Service). s.parked) does.1
 reply-parks-none g before (Tells noting takes outcome) reply after (inr (may, told, same)) = ap (λ (s : Service). s.parked) same
 reply-parks-none g before (AsksLines lines outcome noting) reply after (ran, runs, told, same) = ap (λ (s : Service). s.parked) same

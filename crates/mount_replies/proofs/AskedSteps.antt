@@ -6,7 +6,7 @@ use Rattle.fuse_wire.specs.declared.errno.Errno.TheVariants.{EACCES, EAGAIN, EIN
 use Rattle.fuse_wire.specs.declared.reply.Reply.TheVariants as replies
 use Rattle.fuse_wire.specs.declared.request.Operation.{Operation}
 use Rattle.fuse_wire.specs.declared.request.Operation.TheVariants as operations
-use Rattle.trace_command.specs.Requests.{Request, request_of}
+use Rattle.trace_command.specs.Requests.{MakeInstance, RemoveInstance, Request, request_of}
 use Rattle.trace_command.specs.declared.command.Command.TheVariants as commands
 use Rattle.trace_command.specs.declared.command.Reply.{Reply as Answer}
 use Rattle.trace_command.specs.declared.refusal.Refusal.{Refusal}
@@ -41,7 +41,7 @@ use Rattle.mount_replies.specs.Injections.{injection, pairs_of_line}
 use Rattle.mount_replies.specs.Lines.{asked_by_line, asked_by_pairs, command_lines, command_text, flushed, goes_on, has_newline, is_blank_line, line_command, lines_of, most_kept, noted_answer, noted_command, noted_if_first, noted_line, noted_refusal, one_command, pieces_of, released, stream_lines, too_long, without_newline}
 use Rattle.mount_replies.specs.Owed.{step_of_parked}
 use Rattle.mount_replies.specs.Pipes.{ends, is_dry, is_used_up}
-use Rattle.mount_replies.specs.Served.{AsksNone, AsksToWrite, Emptying, clears, emptying_of, forgotten_if_done, given_counted, given_records, given_tool, goes_on_in, handed_out, instance_path, is_cached, is_nonblocking, made_folder, make_folder, makes_text, opened, opened_file, opened_unless_emptied, poll_file, poll_kind, read_anew, read_dry, read_file, read_kind, read_log, read_new, read_pipe, read_pipe_directly, read_records, read_shown, read_text, read_tool, records_for, remove_folder, step_of, text_counted, unless_counted}
+use Rattle.mount_replies.specs.Served.{AsksNone, AsksToWrite, Emptying, clears, emptying_of, forgotten_if_done, given_counted, given_records, given_tool, goes_on_in, handed_out, is_cached, is_nonblocking, made_folder, make_folder, makes_text, opened, opened_file, opened_unless_emptied, poll_file, poll_kind, read_anew, read_dry, read_file, read_kind, read_log, read_new, read_pipe, read_pipe_directly, read_records, read_shown, read_text, read_tool, records_for, remove_folder, step_of, text_counted, unless_counted}
 use Rattle.mount_replies.specs.Services.{OpenSeen, Service, Terms, count_of, file_at, just_opened, node_of, read_of_pipe, scene_of, with_dry_read, without_file}
 use Rattle.mount_replies.specs.Sizes.{Telling, count_text, counted_now, get_attributes, is_recent, set_attributes, size_by_kind, size_counted, size_of_text, tell_attributes, tell_entry, tell_size}
 use Rattle.mount_replies.specs.Steps.{Asking, AsksNothing, Asks, AsksLines, AsksNoting, Counts, Forgets, IsTooLong, Keeps, LineRefused, Notes, Noting, Outcome, Parks, Plain, Ran, Step, Takes, Tells, failed, plain, read_of, write_of}
@@ -59,7 +59,7 @@ pub record IsOfEach (g : Terms) (P : Request → Type 0) : Type 0 where
   pub whole : (scene : SceneSeen) (node : Node) → P (read_of scene node None)
   pub some : (scene : SceneSeen) (node : Node) (size : ℕ) → P (read_of scene node (Some (records_for size)))
   pub wrote : (scene : SceneSeen) (node : Node) (append : Bool) (text : List ℕ) → P (write_of scene node append text)
-  pub made : (path : List ℕ) → P (request_of (commands.Mkdir path))
+  pub made : (name : List ℕ) → P (MakeInstance (Some name))
   pub injected : (pid : ℕ) (event : Definition) (pairs : List Pair) → P (injection (pid % g.config.cpus) event (pid % 2 ^ 31) pairs)
 
 abbrev pub NotesThere : SceneSeen → Noting → Type 0
@@ -70,12 +70,12 @@ NotesThere scene (Forgets owner) = Unit {0}
 -- an instance is removed, and what was noted of the one of that name is forgotten
 pub record IsRemoval (scene : SceneSeen) (request : Request) (noting : Result Answer Refusal → Noting) : Type 0 where
   pub name : List ℕ
-  pub is : request ≡ request_of (commands.Rmdir (instance_path name))
+  pub is : request ≡ RemoveInstance (Some name)
   pub notes : noting ≡ forgotten_if_done (found_in scene name (Some (nodes.Folder Top folders.Instances)))
 
 abbrev pub IsOfThere : (Request → Type 0) → (Counted → Type 0) → SceneSeen → Step → Type 0
 IsOfThere P C scene (Asks request outcome) = P request
-IsOfThere P C scene (AsksNoting request outcome noting) =
+IsOfThere P C scene (AsksNoting request takes outcome noting) =
     (P request × ((answer : Result Answer Refusal) → NotesThere scene (noting answer))) ⊎ IsRemoval scene request noting
 IsOfThere P C scene (Tells noting takes outcome) = NotesThere scene noting
 IsOfThere P C scene (AsksLines lines outcome noting) = AllAsk P lines × ((ran : Ran) → NotesThere scene (noting ran))
@@ -431,8 +431,8 @@ module _ (P : Request → Type 0) (C : Counted → Type 0) (g : Terms) (s : Serv
   made-is name (Some (nodes.Folder Top (folders.Event event))) = tt
   made-is name (Some (nodes.Folder Top folders.Instances)) =
       if-either Is (nat_lt (scene_of g s).made most_made)
-      (Asks (request_of (commands.Mkdir (instance_path name))) (made_folder g (scene_of g s).made s.files)) (failed ENOSPC s.files)
-      (λ is. each.made (instance_path name)) (λ is. tt)
+      (Asks (MakeInstance (Some name)) (made_folder g (scene_of g s).made s.files)) (failed ENOSPC s.files)
+      (λ is. each.made name) (λ is. tt)
 
   removed-is : (name : List ℕ) (folder : Option Node) → Is (remove_folder (scene_of g s) name s.files folder)
   removed-is name None = tt

@@ -1,19 +1,14 @@
 -- What is computed of a step is what it does.
 use Rattle.std.proofs.Common.{inl, ℕ, List, [], ◌∷◌, Result, Ok, Err, refl}
-use Rattle.trace_command.specs.Refusals.{OrMemory}
 use Rattle.trace_command.specs.Requests.{Request}
 use Rattle.trace_command.specs.declared.command.Reply.{Reply as Answer}
 use Rattle.trace_command.specs.declared.refusal.Refusal.{Refusal}
 use Rattle.tracer.specs.Lives.{live_answer}
+use Rattle.mount_replies.proofs.AnswerLemmas.{own-answer}
 use Rattle.mount_replies.specs.ComputedSteps.{StepsAreComputed, answered_line, run_line, run_lines}
 use Rattle.mount_replies.specs.Mounted.{GoesOnIf, IsLineRun, IsRun}
 use Rattle.mount_replies.specs.Services.{Terms}
 use Rattle.mount_replies.specs.Steps.{Asking, Asks, AsksFor, AsksLines, AsksNothing, AsksNoting, Counts, Interrupts, IsTooLong, IsWrongLine, LineAsked, Parks, Plain, Takes, Tells}
-
--- an answer is the one that is given
-own-answer : (answer : Result Answer Refusal) → OrMemory answer answer
-own-answer (Ok answer) = refl
-own-answer (Err refusal) = λ other. refl
 
 module _ (g : Terms) (past : List Request) (done : ℕ) (line : LineAsked) (lines : List LineAsked)
     (rest : (now : List Request) → IsRun g now line.end lines (run_lines g now line.end lines)) where
@@ -31,7 +26,7 @@ module _ (g : Terms) (past : List Request) (done : ℕ) (line : LineAsked) (line
   line-run IsWrongLine = inl refl
   line-run IsTooLong = inl refl
   line-run (AsksFor request) =
-      (live_answer g.config past request, own-answer (live_answer g.config past request), goes-on request (live_answer g.config past request))
+      (live_answer g.config past request, inl (own-answer (live_answer g.config past request) g past request refl), goes-on request (live_answer g.config past request))
 
 lines-run : (g : Terms) (past : List Request) (done : ℕ) (lines : List LineAsked) → IsRun g past done lines (run_lines g past done lines)
 lines-run g past done [] = refl
@@ -41,11 +36,11 @@ pub steps_are_computed : StepsAreComputed
 steps_are_computed g s (Plain outcome) = (refl, refl)
 steps_are_computed g s (Takes outcome) = inl (refl, refl)
 steps_are_computed g s (Asks request outcome) =
-    (live_answer g.config s.past request, own-answer (live_answer g.config s.past request), refl, refl)
+    (live_answer g.config s.past request, own-answer (live_answer g.config s.past request) g s.past request refl, refl, refl)
 steps_are_computed g s (Parks read) = inl (refl, refl)
 steps_are_computed g s (Interrupts unique) = (refl, refl)
-steps_are_computed g s (AsksNoting request outcome noting) =
-    (live_answer g.config s.past request, own-answer (live_answer g.config s.past request), refl, refl)
+steps_are_computed g s (AsksNoting request takes outcome noting) =
+    (live_answer g.config s.past request, inl (own-answer (live_answer g.config s.past request) g s.past request refl), refl, refl)
 steps_are_computed g s (Tells noting takes outcome) = inl (refl, refl)
 steps_are_computed g s (AsksLines lines outcome noting) = (run_lines g s.past 0 lines, inl (lines-run g s.past 0 lines), refl, refl)
 steps_are_computed g s (Counts count outcome) = inl (refl, refl)

@@ -270,8 +270,8 @@ does-counted g before (Asks request outcome) reply after of all does =
 does-counted g before (Parks read) reply after of all (inl does) = subst (HasCounted g) (sym does.1) all
 does-counted g before (Parks read) reply after of all (inr does) = subst (HasCounted g) (sym does.1) all
 does-counted g before (Interrupts unique) reply after of all does = subst (HasCounted g) (sym does.1) all
-does-counted g before (AsksNoting request outcome noting) reply after of all does =
-    same-counted g before (AsksNoting request outcome noting) reply after all does (ap counted_of does.3)
+does-counted g before (AsksNoting request takes outcome noting) reply after of all does =
+    same-counted g before (AsksNoting request takes outcome noting) reply after all does (ap counted_of does.3)
 does-counted g before (Tells noting takes outcome) reply after of all (inl does) = subst (HasCounted g) (sym does.1) all
 does-counted g before (Tells noting takes outcome) reply after of all (inr (may, told, same)) = subst (HasCounted g) (sym same) all
 does-counted g before (AsksLines lines outcome noting) reply after of all does =

@@ -12,9 +12,10 @@ use Rattle.tracer_specification.specs.History.{answer_with_room, unless_full}
 use Rattle.tracer_specification.specs.Pasts.{AreDone}
 use Rattle.tracer_specification.specs.Settings.{declared_events, declares}
 use Rattle.tracer.specs.Lives.{limited_answer, live_answer, most_done}
+use Rattle.mount_replies.proofs.AnswerLemmas.{may-noting}
 use Rattle.mount_replies.proofs.NewEvents.{declared-new}
 use Rattle.mount_replies.proofs.RunLemmas.{any-lines, lines-keep}
-use Rattle.mount_replies.specs.Mounted.{AreServed, Does, IsAnswered, IsExchanged, Right, Serves, TellsOwed, Unframed, Wrong, past_after}
+use Rattle.mount_replies.specs.Mounted.{AreServed, Does, IsExchanged, MayAnswer, Right, Serves, TellsOwed, Unframed, Wrong, past_after}
 use Rattle.mount_replies.specs.Owed.{Owed, ReplyAt, WakeupAt, owed}
 use Rattle.mount_replies.specs.PastLaws.{PastsAreDone, WasDone}
 use Rattle.mount_replies.specs.Services.{Service, Terms}
@@ -37,7 +38,7 @@ had-room g past request answer is = by (answer_with_room g past request) is
         by_room true is h' = (let same : unless_full most_done (length past) (Ok reply) ≡ Ok answer = h' in let e = rw is at same in cc, ltb-true (length past) most_done is)
         by_room false is h' = absurd (let e = rw is at h' in cc)
 
-pub one-more : (g : Terms) (past : List Request) (request : Request) (answer : Result Answer Refusal) → WasDone g past → IsAnswered g past request answer
+pub one-more : (g : Terms) (past : List Request) (request : Request) (answer : Result Answer Refusal) → WasDone g past → MayAnswer g past request answer
     → WasDone g (past_after answer request past)
 one-more g past request (Err refusal) was answered = was
 one-more g past request (Ok answer) was answered =
@@ -52,12 +53,13 @@ does-done g before (Plain outcome) reply after was does = subst (WasDone g) (sym
 does-done g before (Takes outcome) reply after was (inl does) = subst (WasDone g) (sym (ap (λ (s : Service). s.past) does.1)) was
 does-done g before (Takes outcome) reply after was (inr does) = subst (WasDone g) (sym (ap (λ (s : Service). s.past) does.1)) was
 does-done g before (Asks request outcome) reply after was (answer, answered, told, is) =
-    subst (WasDone g) (sym (ap (λ (s : Service). s.past) is)) (one-more g before.past request answer was answered)
+    subst (WasDone g) (sym (ap (λ (s : Service). s.past) is)) (one-more g before.past request answer was answered.reply)
 does-done g before (Parks read) reply after was (inl does) = subst (WasDone g) (sym (ap (λ (s : Service). s.past) does.1)) was
 does-done g before (Parks read) reply after was (inr does) = subst (WasDone g) (sym (ap (λ (s : Service). s.past) does.1)) was
 does-done g before (Interrupts unique) reply after was does = subst (WasDone g) (sym (ap (λ (s : Service). s.past) does.1)) was
-does-done g before (AsksNoting request outcome noting) reply after was (answer, answered, told, is) =
-    subst (WasDone g) (sym (ap (λ (s : Service). s.past) is)) (one-more g before.past request answer was answered)
+does-done g before (AsksNoting request takes outcome noting) reply after was (answer, answered, told, is) =
+    subst (WasDone g) (sym (ap (λ (s : Service). s.past) is))
+    (one-more g before.past request answer was (may-noting g before.past request takes noting answer answered))
 does-done g before (Tells noting takes outcome) reply after was (inl does) = subst (WasDone g) (sym (ap (λ (s : Service). s.past) does.1)) was
 does-done g before (Tells noting takes outcome) reply after was (inr (may, told, same)) = subst (WasDone g) (sym (ap (λ (s : Service). s.past) same)) was
 does-done g before (AsksLines lines outcome noting) reply after was (ran, runs, told, is) =

@@ -35,7 +35,7 @@ use Rattle.mount_replies.proofs.RunLemmas.{lines-keep}
 use Rattle.mount_replies.specs.Mounted.{AreServed, Does, IsExchanged, Right, Serves, TellsOwed, Unframed, Wrong, past_after}
 use Rattle.mount_replies.specs.Owed.{Owed, ReplyAt, WakeupAt, owed, step_of_parked}
 use Rattle.mount_replies.specs.PastLaws.{ErrorsAreOfInstances, WasDone}
-use Rattle.mount_replies.specs.Served.{forgotten, instance_path, step_of}
+use Rattle.mount_replies.specs.Served.{forgotten, step_of}
 use Rattle.mount_replies.specs.Services.{Service, Terms, without_read}
 use Rattle.mount_replies.specs.Steps.{Asks, AsksLines, AsksNoting, Counts, Forgets, Interrupts, Keeps, Notes, Noting, Parks, Plain, Step, Takes, Tells, errors_after}
 use Rattle.mount_replies.specs.Told.{found_in}
@@ -146,23 +146,6 @@ noting-owned g past (Forgets owner) errors notes all =
 
 -- ---- an instance that is removed
 
--- the path of an instance's folder names that instance, if any
-named-once : (name n : List ℕ) → instance_of (instance_path name) ≡ Some n → n ≡ name
-unfolding instance_of below_mount_point mount_point
-named-once name n is = by (parts name) refl is
-  where
-    by : (all : List (List ℕ)) → parts name ≡ all → instance_in (codes "instances" ∷ all) ≡ Some n → n ≡ name
-    by [] at e = absurd (let no : None ≡ Some n = e in cc)
-    by (one ∷ []) at e = by_some (nat_lt 0 (length one)) e
-      where
-        joined : one ≡ name
-        joined = sym (ap (join_with_byte 47) at) ∙ join_with_byte-slice_split 47 name
-
-        by_some : (b : Bool) → (if b then Some one else None) ≡ Some n → n ≡ name
-        by_some true h = let same : one ≡ n = cc in sym same ∙ joined
-        by_some false h = absurd (let no : None ≡ Some n = h in cc)
-    by (one ∷ two ∷ more) at e = absurd (let no : None ≡ Some n = e in cc)
-
 forgotten-notes : (g : Terms) (past : List Request) (target : Option Node) → NotesThere (scene_after g.config.cpus past) (forgotten target)
 forgotten-notes g past None = tt
 forgotten-notes g past (Some (nodes.Folder owner folder)) = tt
@@ -213,29 +196,15 @@ module _ (g : Terms) (past : List Request) (name : List ℕ) (request : Request)
       false≢true (sym (ap not same) ∙ kept))) there) errors all
 
 removal-owned : (g : Terms) (past : List Request) (name : List ℕ) (errors : List ErrorSeen) → WasDone g past → AreOwned g past errors
-    → AreOwned g (request_of (commands.Rmdir (instance_path name)) ∷ past)
+    → AreOwned g (RemoveInstance (Some name) ∷ past)
     (errors_after (forgotten (found_in (scene_after g.config.cpus past) name (Some (nodes.Folder Top folders.Instances)))) errors)
-removal-owned g past name errors was all = by (instance_of (instance_path name)) refl
-  where
-    request : Request
-    request = request_of (commands.Rmdir (instance_path name))
-
-    target : Option Node
-    target = found_in (scene_after g.config.cpus past) name (Some (nodes.Folder Top folders.Instances))
-
-    by : (o : Option (List ℕ)) → instance_of (instance_path name) ≡ o → AreOwned g (request ∷ past) (errors_after (forgotten target) errors)
-    by None at =
-        let leaves : removed request ≡ None = ap (λ (o : Option (List ℕ)). removed (RemoveInstance o)) at in
-        all-stay g past request (errors_after (forgotten target) errors) leaves
-        (noting-owned g past (forgotten target) errors (forgotten-notes g past target) all)
-    by (Some n) at =
-        let takes : removed request ≡ Some name = ap (λ (o : Option (List ℕ)). removed (RemoveInstance o)) at ∙ ap Some (named-once name n at) in
-        let after : instances_after (request ∷ past) ≡ without_named name (instances_after past) =
-        ap (λ (r : Option (List ℕ)). left_instances r (instances_after past) ++ []) takes ∙ append-nil (without_named name (instances_after past)) in
-        let selves = self_found bytes_eq (λ (i : Instance). i.name) (instances_after past) (λ k. (bytes_eq-Decides k k).1 refl)
-        (instances-sound g.config past was.done).distinct in
-        subst (λ (t : Option Node). AreOwned g (request ∷ past) (errors_after (forgotten t) errors)) (sym (named_instances name (instances_after past)))
-        (errors-left g past name request after errors selves all (find (λ (i : Instance). bytes_eq i.name name) (instances_after past)) refl)
+removal-owned g past name errors was all =
+    let request = RemoveInstance (Some name) in
+    let after : instances_after (request ∷ past) ≡ without_named name (instances_after past) = append-nil (without_named name (instances_after past)) in
+    let selves = self_found bytes_eq (λ (i : Instance). i.name) (instances_after past) (λ k. (bytes_eq-Decides k k).1 refl)
+    (instances-sound g.config past was.done).distinct in
+    subst (λ (t : Option Node). AreOwned g (request ∷ past) (errors_after (forgotten t) errors)) (sym (named_instances name (instances_after past)))
+    (errors-left g past name request after errors selves all (find (λ (i : Instance). bytes_eq i.name name) (instances_after past)) refl)
 
 -- ---- steps
 
@@ -247,7 +216,7 @@ all-leave g = record {
   whole = λ scene node. refl;
   some = λ scene node size. refl;
   wrote = λ scene node append text. refl;
-  made = λ path. refl;
+  made = λ name. refl;
   injected = λ pid event pairs. refl;
 }
 
@@ -264,17 +233,17 @@ does-owned g before (Asks request outcome) reply after was of all (answer, answe
 does-owned g before (Parks read) reply after was of all (inl does) = subst (Owned g) (sym does.1) all
 does-owned g before (Parks read) reply after was of all (inr does) = subst (Owned g) (sym does.1) all
 does-owned g before (Interrupts unique) reply after was of all does = subst (Owned g) (sym does.1) all
-does-owned g before (AsksNoting request outcome noting) reply after was (inl of) all (answer, answered, told, is) =
+does-owned g before (AsksNoting request takes outcome noting) reply after was (inl of) all (answer, answered, told, is) =
     subst (Owned g) (sym is)
     (past-stays g before.past request answer (errors_after (noting answer) before.errors) of.0
     (noting-owned g before.past (noting answer) before.errors (of.1 answer) all))
-does-owned g before (AsksNoting request outcome noting) reply after was (inr of) all (answer, answered, told, is) =
+does-owned g before (AsksNoting request takes outcome noting) reply after was (inr of) all (answer, answered, told, is) =
     subst (Owned g) (sym is) (by answer)
   where
     by : (a : Result Answer Refusal) → AreOwned g (past_after a request before.past) (errors_after (noting a) before.errors)
     by (Ok a) =
         subst (λ (asked : Request). AreOwned g (asked ∷ before.past) (errors_after (noting (Ok a)) before.errors)) (sym of.is)
-        (subst (λ (notes : Result Answer Refusal → Noting). AreOwned g (request_of (commands.Rmdir (instance_path of.name)) ∷ before.past)
+        (subst (λ (notes : Result Answer Refusal → Noting). AreOwned g (RemoveInstance (Some of.name) ∷ before.past)
         (errors_after (notes (Ok a)) before.errors)) (sym of.notes) (removal-owned g before.past of.name before.errors was all))
     by (Err refusal) =
         subst (λ (notes : Result Answer Refusal → Noting). AreOwned g before.past (errors_after (notes (Err refusal)) before.errors)) (sym of.notes) all

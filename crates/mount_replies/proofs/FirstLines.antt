@@ -9,10 +9,11 @@ use Rattle.trace_command.specs.declared.refusal.Refusal.{Refusal}
 use Rattle.trace_command.specs.declared.refusal.Refusal.TheVariants.{Memory}
 use Rattle.file_list.specs.FileKinds.{takes_lines}
 use Rattle.file_list.specs.declared.file.File.{File}
+use Rattle.mount_replies.proofs.AnswerLemmas.{may-line}
 use Rattle.mount_replies.proofs.KeptLines.{neither}
 use Rattle.mount_replies.proofs.KeptTexts.{either}
 use Rattle.mount_replies.specs.Lines.{command_lines, has_newline, is_blank_line, is_newline, line_at_once, lines_of, most_kept, one_command, pieces_of, stream_lines, without_newline}
-use Rattle.mount_replies.specs.Mounted.{IsAnswered, IsLineRun, IsRun, MayRun}
+use Rattle.mount_replies.specs.Mounted.{IsLineRun, IsRun, MayAnswer, MayRun}
 use Rattle.mount_replies.specs.ServedErrors.{IsFirstRefused, IsRefusedFor}
 use Rattle.mount_replies.specs.Services.{Terms}
 use Rattle.mount_replies.specs.Steps.{Asking, AsksFor, AsksNothing, IsTooLong, IsWrongLine, LineAsked, LineRefused, Ran}
@@ -118,7 +119,7 @@ refused-first : (g : Terms) (past : List Request) (first : LineAsked) (lines : L
 refused-first g past first lines fault refused = inr (record { first = first; more = lines; lines_are = refl; text_is = refl; refused = refused })
 
 command-first : (g : Terms) (past : List Request) (first : LineAsked) (lines : List LineAsked) (command : Request) (refusal : Refusal) → first.asking ≡ AsksFor command
-    → IsAnswered g past command (Err refusal) → FirstStops g past (first ∷ lines) first.text (Refused refusal)
+    → MayAnswer g past command (Err refusal) → FirstStops g past (first ∷ lines) first.text (Refused refusal)
 command-first g past first lines command Memory asks answered = inl refl
 command-first g past first lines command refusal asks answered =
     refused-first g past first lines (Refused refusal)
@@ -134,7 +135,7 @@ stops-so g past lines ran line text fault is refused stops =
 
 pub first-refused : (g : Terms) (past : List Request) (lines : List LineAsked) (ran : Ran) (line : LineRefused) → EndLater lines → MayRun g past lines ran
     → ran.refused ≡ Some line → (ran.done == 0) ≡ true → (ran.past ≡ past) × FirstStops g past lines line.text line.fault
-first-refused g past lines ran line ends (inr is) refused none = stops-so g past lines ran line [] (Refused Memory) is refused (inl refl)
+first-refused g past lines ran line ends (inr is) refused none = stops-so g past lines ran line [] (Refused Memory) is.0 refused (inl refl)
 first-refused g past [] ran line ends (inl runs) refused none = none-after past 0 ran line runs refused
 first-refused g past (first ∷ lines) ran line ends (inl runs) refused none = by first.asking refl runs
   where
@@ -153,7 +154,7 @@ first-refused g past (first ∷ lines) ran line ends (inl runs) refused none = b
     by IsTooLong is (inr stopped) = stops-so g past (first ∷ lines) ran line first.text (Refused Memory) stopped refused (inl refl)
     by (AsksFor request) is (Ok answer, answered, run) = more (request ∷ past) run
     by (AsksFor request) is (Err refusal, answered, stopped) =
-        stops-so g past (first ∷ lines) ran line first.text (Refused refusal) stopped refused (command-first g past first lines request refusal is answered)
+        stops-so g past (first ∷ lines) ran line first.text (Refused refusal) stopped refused (command-first g past first lines request refusal is (may-line g past request (Err refusal) answered))
 
 -- ---- of commands
 

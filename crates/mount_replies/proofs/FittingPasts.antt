@@ -14,7 +14,7 @@ use Rattle.mount_replies.proofs.RunLemmas.{lines-keep}
 use Rattle.mount_replies.specs.Mounted.{AreServed, Does, IsExchanged, Right, Serves, TellsOwed, Unframed, Wrong, past_after}
 use Rattle.mount_replies.specs.Owed.{Owed, ReplyAt, WakeupAt, owed, step_of_parked}
 use Rattle.mount_replies.specs.PastLaws.{PastsFitTheirTypes, just_mounted}
-use Rattle.mount_replies.specs.Served.{instance_path, step_of}
+use Rattle.mount_replies.specs.Served.{step_of}
 use Rattle.mount_replies.specs.Services.{Service, Terms, without_read}
 use Rattle.mount_replies.specs.Steps.{Asks, AsksLines, AsksNoting, Counts, Interrupts, Parks, Plain, Step, Takes, Tells}
 use Rattle.mount_replies.specs.declared.counted.Counted.{Counted}
@@ -32,7 +32,7 @@ each-fits g range = record {
   whole = λ scene node. tt;
   some = λ scene node size. few-records size 0;
   wrote = λ scene node append text. tt;
-  made = λ path. tt;
+  made = λ name. tt;
   injected = λ pid event pairs. (cpu-fits pid g.config.cpus range.some_cpus range.few_cpus, record { sfits = omega arith });
 }
 
@@ -58,13 +58,10 @@ does-fit g before (Asks request outcome) reply after of all (answer, answered, t
 does-fit g before (Parks read) reply after of all (inl does) = subst (λ (s : Service). Fit s.past) (sym does.1) all
 does-fit g before (Parks read) reply after of all (inr does) = subst (λ (s : Service). Fit s.past) (sym does.1) all
 does-fit g before (Interrupts unique) reply after of all does = subst (λ (s : Service). Fit s.past) (sym does.1) all
-does-fit g before (AsksNoting request outcome noting) reply after (inl of) all (answer, answered, told, is) =
+does-fit g before (AsksNoting request takes outcome noting) reply after (inl of) all (answer, answered, told, is) =
     subst (λ (s : Service). Fit s.past) (sym is) (one-fits before.past request answer of.0 all)
-does-fit g before (AsksNoting request outcome noting) reply after (inr of) all (answer, answered, told, is) =
-    subst (λ (s : Service). Fit s.past) (sym is) (one-fits before.past request answer (subst FitsItsTypes (sym of.is) (removal (instance_path of.name))) all)
-  where
-    removal : (path : List ℕ) → FitsItsTypes (request_of (commands.Rmdir path))
-    removal path = tt
+does-fit g before (AsksNoting request takes outcome noting) reply after (inr of) all (answer, answered, told, is) =
+    subst (λ (s : Service). Fit s.past) (sym is) (one-fits before.past request answer (subst FitsItsTypes (sym of.is) tt) all)
 does-fit g before (Tells noting takes outcome) reply after of all (inl does) = subst (λ (s : Service). Fit s.past) (sym does.1) all
 does-fit g before (Tells noting takes outcome) reply after of all (inr (may, told, same)) = subst (λ (s : Service). Fit s.past) (sym same) all
 does-fit g before (AsksLines lines outcome noting) reply after of all (ran, runs, told, is) =

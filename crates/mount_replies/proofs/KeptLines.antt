@@ -174,7 +174,7 @@ LeavesNone (Takes outcome) = NoneKeepsMore outcome.files
 LeavesNone (Asks request outcome) = (answer : Result Answer Refusal) → NoneKeepsMore (outcome answer).files
 LeavesNone (Parks read) = Unit {0}
 LeavesNone (Interrupts number) = Unit {0}
-LeavesNone (AsksNoting request outcome noting) = (answer : Result Answer Refusal) → NoneKeepsMore (outcome answer).files
+LeavesNone (AsksNoting request takes outcome noting) = (answer : Result Answer Refusal) → NoneKeepsMore (outcome answer).files
 LeavesNone (Tells noting takes outcome) = NoneKeepsMore outcome.files
 LeavesNone (AsksLines lines outcome noting) = (ran : Ran) → NoneKeepsMore (outcome ran).files
 LeavesNone (Counts count outcome) = NoneKeepsMore outcome.files
@@ -436,7 +436,7 @@ does-none g before (Asks request outcome) reply after none leaves (answer, answe
 does-none g before (Parks read) reply after none leaves (inl does) = subst (λ (s : Service). NoneKeepsMore s.files) (sym does.1) none
 does-none g before (Parks read) reply after none leaves (inr does) = subst (λ (s : Service). NoneKeepsMore s.files) (sym does.1) none
 does-none g before (Interrupts unique) reply after none leaves does = subst (λ (s : Service). NoneKeepsMore s.files) (sym does.1) none
-does-none g before (AsksNoting request outcome noting) reply after none leaves (answer, answered, told, is) =
+does-none g before (AsksNoting request takes outcome noting) reply after none leaves (answer, answered, told, is) =
     subst (λ (s : Service). NoneKeepsMore s.files) (sym is) (leaves answer)
 does-none g before (Tells noting takes outcome) reply after none leaves (inl does) = subst (λ (s : Service). NoneKeepsMore s.files) (sym does.1) leaves
 does-none g before (Tells noting takes outcome) reply after none leaves (inr (may, told, same)) = subst (λ (s : Service). NoneKeepsMore s.files) (sym same) none

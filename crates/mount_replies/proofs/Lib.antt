@@ -1,3 +1,4 @@
+pub mod AnswerLemmas
 pub mod Firsts
 pub mod Steps
 pub mod FileLemmas

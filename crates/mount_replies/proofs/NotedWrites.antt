@@ -10,7 +10,7 @@ use Rattle.fuse_wire.specs.Requests.{IsRequest}
 use Rattle.fuse_wire.specs.declared.request.Operation.{Operation}
 use Rattle.fuse_wire.specs.declared.request.Operation.TheVariants as operations
 use Rattle.fuse_wire.specs.declared.request.Request.{Request as Asked}
-use Rattle.trace_command.specs.Requests.{Request, request_of}
+use Rattle.trace_command.specs.Requests.{MakeInstance, RemoveInstance, Request, request_of}
 use Rattle.trace_command.specs.declared.command.Command.TheVariants as commands
 use Rattle.trace_command.specs.declared.command.Reply.{Reply as Answer}
 use Rattle.trace_command.specs.declared.refusal.Refusal.{Refusal}
@@ -37,6 +37,7 @@ use Rattle.mount_tree.specs.declared.node.Owner.TheVariants.{Top}
 use Rattle.mount_stub_files.specs.ToolWrites.{tool_write}
 use Rattle.mount_stub_files.specs.declared.write.ToolWrite.{ToolWrite}
 use Rattle.mount_stub_files.specs.declared.write.ToolWrite.TheVariants as writes
+use Rattle.mount_replies.proofs.AnswerLemmas.{may-noting}
 use Rattle.mount_replies.proofs.AnsweredOnce.{IsReadStep, parked-step, read-step}
 use Rattle.mount_replies.proofs.FirstLines.{EndLater, FirstStops, IsStreamRefused, NoneIsTooLong, all-first, first-refused, lines-end, once-refused, stream-ends, stream-refused}
 use Rattle.mount_replies.proofs.KeptLines.{neither}
@@ -45,9 +46,9 @@ use Rattle.mount_replies.specs.Errnos.{errno_of}
 use Rattle.mount_replies.specs.FileWrites.{begun_now, end_line, event_of_file, flush_file, flush_line, has_rest, inject, inject_at_once, inject_stream, noted_first_injection, release, release_line, write_file, write_kind, write_other, write_switch, write_text, write_tool}
 use Rattle.mount_replies.specs.Injections.{injection, pairs_of_line}
 use Rattle.mount_replies.specs.Lines.{asked_by_line, asked_by_pairs, errno_of_fault, flushed, goes_on, has_newline, injected, injected_at_once, is_blank_line, is_memory, is_newline, line_at_once, line_command, noted_command, noted_if_first, noted_line, pieces_of, released, stream_after, stream_lines, written, written_lines}
-use Rattle.mount_replies.specs.Mounted.{AreServed, Does, IsAnswered, MayRun, Right, TellsOwed, Unframed, Wrong, bytes_of_reply, past_after}
+use Rattle.mount_replies.specs.Mounted.{AreServed, Does, MayAnswer, MayRun, Right, TellsOwed, Unframed, Wrong, bytes_of_reply, past_after}
 use Rattle.mount_replies.specs.Owed.{Owed, ReplyAt, WakeupAt, owed, step_of_parked}
-use Rattle.mount_replies.specs.Served.{AsksNone, AsksToWrite, Emptying, clears, emptied, emptying_of, forgotten, forgotten_if_done, handed_out, instance_path, is_cached, make_folder, made_folder, opened, opened_file, opened_unless_emptied, poll_file, poll_kind, remove_folder, removed_folder, step_of}
+use Rattle.mount_replies.specs.Served.{AsksNone, AsksToWrite, Emptying, clears, emptied, emptying_of, forgotten, forgotten_if_done, handed_out, is_cached, make_folder, made_folder, opened, opened_file, opened_unless_emptied, poll_file, poll_kind, remove_folder, removed_folder, step_of}
 use Rattle.mount_replies.specs.ServedErrors.{EndsLines, IsBlamed, IsFileOf, IsFirstRefused, IsNoted, IsRefusedWrite, KeepLines, KeepsLine, NotedWritesWereRefused, OfCommand, OfEvent, OfLongLine, OfNothing, OfSwitch, OfWord, Opens, Writes, bytes_written, event_injected, first_not_done, not_done, noting_asked, noting_by, noting_told, writer_of}
 use Rattle.mount_replies.specs.Services.{OpenSeen, Service, Terms, count_of, drop_rest, file_at, just_opened, node_of, read_of_pipe, scene_of, with_stream, with_write, without_file, without_read, without_rest}
 use Rattle.mount_replies.specs.Sizes.{Telling, count_text, is_recent, set_attributes, get_attributes, size_by_kind, size_counted, size_of_text, tell_attributes, tell_entry, tell_size}
@@ -100,7 +101,7 @@ module _ (g : Terms) (s : Service) (pid : ℕ) (operation : Operation) (F : Open
   NotesWell past (Forgets owner) reply = Unit {0}
 
   abbrev StepNotes : Step → Type 0
-  StepNotes (AsksNoting request outcome noting) = (answer : Result Answer Refusal) → IsAnswered g s.past request answer
+  StepNotes (AsksNoting request takes outcome noting) = (answer : Result Answer Refusal) → MayAnswer g s.past request answer
       → NotesWell (past_after answer request s.past) (noting answer) (outcome answer).reply
   StepNotes (Tells noting takes outcome) = NotesWell s.past noting outcome.reply
   StepNotes (AsksLines lines outcome noting) = (ran : Ran) → MayRun g s.past lines ran → NotesWell ran.past (noting ran) (outcome ran).reply
@@ -122,10 +123,10 @@ module _ (g : Terms) (s : Service) (pid : ℕ) (operation : Operation) (F : Open
   noted-well before (Asks request outcome) reply after error does began notes is = keeps-none after.past error reply is
   noted-well before (Parks read) reply after error does began notes is = keeps-none after.past error reply is
   noted-well before (Interrupts unique) reply after error does began notes is = keeps-none after.past error reply is
-  noted-well before (AsksNoting request outcome noting) reply after error (answer, answered, told, same) began notes is =
+  noted-well before (AsksNoting request takes outcome noting) reply after error (answer, answered, told, same) began notes is =
       noted-so (past_after answer request s.past) after.past (noting answer) error (outcome answer).reply reply is told
       (ap (λ (a : Service). a.past) same ∙ ap (past_after answer request) began)
-      (notes answer (subst (λ (p : List Request). IsAnswered g p request answer) began answered))
+      (notes answer (subst (λ (p : List Request). MayAnswer g p request answer) began (may-noting g before.past request takes noting answer answered)))
   noted-well before (Tells noting takes outcome) reply after error (inl does) began notes is =
       noted-so s.past after.past noting error outcome.reply reply is does.0 (ap (λ (a : Service). a.past) does.1 ∙ began) notes
   noted-well before (Tells noting takes outcome) reply after error (inr refused) began notes is = keeps-none after.past error reply is
@@ -509,7 +510,7 @@ module _ (g : Terms) (s : Service) (pid : ℕ) (operation : Operation) (F : Open
   made-notes name None = tt
   made-notes name (Some (nodes.Folder Top folders.Instances)) =
       either StepNotes (nat_lt (scene_of g s).made most_made)
-      (Asks (request_of (commands.Mkdir (instance_path name))) (made_folder g (scene_of g s).made s.files)) (failed ENOSPC s.files) tt tt
+      (Asks (MakeInstance (Some name)) (made_folder g (scene_of g s).made s.files)) (failed ENOSPC s.files) tt tt
   made-notes name _ = tt
 
   forgotten-notes : (target : Option Node) (past : List Request) (reply : Option Reply) → NotesWell past (forgotten target) reply
@@ -523,8 +524,8 @@ module _ (g : Terms) (s : Service) (pid : ℕ) (operation : Operation) (F : Open
       λ answer is. answered (found_in (scene_of g s) name (Some (nodes.Folder Top folders.Instances))) answer
     where
       answered : (target : Option Node) (answer : Result Answer Refusal)
-          → NotesWell (past_after answer (request_of (commands.Rmdir (instance_path name))) s.past) (forgotten_if_done target answer) (removed_folder s.files answer).reply
-      answered target (Ok answer) = forgotten-notes target (request_of (commands.Rmdir (instance_path name)) ∷ s.past) (Some replies.Done)
+          → NotesWell (past_after answer (RemoveInstance (Some name)) s.past) (forgotten_if_done target answer) (removed_folder s.files answer).reply
+      answered target (Ok answer) = forgotten-notes target (RemoveInstance (Some name) ∷ s.past) (Some replies.Done)
       answered target (Err refusal) = tt
   removed-notes name _ = tt
 

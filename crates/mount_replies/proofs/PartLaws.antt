@@ -91,7 +91,7 @@ does-adds g before after (Asks request outcome) reply (answer, answered, told, i
 does-adds g before after (Parks read) reply (inl does) = adds-none before.past after.past 0 (ap (λ (s : Service). s.past) does.1)
 does-adds g before after (Parks read) reply (inr does) = adds-none before.past after.past 0 (ap (λ (s : Service). s.past) does.1)
 does-adds g before after (Interrupts unique) reply does = adds-none before.past after.past 0 (ap (λ (s : Service). s.past) does.1)
-does-adds g before after (AsksNoting request outcome noting) reply (answer, answered, told, is) =
+does-adds g before after (AsksNoting request takes outcome noting) reply (answer, answered, told, is) =
     asked-adds g before.past after.past request answer (ap (λ (s : Service). s.past) is)
 does-adds g before after (Tells noting takes outcome) reply (inl does) = adds-none before.past after.past 0 (ap (λ (s : Service). s.past) does.1)
 does-adds g before after (Tells noting takes outcome) reply (inr (may, told, same)) = adds-none before.past after.past 0 (ap (λ (s : Service). s.past) same)

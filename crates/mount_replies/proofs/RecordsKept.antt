@@ -36,7 +36,7 @@ KeepsText handle files (Takes outcome) = IsKept handle files outcome.files
 KeepsText handle files (Asks request outcome) = (answer : Result Answer Refusal) → IsKept handle files (outcome answer).files
 KeepsText handle files (Parks read) = Unit {0}
 KeepsText handle files (Interrupts number) = Unit {0}
-KeepsText handle files (AsksNoting request outcome noting) = (answer : Result Answer Refusal) → IsKept handle files (outcome answer).files
+KeepsText handle files (AsksNoting request takes outcome noting) = (answer : Result Answer Refusal) → IsKept handle files (outcome answer).files
 KeepsText handle files (Tells noting takes outcome) = IsKept handle files outcome.files
 KeepsText handle files (AsksLines lines outcome noting) = (ran : Ran) → IsKept handle files (outcome ran).files
 KeepsText handle files (Counts count outcome) = IsKept handle files outcome.files
@@ -47,7 +47,7 @@ still-keeps handle files (Takes outcome) still = still
 still-keeps handle files (Asks request outcome) still = still
 still-keeps handle files (Parks read) still = absurd still
 still-keeps handle files (Interrupts number) still = still
-still-keeps handle files (AsksNoting request outcome noting) still = still
+still-keeps handle files (AsksNoting request takes outcome noting) still = still
 still-keeps handle files (Tells noting takes outcome) still = still
 still-keeps handle files (AsksLines lines outcome noting) still = still
 still-keeps handle files (Counts count outcome) still = still
@@ -70,7 +70,7 @@ does-keeps g before (Parks read) reply after handle kept (inr does) =
     files-kept handle before after before.files (ap (λ (s : Service). s.files) does.1) (same-kept handle before.files)
 does-keeps g before (Interrupts number) reply after handle kept does =
     files-kept handle before after before.files (ap (λ (s : Service). s.files) does.1) (same-kept handle before.files)
-does-keeps g before (AsksNoting request outcome noting) reply after handle kept (answer, answered, told, same) =
+does-keeps g before (AsksNoting request takes outcome noting) reply after handle kept (answer, answered, told, same) =
     files-kept handle before after (outcome answer).files (ap (λ (s : Service). s.files) same) (kept answer)
 does-keeps g before (Tells noting takes outcome) reply after handle kept (inl does) =
     files-kept handle before after outcome.files (ap (λ (s : Service). s.files) does.1) kept

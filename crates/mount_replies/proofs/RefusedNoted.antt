@@ -172,7 +172,7 @@ run-refused g past done (first ∷ lines) ran line are runs refused =
 lines-refused : (g : Terms) (past : List Request) (lines : List LineAsked) (ran : Ran) (line : LineRefused) → AreCommands lines → MayRun g past lines ran
     → ran.refused ≡ Some line → IsRefusal line.fault
 lines-refused g past lines ran line are (inl runs) refused = run-refused g past 0 lines ran line are runs refused
-lines-refused g past lines ran line are (inr stopped) refused = stopped-so past 0 [] (Refused Memory) ran line tt stopped refused
+lines-refused g past lines ran line are (inr stopped) refused = stopped-so past 0 [] (Refused Memory) ran line tt stopped.0 refused
 
 -- one line that is not done is the first
 none-done : (past : List Request) (text : List ℕ) (fault : LineFault) (ran : Ran) → ran ≡ stopped_at past 0 text fault → (ran.done == 0) ≡ true
@@ -180,7 +180,7 @@ none-done past text fault ran is = ap (λ (r : Ran). r.done == 0) is
 
 one-refused : (g : Terms) (past : List Request) (one : LineAsked) (ran : Ran) (line : LineRefused) → MayRun g past (one ∷ []) ran → ran.refused ≡ Some line
     → (ran.done == 0) ≡ true
-one-refused g past one ran line (inr stopped) refused = none-done past [] (Refused Memory) ran stopped
+one-refused g past one ran line (inr stopped) refused = none-done past [] (Refused Memory) ran stopped.0
 one-refused g past one ran line (inl runs) refused = by one.asking runs
   where
     all : (now : List Request) → ran ≡ record { past = now; done = one.end; refused = None } → (ran.done == 0) ≡ true
@@ -258,7 +258,7 @@ module _ (g : Terms) (s : Service) where
   abbrev StepTells : Step → Type 0
   StepTells (Plain outcome) = NotesErrors Keeps outcome.reply
   StepTells (Takes outcome) = NotesErrors Keeps outcome.reply
-  StepTells (AsksNoting request outcome noting) = (answer : Result Answer Refusal) → NotesErrors (noting answer) (outcome answer).reply
+  StepTells (AsksNoting request takes outcome noting) = (answer : Result Answer Refusal) → NotesErrors (noting answer) (outcome answer).reply
   StepTells (Tells noting takes outcome) = NotesErrors noting outcome.reply
   StepTells (AsksLines lines outcome noting) = (ran : Ran) → MayRun g s.past lines ran → NotesErrors (noting ran) (outcome ran).reply
   StepTells _ = ⊥
@@ -268,7 +268,7 @@ module _ (g : Terms) (s : Service) where
   told-noted (Plain outcome) reply after does tells errno other is = tells errno other (sym does.0 ∙ is)
   told-noted (Takes outcome) reply after (inl does) tells errno other is = tells errno other (sym does.0 ∙ is)
   told-noted (Takes outcome) reply after (inr does) tells errno other is = no-memory Keeps errno other (sym does.0 ∙ is)
-  told-noted (AsksNoting request outcome noting) reply after (answer, answered, says, same) tells errno other is = tells answer errno other (sym says ∙ is)
+  told-noted (AsksNoting request takes outcome noting) reply after (answer, answered, says, same) tells errno other is = tells answer errno other (sym says ∙ is)
   told-noted (Tells noting takes outcome) reply after (inl does) tells errno other is = tells errno other (sym does.0 ∙ is)
   told-noted (Tells noting takes outcome) reply after (inr (can, says, same)) tells errno other is = no-memory Keeps errno other (sym says ∙ is)
   told-noted (AsksLines lines outcome noting) reply after (ran, runs, says, same) tells errno other is = tells ran runs errno other (sym says ∙ is)

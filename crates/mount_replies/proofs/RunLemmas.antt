@@ -3,7 +3,8 @@ use Rattle.std.proofs.Common.{◌≡◌, inl, inr, ℕ, ◌+◌, ◌≤◌, suc,
 use Rattle.std.specs.List.{AllByRecursion}
 use Rattle.trace_command.specs.Requests.{Request}
 use Rattle.trace_command.specs.declared.command.Reply.{Reply as Answer}
-use Rattle.mount_replies.specs.Mounted.{IsAnswered, IsLineRun, IsRun, MayRun}
+use Rattle.mount_replies.proofs.AnswerLemmas.{may-line}
+use Rattle.mount_replies.specs.Mounted.{IsLineRun, IsRun, MayAnswer, MayRun}
 use Rattle.mount_replies.specs.Services.{Terms}
 use Rattle.mount_replies.specs.Steps.{Asking, AsksFor, AsksNothing, IsTooLong, IsWrongLine, LineAsked, Ran}
 
@@ -30,7 +31,7 @@ any-lines (line ∷ lines) = (any-asking line.asking, any-lines lines)
 -- such a request that is done leaves it so
 abbrev pub IsLeft : Terms → (List Request → Type 0) → (Request → Type 0) → Type 0
 IsLeft g P Q =
-    (now : List Request) (request : Request) (answer : Answer) → P now → Q request → IsAnswered g now request (Ok answer) → P (request ∷ now)
+    (now : List Request) (request : Request) (answer : Answer) → P now → Q request → MayAnswer g now request (Ok answer) → P (request ∷ now)
 
 run-keeps : (g : Terms) (P : List Request → Type 0) (Q : Request → Type 0) → IsLeft g P Q → (past : List Request) (done : ℕ) (lines : List LineAsked) (ran : Ran)
     → AllAsk Q lines → P past → IsRun g past done lines ran → P ran.past
@@ -45,13 +46,13 @@ run-keeps g P Q left past done (line ∷ lines) ran asks holds is =
     by IsWrongLine only rest (inr stops) = subst (λ (r : Ran). P r.past) (sym stops) holds
     by IsTooLong only rest (inl stops) = subst (λ (r : Ran). P r.past) (sym stops) holds
     by IsTooLong only rest (inr stops) = subst (λ (r : Ran). P r.past) (sym stops) holds
-    by (AsksFor request) only rest (Ok answer, answered, runs) = rest (request ∷ past) (left past request answer holds only answered) runs
+    by (AsksFor request) only rest (Ok answer, answered, runs) = rest (request ∷ past) (left past request answer holds only (may-line g past request (Ok answer) answered)) runs
     by (AsksFor request) only rest (Err refusal, answered, runs) = subst (λ (r : Ran). P r.past) (sym runs) holds
 
 pub lines-keep : (g : Terms) (P : List Request → Type 0) (Q : Request → Type 0) → IsLeft g P Q → (past : List Request) (lines : List LineAsked) (ran : Ran)
     → AllAsk Q lines → P past → MayRun g past lines ran → P ran.past
 lines-keep g P Q left past lines ran asks holds (inl runs) = run-keeps g P Q left past 0 lines ran asks holds runs
-lines-keep g P Q left past lines ran asks holds (inr stops) = subst (λ (r : Ran). P r.past) (sym stops) holds
+lines-keep g P Q left past lines ran asks holds (inr stops) = subst (λ (r : Ran). P r.past) (sym stops.0) holds
 
 -- ---- how many commands it does
 
@@ -95,4 +96,4 @@ run-adds g past done (line ∷ lines) ran is = by line.asking (λ now. run-adds 
 
 pub lines-add : (g : Terms) (past : List Request) (lines : List LineAsked) (ran : Ran) → MayRun g past lines ran → Adds past ran.past (length lines)
 lines-add g past lines ran (inl runs) = run-adds g past 0 lines ran runs
-lines-add g past lines ran (inr stops) = adds-none past ran.past (length lines) (ap (λ (r : Ran). r.past) stops)
+lines-add g past lines ran (inr stops) = adds-none past ran.past (length lines) (ap (λ (r : Ran). r.past) stops.0)

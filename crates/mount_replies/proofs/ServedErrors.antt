@@ -29,7 +29,7 @@ by-step g before (Asks request outcome) reply after (answer, answered, told, sam
 by-step g before (Parks read) reply after (inl does) = ap (λ (s : Service). s.errors) does.1
 by-step g before (Parks read) reply after (inr does) = ap (λ (s : Service). s.errors) does.1
 by-step g before (Interrupts unique) reply after does = ap (λ (s : Service). s.errors) does.1
-by-step g before (AsksNoting request outcome noting) reply after (answer, answered, told, same) = ap (λ (s : Service). s.errors) same
+by-step g before (AsksNoting request takes outcome noting) reply after (answer, answered, told, same) = ap (λ (s : Service). s.errors) same
 by-step g before (Tells noting takes outcome) reply after (inl does) = ap (λ (s : Service). s.errors) does.1
 by-step g before (Tells noting takes outcome) reply after (inr (may, told, same)) = ap (λ (s : Service). s.errors) same
 by-step g before (AsksLines lines outcome noting) reply after (ran, runs, told, same) = ap (λ (s : Service). s.errors) same

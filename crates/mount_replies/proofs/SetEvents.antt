@@ -11,7 +11,7 @@ use Rattle.mount_tree.proofs.AddressLaws.{path-address}
 use Rattle.mount_tree.proofs.AfterRequests.{leaving}
 use Rattle.mount_tree.specs.Children.{file_is_there, is_there, owner_is_there}
 use Rattle.file_list.specs.FileKinds.{kind_of_file}
-use Rattle.mount_tree.specs.NodePaths.{owner_name}
+use Rattle.mount_tree.specs.NodePaths.{owner_name, path_of}
 use Rattle.mount_tree.specs.Scenes.{SceneSeen, event_at}
 use Rattle.mount_tree.specs.ScenesAfter.{scene_after}
 use Rattle.mount_tree.specs.TreeLaws.{IsSound}
@@ -23,12 +23,15 @@ use Rattle.mount_tree.specs.declared.scene.Event.{Event}
 use Rattle.file_list.specs.declared.files.ToolFile.TheVariants as tools
 use Rattle.mount_stub_files.specs.ToolTexts.{enabled_line, event_line, tool_text}
 use Rattle.mount_stub_files.specs.ToolWrites.{tool_write}
+use Rattle.mount_stub_files.specs.WrongWords.{wrong_offset}
 use Rattle.mount_stub_files.specs.declared.write.ToolWrite.{ToolWrite}
 use Rattle.mount_stub_files.specs.declared.write.ToolWrite.TheVariants.{Switch}
+use Rattle.mount_replies.proofs.AnswerLemmas.{may-noting}
 use Rattle.mount_replies.proofs.ShownLemmas.{reason}
 use Rattle.mount_replies.proofs.ToolReads.{served_scenes_are_sound}
 use Rattle.mount_replies.specs.Errnos.{errno_of}
-use Rattle.mount_replies.specs.FileWrites.{switch_text, write_file, write_kind, write_other, write_switch, write_there, write_tool}
+use Rattle.mount_replies.specs.FileWrites.{begun_now, switch_text, write_file, write_kind, write_other, write_switch, write_there, write_tool}
+use Rattle.mount_replies.specs.Lines.{noted_answer}
 use Rattle.mount_replies.specs.Mounted.{Does, bytes_of_reply}
 use Rattle.mount_replies.specs.PastLaws.{IsReason, instance_of, write_once}
 use Rattle.mount_replies.specs.Services.{OpenSeen, Service, Terms, file_at, node_of, scene_of}
@@ -111,7 +114,10 @@ set_events_are_shown g requests messages before after request bytes handle offse
         inr (record {
           errno = errno_of refusal;
           why = subst (λ (r : Request). IsReason g before.past r (errno_of refusal)) asked
-              (reason g before.past (write_of (scene_of g before) (nodes.File file.owner (OfEvent event.index per_event.Enable)) false (switch_text on)) refusal answered);
+              (reason g before.past (write_of (scene_of g before) (nodes.File file.owner (OfEvent event.index per_event.Enable)) false (switch_text on)) refusal
+              (may-noting g before.past (write_of (scene_of g before) (nodes.File file.owner (OfEvent event.index per_event.Enable)) false (switch_text on)) false
+              (noted_answer (begun_now g before file) (path_of (scene_of g before) (nodes.File file.owner (OfEvent event.index per_event.Enable))) (switch_text on)
+              own (wrong_offset own)) (Err refusal) answered));
           told = is.told ∙ ap (bytes_of_reply request.unique) replied;
           past = ap (λ (s : Service). s.past) now;
         })

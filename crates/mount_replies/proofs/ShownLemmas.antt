@@ -32,7 +32,7 @@ use Rattle.mount_replies.proofs.PartLaws.{reading-kept}
 use Rattle.mount_replies.specs.Errnos.{errno_of}
 use Rattle.mount_replies.specs.FileWrites.{write_file, write_kind, write_other, write_text, write_there}
 use Rattle.mount_replies.specs.Lines.{command_lines, command_text, has_newline, is_blank_line, line_command, lines_of, one_command, pieces_of, without_newline, written_lines}
-use Rattle.mount_replies.specs.Mounted.{Does, IsAnswered, MayRun, bytes_of_reply}
+use Rattle.mount_replies.specs.Mounted.{Does, MayAnswer, MayRun, bytes_of_reply}
 use Rattle.mount_replies.specs.PastLaws.{IsMissing, IsReason, NotShown, ReadsAnew, ReadsShowThePast, RemovedFilesAreMissing, Shown, StatsShowThePast, WasDone, WritesAreCommands, WritesLines, instance_of, is_file, is_text, line_written, read_whole, write_once}
 use Rattle.mount_replies.specs.Served.{is_cached, read_anew, read_file, read_kind, read_text, read_there}
 use Rattle.mount_replies.specs.Services.{OpenSeen, Service, Terms, file_at, node_of, read_of_pipe, scene_of}
@@ -112,7 +112,7 @@ done-shows g instance past meant answer whole is =
     read-shows g instance past meant answer whole (unrefused (missing g past meant) (read_answer g instance past None meant) answer found)
 
 -- an answer that is a refusal is the defined one, or memory was refused
-pub reason : (g : Terms) (past : List Request) (command : Request) (refused : Refusal) → IsAnswered g past command (Err refused)
+pub reason : (g : Terms) (past : List Request) (command : Request) (refused : Refusal) → MayAnswer g past command (Err refused)
     → IsReason g past command (errno_of refused)
 reason g past command refusal.Memory answered = inl refl
 reason g past command refused answered = inr (refused, answered (λ same. absurd (cc)), refl)
@@ -170,12 +170,12 @@ anew : (g : Terms) (before after : Service) (unique handle size : ℕ) (file : O
 anew g before after unique handle size file meant reply bytes ranges was opened text there means told (Err refused, answered, replied, is) =
     let why : IsReason g before.past (read_whole (instance_of g before file) meant) (errno_of refused) =
     subst (λ (asked : Request). IsReason g before.past asked (errno_of refused)) (asked-is g before file meant ranges was there means)
-    (reason g before.past (read_of (scene_of g before) (node_of file) None) refused answered) in
+    (reason g before.past (read_of (scene_of g before) (node_of file) None) refused answered.reply) in
     NotShown (record { errno = errno_of refused; why = why; told = told ∙ ap (bytes_of_reply unique) replied; now = is })
 anew g before after unique handle size file meant reply bytes ranges was opened text there means told (Ok answer, answered, replied, is) =
     let command = read_of (scene_of g before) (node_of file) None in
     let same = asked-is g before file meant ranges was there means in
-    let done = had-room g.config before.past command answer answered in
+    let done = had-room g.config before.past command answer answered.reply in
     let shows : text_in answer ≡ text_of g.config (instance_of g before file) before.past meant =
     done-shows g.config (instance_of g before file) before.past meant answer (meant-whole (scene_of g before) file.file meant text means)
     (ap (answer_with_room g.config before.past) (sym same) ∙ done.0) in

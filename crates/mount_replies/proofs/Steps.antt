@@ -9,7 +9,7 @@ use Rattle.trace_command.specs.declared.command.Reply.{Reply as Answer}
 use Rattle.trace_command.specs.declared.refusal.Refusal.{Refusal}
 use Rattle.trace_command.specs.declared.refusal.Refusal.TheVariants.{Memory}
 use Rattle.error_log.specs.Errors.{ErrorSeen}
-use Rattle.mount_replies.specs.Mounted.{HasLedTo, IsAsked, IsRun, IsStep, IsTold, MountSeen, past_after, stopped_at, terms_of}
+use Rattle.mount_replies.specs.Mounted.{BeginsDone, HasLedTo, IsAsked, IsRun, IsStep, IsTold, MountSeen, past_after, stopped_at, terms_of}
 use Rattle.mount_replies.specs.Services.{OpenSeen}
 use Rattle.mount_replies.specs.Steps.{Asks, AsksLines, AsksNoting, Keeps, LineAsked, Noting, Outcome, Parks, Ran, Step, Takes, Tells, errors_after, plain, told}
 use Rattle.mount_replies.specs.declared.counted.Counted.{Counted}
@@ -53,10 +53,10 @@ asked-step past old mid request outcome answer now asked is = record {
 
 -- a command is asked that is noted where it is refused
 pub noted-step : (past : List Request) (old mid : MountSeen) (request : Request) (outcome : Result Answer Refusal → Outcome)
-    (noting : Result Answer Refusal → Noting) (answer : Result Answer Refusal) (now : List (Option OpenSeen))
-    → IsAskedNoting past old mid request noting answer → now ≡ (outcome answer).files
-    → IsStep past old (record mid { files = now }) (AsksNoting request outcome noting) (outcome answer).reply
-noted-step past old mid request outcome noting answer now asked is = record {
+    (takes : Bool) (noting : Result Answer Refusal → Noting) (answer : Result Answer Refusal) (now : List (Option OpenSeen))
+    → IsAskedNoting past old mid request takes noting answer → now ≡ (outcome answer).files
+    → IsStep past old (record mid { files = now }) (AsksNoting request takes outcome noting) (outcome answer).reply
+noted-step past old mid request outcome takes noting answer now asked is = record {
   after = past_after answer request past;
   mounted = record { lives = asked.mounted.lives; scene = asked.mounted.scene };
   terms = asked.terms;
@@ -111,15 +111,15 @@ lines-step past old mid lines outcome noting ran now errors reply mounted terms 
 pub unrun-step : (past : List Request) (old : MountSeen) (lines : List LineAsked) (outcome : Ran → Outcome) (noting : Ran → Noting)
     (now : List (Option OpenSeen)) (errors : List ErrorSeen) (reply : Reply) → HasLedTo past old
     → (outcome (stopped_at past 0 [] (Refused Memory))).reply ≡ Some reply → now ≡ (outcome (stopped_at past 0 [] (Refused Memory))).files
-    → errors ≡ errors_after (noting (stopped_at past 0 [] (Refused Memory))) old.errors
+    → errors ≡ errors_after (noting (stopped_at past 0 [] (Refused Memory))) old.errors → (BeginsDone (terms_of old) past lines → ⊥)
     → IsStep past old (record old { files = now; errors = errors }) (AsksLines lines outcome noting) (Some reply)
-unrun-step past old lines outcome noting now errors reply mounted told is notes = record {
+unrun-step past old lines outcome noting now errors reply mounted told is notes none = record {
   after = past;
   mounted = record { lives = mounted.lives; scene = mounted.scene };
   terms = refl;
   does = (
     stopped_at past 0 [] (Refused Memory),
-    inr refl,
+    inr (refl, none),
     sym told,
     ap (λ (f : List (Option OpenSeen)). record { past = past; files = f; parked = old.parked; errors = errors; counted = old.counted }) is
         ∙ ap (λ (e : List ErrorSeen). record { past = past; files = (outcome (stopped_at past 0 [] (Refused Memory))).files; parked = old.parked; errors = e; counted = old.counted }) notes,
@@ -129,10 +129,10 @@ unrun-step past old lines outcome noting now errors reply mounted told is notes 
 -- so that nothing has changed
 pub unread-step : (past : List Request) (old : MountSeen) (lines : List LineAsked) (outcome : Ran → Outcome) (noting : Ran → Noting) → HasLedTo past old
     → outcome (stopped_at past 0 [] (Refused Memory)) ≡ told (replies.Error ENOMEM) old.files → noting (stopped_at past 0 [] (Refused Memory)) ≡ Keeps
-    → IsStep past old old (AsksLines lines outcome noting) (Some (replies.Error ENOMEM))
-unread-step past old lines outcome noting mounted is keeps =
+    → (BeginsDone (terms_of old) past lines → ⊥) → IsStep past old old (AsksLines lines outcome noting) (Some (replies.Error ENOMEM))
+unread-step past old lines outcome noting mounted is keeps none =
     unrun-step past old lines outcome noting old.files old.errors (replies.Error ENOMEM) mounted (ap (λ (o : Outcome). o.reply) is)
-    (ap (λ (o : Outcome). o.files) (sym is)) (ap (λ (n : Noting). errors_after n old.errors) (sym keeps))
+    (ap (λ (o : Outcome). o.files) (sym is)) (ap (λ (n : Noting). errors_after n old.errors) (sym keeps)) none
 
 -- and told
 pub told-step : (past : List Request) (old new : MountSeen) (step : Step) (unique : ℕ) (bytes : List ℕ) (reply : Reply)

@@ -88,7 +88,7 @@ event-done past old new request asking answer asked quiet is = record {
     kept = record { terms = asked.terms; files = asked.files; parked = asked.parked; errors = asked.errors; counted = asked.counted };
     runs = λ done line lines ran asks rest.
         subst (λ (a : Asking). IsLineRun (terms_of old) past done line.text (λ (now : List Request). IsRun (terms_of old) now line.end lines ran) ran a)
-        (sym (asks ∙ is)) (Ok answer, asked.answered, rest);
+        (sym (asks ∙ is)) (Ok answer, inl asked.answered, rest);
   };
   declared = ap (λ (d : Option Definition). declared_events past ++ option_to_list d) quiet.declares_none ∙ append-nil (declared_events past);
 }
@@ -103,7 +103,7 @@ event-refused past old new request asking refusal asked is = record {
       subst (λ (a : Asking). IsLineRun (terms_of old) past done line.text
       (λ (now : List Request). IsRun (terms_of old) now line.end lines (stopped_at past done line.text (Refused refusal)))
       (stopped_at past done line.text (Refused refusal)) a)
-      (sym (asks ∙ is)) (Err refusal, asked.answered, refl);
+      (sym (asks ∙ is)) (Err refusal, inl asked.answered, refl);
 }
 
 -- it is no event
@@ -137,7 +137,7 @@ memory-line past old cpus pid event (Some pairs) asking mounted is = record {
       subst (λ (a : Asking). IsLineRun (terms_of old) past done line.text
       (λ (now : List Request). IsRun (terms_of old) now line.end lines (stopped_at past done line.text (Refused Memory)))
       (stopped_at past done line.text (Refused Memory)) a)
-      (sym (asks ∙ is)) (Err Memory, λ other. absurd (other refl), refl);
+      (sym (asks ∙ is)) (Err Memory, inl (record { reply = λ other. absurd (other refl); takes_none = λ none. absurd none }), refl);
 }
 
 -- a call that did not fail

@@ -1,5 +1,5 @@
 -- Writes of lines that are events, and lines of a stream that end, as steps.
-use Rattle.std.proofs.Common.{◌≡◌, ℕ, Bool, true, false, ◌==◌, ◌&&◌, ◌||◌, if◌then◌else◌, is_some, zero, suc, eq-eqb, List, [], ◌∷◌, ◌++◌, length, set, Option, Some, None, Result, Ok, Err, Bor, refl, sym, ap, subst, ◌∙◌, inl, inr}
+use Rattle.std.proofs.Common.{◌≡◌, ℕ, ◌+◌, nat_lt, Bool, true, false, ◌==◌, ◌&&◌, ◌||◌, if◌then◌else◌, is_some, zero, suc, eq-eqb, List, [], ◌∷◌, ◌++◌, length, set, Option, Some, None, Result, Ok, Err, Bor, refl, sym, ap, subst, ◌∙◌, inl, inr}
 use Rattle.std.proofs.Math.Dec.{eqb-suc-zero}
 use Rattle.std.specs.List.{position, slice_get}
 use Rattle.std.specs.Option.{option_copied, option_map}
@@ -12,6 +12,7 @@ use Rattle.trace_command.specs.declared.command.Reply.{Reply as Answer}
 use Rattle.trace_command.specs.declared.refusal.Refusal.{Refusal}
 use Rattle.trace_command.specs.declared.refusal.Refusal.TheVariants.{Memory}
 use Rattle.trace_format.specs.Definitions.{Definition}
+use Rattle.trace_format.specs.declared.pair.Pair.{Pair}
 use Rattle.tracer_specification.specs.Settings.{declared_events, now_of}
 use Rattle.error_log.specs.Errors.{ErrorSeen, begun}
 use Rattle.mount_tree.specs.NodePaths.{path_of}
@@ -22,8 +23,9 @@ use Rattle.file_list.specs.declared.file.File.TheVariants as files
 use Rattle.mount_tree.specs.declared.node.Node.TheVariants as nodes
 use Rattle.mount_tree.specs.declared.node.Owner.{Owner}
 use Rattle.mount_replies.specs.FileWrites.{begun_now, end_line, event_of_file, flush_file, flush_line, has_rest, inject, inject_at_once, inject_lines, inject_stream, noted_first_injection, release, release_line}
-use Rattle.mount_replies.specs.Lines.{asked_by_line, errno_of_fault, flushed, goes_on, has_newline, injected, injected_at_once, is_memory, is_newline, last_piece, line_at_once, noted_if_first, noted_line, pieces_of, released, stream_after, stream_lines}
-use Rattle.mount_replies.specs.Mounted.{HasLedTo, GoesOnIf, IsAnswered, IsLineRun, IsRun, IsStep, MountSeen, all_done, service_of, terms_of}
+use Rattle.mount_replies.specs.Lines.{asked_by_line, asked_by_pairs, errno_of_fault, flushed, goes_on, has_newline, injected, injected_at_once, is_blank_line, is_memory, is_newline, last_piece, line_at_once, most_kept, noted_if_first, noted_line, pieces_of, released, stream_after, stream_lines, too_long}
+use Rattle.mount_replies.specs.Mounted.{AsksDone, BeginsDone, GoesOnIf, HasLedTo, IsLineAnswered, IsLineRun, IsRun, IsStep, MountSeen, all_done, service_of, terms_of}
+use Rattle.mount_replies.specs.Injections.{pairs_of_line}
 use Rattle.mount_replies.specs.Services.{OpenSeen, Service, Terms, drop_rest, file_at, node_of, scene_of, with_stream, without_file, without_rest}
 use Rattle.mount_replies.specs.Steps.{Asking, AsksFor, AsksLines, AsksNothing, IsTooLong, IsWrongLine, Keeps, LineAsked, LineRefused, Noting, Outcome, Ran, errors_after, plain, told}
 use Rattle.mount_replies.specs.declared.fault.LineFault.{LineFault}
@@ -34,6 +36,7 @@ use Rattle.mount_replies.specs.declared.stream.Stream.{Stream}
 use Rattle.mount_replies.specs.declared.writing.Target.{Target}
 use Rattle.mount_replies.specs.private.LineRuns.{InjectsTo, IsEventDone, IsLineStopped, refused_line}
 use Rattle.mount_replies.specs.private.Targets.{Ends, EndsLineAs, EndsStream, IsRefusedFor, IsToldFor, NotesInjection}
+use Rattle.mount_replies.proofs.AnswerLemmas.{unnoted-line}
 use Rattle.mount_replies.proofs.PieceLemmas.{has-none, has-one}
 use Rattle.mount_replies.proofs.Steps.{lines-step, plain-step, unread-step}
 
@@ -62,11 +65,11 @@ line-memory g past done line lines ran more IsWrongLine stops = elim stops [ inl
 line-memory g past done line lines ran more IsTooLong stops = elim stops [ inl stopped ↦ inr (ap with_memory stopped) | inr stopped ↦ inr (ap with_memory stopped) ]
 line-memory g past done line lines ran more (AsksFor request) asked = by asked.0 asked.1 asked.2
   where
-    by : (answer : Result Answer Refusal) → IsAnswered g past request answer
+    by : (answer : Result Answer Refusal) → IsLineAnswered g past request answer
         → GoesOnIf past done line.text request (λ (now : List Request). IsRun g now line.end lines ran) ran answer
         → IsLineRun g past done line.text (λ (now : List Request). IsRun g now line.end lines (with_memory ran)) (with_memory ran) (AsksFor request)
     by (Ok answer) is rest = (Ok answer, is, more (request ∷ past) rest)
-    by (Err refusal) is stopped = (Err Memory, λ other. absurd (other refl), ap with_memory stopped)
+    by (Err refusal) is stopped = (Err Memory, unnoted-line g past request refusal is, ap with_memory stopped)
 
 memory-run : (g : Terms) (past : List Request) (done : ℕ) (lines : List LineAsked) (ran : Ran) → is_some ran.refused ≡ true
     → IsRun g past done lines ran → IsRun g past done lines (with_memory ran)
@@ -239,6 +242,35 @@ stream-written past old mid new own event target index lock_owner pid kept size 
     (subst (λ (s : Stream). Ends mid new (injected target.handle s size mid.files progress.done end.0)
     (noted_if_first (noted_line event error) progress.done end.0) mid.errors reply) stream_is end.2))
 
+-- each of its lines takes memory
+line-takes : (g : Terms) (past : List Request) (cpus pid : ℕ) (event : Definition) (more : Type 0) (line : List ℕ) → (more → ⊥)
+    → AsksDone g past more (asked_by_line cpus pid event line) → ⊥
+line-takes g past cpus pid event more line none = by (is_blank_line line)
+  where
+    pairs : (read : Option (List Pair)) → AsksDone g past more (asked_by_pairs cpus pid event read) → ⊥
+    pairs None takes = takes
+    pairs (Some given) takes = takes.0
+
+    by : (blank : Bool) → AsksDone g past more (if blank then AsksNothing else asked_by_pairs cpus pid event (pairs_of_line line)) → ⊥
+    by true takes = none takes
+    by false takes = pairs (pairs_of_line line) takes
+
+long-takes : (g : Terms) (past : List Request) (size : ℕ) (rest : List ℕ) → BeginsDone g past (too_long size rest) → ⊥
+long-takes g past size rest = by (nat_lt most_kept (length rest))
+  where
+    by : (long : Bool) → BeginsDone g past (if long then record { text = rest; asking = IsTooLong; end = size } ∷ [] else []) → ⊥
+    by true takes = takes
+    by false takes = takes
+
+stream-takes : (g : Terms) (past : List Request) (cpus pid : ℕ) (event : Definition) (kept size start : ℕ) (pieces : List (List ℕ))
+    → BeginsDone g past (stream_lines (asked_by_line cpus pid event) kept size start pieces) → ⊥
+unfolding stream_lines
+stream-takes g past cpus pid event kept size start [] takes = takes
+stream-takes g past cpus pid event kept size start (rest ∷ []) takes = long-takes g past size rest takes
+stream-takes g past cpus pid event kept size start (line ∷ next ∷ more) takes =
+    line-takes g past cpus pid event (BeginsDone g past (stream_lines (asked_by_line cpus pid event) kept size (start + length line + 1) (next ∷ more))) line
+    (stream-takes g past cpus pid event kept size (start + length line + 1) (next ∷ more)) takes
+
 -- or memory was refused before
 pub stream-unread : (past : List Request) (old : MountSeen) (own : OpenSeen) (event : Definition) (handle lock_owner pid : ℕ) (written : List ℕ) → HasLedTo past old
     → IsStep past old old (inject_stream (terms_of old) (service_of past old) handle lock_owner pid written own event) (Some (replies.Error ENOMEM))
@@ -247,6 +279,7 @@ stream-unread past old own event handle lock_owner pid written mounted =
     (stream_lines (asked_by_line old.live.config.cpus pid event) (length own.stream.rest) (length written) 0 (pieces_of (own.stream.rest ++ written)))
     (λ (ran : Ran). injected handle (stream_after own.stream lock_owner pid written) (length written) old.files ran.done ran.refused)
     (noted_first_injection (terms_of old) (service_of past old) own event) mounted refl refl
+    (stream-takes (terms_of old) past old.live.config.cpus pid event (length own.stream.rest) (length written) 0 (pieces_of (own.stream.rest ++ written)))
 
 -- ---- a line ends
 

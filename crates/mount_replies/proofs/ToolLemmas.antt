@@ -53,15 +53,3 @@ tool-refused past old handle offset size None unique bytes mounted said =
 tool-refused past old handle offset size (Some text) unique bytes mounted said =
     told-step past old old (taking (replies.Data (part_of offset size text)) (with_reading offset size text handle old.files)) unique bytes (replies.Error ENOMEM)
     (memory-step past old _ mounted) said
-
--- ---- OPEN
-
--- a command was asked of a mounted tracer that had got other open files before
-pub opened-step : (past : List Request) (old mid : MountSeen) (files : List (Option OpenSeen)) (request : Request)
-    (outcome : Result Answer Refusal → Outcome) (noting : Result Answer Refusal → Noting) (answer : Result Answer Refusal) (now : List (Option OpenSeen))
-    → IsAskedNoting past (record old { files = files }) mid request noting answer → now ≡ (outcome answer).files
-    → IsStep past old (record mid { files = now }) (AsksNoting request outcome noting) (outcome answer).reply
-opened-step past old mid files request outcome noting answer now asked is =
-    let step : IsStep past (record old { files = files }) (record mid { files = now }) (AsksNoting request outcome noting) (outcome answer).reply =
-    noted-step past (record old { files = files }) mid request outcome noting answer now asked is in
-    record { after = step.after; mounted = step.mounted; terms = step.terms; does = step.does }

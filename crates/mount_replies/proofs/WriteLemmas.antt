@@ -1,5 +1,5 @@
 -- What writes come to.
-use Rattle.std.proofs.Common.{◌≡◌, ◌≢◌, ℕ, Bool, true, false, not, if◌then◌else◌, List, [], ◌∷◌, ◌++◌, length, Option, Some, None, Result, Ok, Err, ◌==◌, inl, refl, sym, ap, subst, ◌∙◌}
+use Rattle.std.proofs.Common.{◌≡◌, ◌≢◌, ℕ, Bool, true, false, not, if◌then◌else◌, List, [], ◌∷◌, ◌++◌, length, Option, Some, None, Result, Ok, Err, ◌==◌, inl, inr, refl, sym, ap, subst, ◌∙◌}
 use Rattle.std.specs.List.{slice_get}
 use Rattle.fuse_wire.specs.declared.errno.Errno.{Errno}
 use Rattle.fuse_wire.specs.declared.errno.Errno.TheVariants.{ENOENT, EINVAL, ENOMEM}
@@ -24,7 +24,7 @@ use Rattle.mount_stub_files.specs.WrongWords.{wrong_offset, wrong_words}
 use Rattle.mount_stub_files.specs.declared.write.ToolWrite.TheVariants.{Wrong}
 use Rattle.mount_replies.specs.FileWrites.{begun_now, inject, switch_text, switched, write_file, write_kind, write_other, write_switch, write_text, write_tool, wrong_write}
 use Rattle.mount_replies.specs.Lines.{errno_of_fault, lines_of, noted_answer, noted_command, noted_if_first, written, written_lines}
-use Rattle.mount_replies.specs.Mounted.{HasLedTo, IsAsked, IsRun, IsStep, MountSeen, service_of, terms_of}
+use Rattle.mount_replies.specs.Mounted.{HasLedTo, IsAsked, IsNote, IsRun, IsStep, MountSeen, service_of, terms_of}
 use Rattle.mount_replies.specs.Served.{emptied, emptied_first, open_flags}
 use Rattle.mount_replies.specs.Services.{OpenSeen, Service, Terms, file_at, free_handle, just_opened, node_of, scene_of, with_file, with_write}
 use Rattle.mount_replies.specs.Steps.{AsksNoting, Keeps, LineAsked, LineRefused, Notes, Noting, Outcome, Ran, Step, errors_after, failed, write_of}
@@ -35,6 +35,7 @@ use Rattle.mount_replies.specs.declared.writing.Target.{Target}
 use Rattle.mount_replies.specs.private.LineRuns.{RunsTo, target_command}
 use Rattle.mount_replies.specs.private.Notings.{AsksNoted, IsAskedNoting}
 use Rattle.mount_replies.specs.private.Targets.{EndsCommands, IsRefusedFor, IsTarget, NotesLine, noted_target}
+use Rattle.mount_replies.proofs.AnswerLemmas.{takes-more, unnoted-answer}
 use Rattle.mount_replies.proofs.Steps.{lines-step, noted-step, tells-step}
 use Rattle.mount_replies.proofs.StreamSteps.{runs-for}
 
@@ -56,11 +57,11 @@ other-kind g s handle lock_owner pid bytes own (files.Inject event) other = absu
 
 -- ---- one command that is noted
 
--- memory is refused before it is
+-- memory for something else is refused before it is asked
 pub unnoted : (past : List Request) (old : MountSeen) (request : Request) (error : ErrorSeen) (path text shown : List ℕ) (at : ℕ) → HasLedTo past old
-    → IsAskedNoting past old old request (noted_answer error path text shown at) (Err Memory)
+    → IsAskedNoting past old old request true (noted_answer error path text shown at) (Err Memory)
 unnoted past old request error path text shown at mounted = record {
-  answered = λ other. absurd (other refl);
+  answered = inr (refl, inr refl);
   mounted = mounted;
   terms = refl;
   files = refl;
@@ -69,11 +70,17 @@ unnoted past old request error path text shown at mounted = record {
   errors = refl;
 }
 
+-- each refusal but Memory is noted
+is-note : (error : ErrorSeen) (path text shown : List ℕ) (at : ℕ) (refusal : Refusal) → refusal ≢ Memory
+    → IsNote (noted_answer error path text shown at (Err refusal))
+is-note error path text shown at Memory other = absurd (other refl)
+is-note error path text shown at refusal other = tt
+
 -- it was done
 pub noted-done : (past : List Request) (old mid : MountSeen) (request : Request) (answer : Answer) (error : ErrorSeen) (path text shown : List ℕ) (at : ℕ)
-    → IsAsked past old mid request (Ok answer) → IsAskedNoting past old mid request (noted_answer error path text shown at) (Ok answer)
+    → IsAsked past old mid request (Ok answer) → IsAskedNoting past old mid request false (noted_answer error path text shown at) (Ok answer)
 noted-done past old mid request answer error path text shown at asked = record {
-  answered = asked.answered;
+  answered = inl asked.answered;
   mounted = asked.mounted;
   terms = asked.terms;
   files = asked.files;
@@ -84,9 +91,9 @@ noted-done past old mid request answer error path text shown at asked = record {
 
 -- it was refused, and there was no memory to note that
 pub noted-none : (past : List Request) (old mid : MountSeen) (request : Request) (refusal : Refusal) (error : ErrorSeen) (path text shown : List ℕ) (at : ℕ)
-    → IsAsked past old mid request (Err refusal) → IsAskedNoting past old mid request (noted_answer error path text shown at) (Err Memory)
+    → IsAsked past old mid request (Err refusal) → IsAskedNoting past old mid request false (noted_answer error path text shown at) (Err Memory)
 noted-none past old mid request refusal error path text shown at asked = record {
-  answered = λ other. absurd (other refl);
+  answered = unnoted-answer (terms_of old) past request (noted_answer error path text shown at) refusal asked.answered (is-note error path text shown at refusal);
   mounted = asked.mounted;
   terms = asked.terms;
   files = asked.files;
@@ -98,9 +105,9 @@ noted-none past old mid request refusal error path text shown at asked = record 
 -- or it was noted
 pub noted-refused : (past : List Request) (old mid : MountSeen) (request : Request) (refusal : Refusal) (error : ErrorSeen) (path text shown : List ℕ) (at : ℕ)
     (now : List ErrorSeen) → IsAsked past old mid request (Err refusal) → now ≡ errors_after (noted_answer error path text shown at (Err refusal)) mid.errors
-    → IsAskedNoting past old (record mid { errors = now }) request (noted_answer error path text shown at) (Err refusal)
+    → IsAskedNoting past old (record mid { errors = now }) request false (noted_answer error path text shown at) (Err refusal)
 noted-refused past old mid request refusal error path text shown at now asked is = record {
-  answered = asked.answered;
+  answered = inl asked.answered;
   mounted = record { lives = asked.mounted.lives; scene = asked.mounted.scene };
   terms = asked.terms;
   files = asked.files;
@@ -241,7 +248,7 @@ line-noted old mid target time path stop began errors there begins notes = (
 pub switch-step : (past : List Request) (old mid : MountSeen) (own : OpenSeen) (target : Target) (bytes text : List ℕ) (switch : File) (on : Bool)
     (size at : ℕ) (answer : Result Answer Refusal) (now : List (Option OpenSeen)) → HasLedTo past old → IsTarget own target → text ≡ switch_text on
     → at ≡ wrong_offset bytes
-    → IsAskedNoting past old mid (write_of old.scene (nodes.File target.owner switch) false text)
+    → IsAskedNoting past old mid (write_of old.scene (nodes.File target.owner switch) false text) false
     (noted_answer (begun target.owner (now_of past) (path_of old.scene (nodes.File target.owner target.file)))
     (path_of old.scene (nodes.File target.owner switch)) text bytes at) answer
     → now ≡ (switched target.handle size old.files answer).files
@@ -253,14 +260,14 @@ switch-step past old mid own target bytes text switch on size at answer now moun
     ap (λ (s : SceneSeen). path_of s (nodes.File target.owner switch)) mounted.scene
     ∙ ap (λ (o : Owner). path_of (scene_of (terms_of old) (service_of past old)) (nodes.File o switch)) (sym is.owner) in
     let error = own-begun past old own target (path_of old.scene (nodes.File target.owner target.file)) (now_of past) is (own-path past old own target mounted is) refl in
-    let first = subst (λ (p : List ℕ). IsAskedNoting past old mid (request_of (commands.Write p false text))
+    let first = subst (λ (p : List ℕ). IsAskedNoting past old mid (request_of (commands.Write p false text)) false
     (noted_answer (begun target.owner (now_of past) (path_of old.scene (nodes.File target.owner target.file))) p text bytes at) answer) there asked in
-    let second = subst (λ (e : ErrorSeen). IsAskedNoting past old mid (request_of (commands.Write P false text)) (noted_answer e P text bytes at) answer) error first in
-    let third = subst (λ (t : List ℕ). IsAskedNoting past old mid (request_of (commands.Write P false t))
+    let second = subst (λ (e : ErrorSeen). IsAskedNoting past old mid (request_of (commands.Write P false text)) false (noted_answer e P text bytes at) answer) error first in
+    let third = subst (λ (t : List ℕ). IsAskedNoting past old mid (request_of (commands.Write P false t)) false
     (noted_answer (begun_now (terms_of old) (service_of past old) own) P t bytes at) answer) text_is second in
-    let fourth = subst (λ (n : ℕ). IsAskedNoting past old mid (request_of (commands.Write P false (switch_text on)))
+    let fourth = subst (λ (n : ℕ). IsAskedNoting past old mid (request_of (commands.Write P false (switch_text on))) false
     (noted_answer (begun_now (terms_of old) (service_of past old) own) P (switch_text on) bytes n) answer) at_is third in
-    noted-step past old mid (request_of (commands.Write P false (switch_text on))) (switched target.handle size old.files)
+    noted-step past old mid (request_of (commands.Write P false (switch_text on))) (switched target.handle size old.files) false
     (noted_answer (begun_now (terms_of old) (service_of past old) own) P (switch_text on) bytes (wrong_offset bytes)) answer now fourth files_are
 
 -- ---- files that are opened to be emptied
@@ -268,11 +275,11 @@ switch-step past old mid own target bytes text switch on size at answer now moun
 -- a file has its handle before a command is asked, and keeps it or not
 pub opened-step : (past : List Request) (old mid : MountSeen) (request : Request) (outcome : Result Answer Refusal → Outcome)
     (noting : Result Answer Refusal → Noting) (answer : Result Answer Refusal) (opened now : List (Option OpenSeen))
-    → IsAskedNoting past (record old { files = opened }) mid request noting answer → now ≡ (outcome answer).files
-    → IsStep past old (record mid { files = now }) (AsksNoting request outcome noting) (outcome answer).reply
+    → IsAskedNoting past (record old { files = opened }) mid request false noting answer → now ≡ (outcome answer).files
+    → IsStep past old (record mid { files = now }) (AsksNoting request true outcome noting) (outcome answer).reply
 opened-step past old mid request outcome noting answer opened now asked is =
-    let same : IsAskedNoting past old (record mid { files = old.files }) request noting answer = record {
-      answered = asked.answered;
+    let same : IsAskedNoting past old (record mid { files = old.files }) request true noting answer = record {
+      answered = takes-more (terms_of old) past request noting answer asked.answered;
       mounted = record { lives = asked.mounted.lives; scene = asked.mounted.scene };
       terms = asked.terms;
       files = refl;
@@ -280,7 +287,7 @@ opened-step past old mid request outcome noting answer opened now asked is =
       counted = asked.counted;
       errors = asked.errors;
     } in
-    noted-step past old (record mid { files = old.files }) request outcome noting answer now same is
+    noted-step past old (record mid { files = old.files }) request outcome true noting answer now same is
 
 -- ---- what a file can't be set to
 
@@ -316,10 +323,10 @@ pub switch-done : (past : List Request) (old seen mid : MountSeen) (own : OpenSe
     → IsStep past old (record mid { files = now }) (write_switch (terms_of old) (service_of past old) target.handle own bytes switch on size)
     (Some (replies.Written size))
 switch-done past old seen mid own target bytes text switch on size at now done mounted is text_is at_is asked same now_is =
-    let there : IsAskedNoting past old mid (write_of old.scene (nodes.File target.owner switch) false text)
+    let there : IsAskedNoting past old mid (write_of old.scene (nodes.File target.owner switch) false text) false
     (noted_answer (begun target.owner (now_of past) (path_of old.scene (nodes.File target.owner target.file)))
     (path_of old.scene (nodes.File target.owner switch)) text bytes at) (Ok asked.0) =
-    subst (λ (m : MountSeen). IsAskedNoting past old m (write_of old.scene (nodes.File target.owner switch) false text)
+    subst (λ (m : MountSeen). IsAskedNoting past old m (write_of old.scene (nodes.File target.owner switch) false text) false
     (noted_answer (begun target.owner (now_of past) (path_of old.scene (nodes.File target.owner target.file)))
     (path_of old.scene (nodes.File target.owner switch)) text bytes at) (Ok asked.0)) (sym same) asked.1 in
     switch-step past old mid own target bytes text switch on size at (Ok asked.0) now mounted is text_is at_is there
@@ -366,10 +373,10 @@ pub open-refused : (past : List Request) (old seen mid : MountSeen) (owner : Own
     → IsStep past old (record mid { files = now }) (emptied old.scene (now_of past) (just_opened owner file false) old.files asked text)
     (Some (replies.Error errno))
 open-refused past old seen mid owner file asked text errno files now does same back =
-    let there : IsAskedNoting past (record old { files = files }) mid (write_of old.scene (nodes.File owner asked) false text)
+    let there : IsAskedNoting past (record old { files = files }) mid (write_of old.scene (nodes.File owner asked) false text) false
     (noted_answer (begun owner (now_of past) (path_of old.scene (nodes.File owner file))) (path_of old.scene (nodes.File owner asked)) text [] 0)
     (Err does.0) =
-    subst (λ (m : MountSeen). IsAskedNoting past (record old { files = files }) m (write_of old.scene (nodes.File owner asked) false text)
+    subst (λ (m : MountSeen). IsAskedNoting past (record old { files = files }) m (write_of old.scene (nodes.File owner asked) false text) false
     (noted_answer (begun owner (now_of past) (path_of old.scene (nodes.File owner file))) (path_of old.scene (nodes.File owner asked)) text [] 0)
     (Err does.0)) (sym same) does.1 in
     subst (λ (e : Errno). IsStep past old (record mid { files = now }) (emptied old.scene (now_of past) (just_opened owner file false) old.files asked text)
@@ -384,7 +391,7 @@ pub open-none : (past : List Request) (old : MountSeen) (owner : Owner) (file as
     → IsStep past old (record old { files = now }) (emptied old.scene (now_of past) (just_opened owner file false) old.files asked text)
     (Some (replies.Error ENOMEM))
 open-none past old owner file asked text now mounted is =
-    noted-step past old old (write_of old.scene (nodes.File owner asked) false text) (emptied_first (just_opened owner file false) old.files)
+    noted-step past old old (write_of old.scene (nodes.File owner asked) false text) (emptied_first (just_opened owner file false) old.files) true
     (noted_answer (begun owner (now_of past) (path_of old.scene (nodes.File owner file))) (path_of old.scene (nodes.File owner asked)) text [] 0)
     (Err Memory) now
     (unnoted past old (write_of old.scene (nodes.File owner asked) false text) (begun owner (now_of past) (path_of old.scene (nodes.File owner file)))

@@ -56,7 +56,7 @@ did g s (Takes outcome) = record { reply = outcome.reply; now = after_outcome s.
 did g s (Asks request outcome) = did_answered s request outcome (live_answer g.config s.past request)
 did g s (Parks read) = record { reply = None; now = with_read read s }
 did g s (Interrupts unique) = record { reply = None; now = with_interrupted unique s }
-did g s (AsksNoting request outcome noting) = did_noted s request outcome noting (live_answer g.config s.past request)
+did g s (AsksNoting request takes outcome noting) = did_noted s request outcome noting (live_answer g.config s.past request)
 did g s (Tells noting takes outcome) = record { reply = outcome.reply; now = after_noting s.past outcome noting s }
 did g s (AsksLines lines outcome noting) = did_lines s outcome noting (run_lines g s.past 0 lines)
 did g s (Counts count outcome) = record { reply = outcome.reply; now = after_count count outcome s }

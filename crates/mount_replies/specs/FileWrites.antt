@@ -55,7 +55,7 @@ switched handle size files (Err refusal) = told (replies.Error (errno_of refusal
 -- so many bytes are done by writing to this switch, a file of the same instance
 abbrev pub write_switch : Terms → Service → ℕ → OpenSeen → List ℕ → File → Bool → ℕ → Step
 write_switch g s handle file bytes switch on size =
-    AsksNoting (write_of (scene_of g s) (nodes.File file.owner switch) false (switch_text on)) (switched handle size s.files)
+    AsksNoting (write_of (scene_of g s) (nodes.File file.owner switch) false (switch_text on)) false (switched handle size s.files)
     (noted_answer (begun_now g s file) (path_of (scene_of g s) (nodes.File file.owner switch)) (switch_text on) bytes (wrong_offset bytes))
 
 -- what a file can't be set to is noted, too

@@ -32,7 +32,7 @@ NothingLeftIsAll =
 -- how many commands a step does at most: one, but of a write one for each of its lines
 abbrev pub most_commands : Step → ℕ
 most_commands (Asks request outcome) = 1
-most_commands (AsksNoting request outcome noting) = 1
+most_commands (AsksNoting request takes outcome noting) = 1
 most_commands (AsksLines lines outcome noting) = length lines
 most_commands _ = 0
 

@@ -1,5 +1,5 @@
 -- What a call of a mounted tracer comes to: the step that is defined, or refused memory; and what a list of requests comes to.
-use Rattle.std.specs.Prelude.{◌≡◌, ◌≢◌, ◌⊎◌, ℕ, ◌+◌, if◌then◌else◌, Bool, true, is_some, List, [], ◌∷◌, Option, Some, None, Result, Ok, Err}
+use Rattle.std.specs.Prelude.{◌≡◌, ◌≢◌, ◌⊎◌, ⊤, ℕ, ◌+◌, if◌then◌else◌, Bool, true, is_some, List, [], ◌∷◌, Option, Some, None, Result, Ok, Err, IsOk, IsErr}
 use Rattle.std.specs.List.{slice_get}
 use Rattle.fuse_wire.specs.Replies.{reply_bytes, wakeup_bytes}
 use Rattle.fuse_wire.specs.Requests.{IsRequest, IsFramed, has_reply}
@@ -13,6 +13,7 @@ use Rattle.trace_command.specs.declared.command.Reply.{Reply as Answer}
 use Rattle.trace_command.specs.declared.refusal.Refusal.{Refusal}
 use Rattle.trace_command.specs.declared.refusal.Refusal.TheVariants.{Memory}
 use Rattle.tracer_specification.specs.Settings.{declares, made, removed}
+use Rattle.trace_instance.specs.MemoryTaken.{TakesNoMemory}
 use Rattle.tracer.specs.LiveSeen.{LiveSeen}
 use Rattle.tracer.specs.Lives.{IsLive, live_answer}
 use Rattle.error_log.specs.Errors.{ErrorSeen}
@@ -23,7 +24,7 @@ use Rattle.mount_tree.specs.declared.node.Node.{Node}
 use Rattle.mount_replies.specs.Owed.{Owed, ReplyAt, WakeupAt, owed, step_of_parked}
 use Rattle.mount_replies.specs.Served.{step_of}
 use Rattle.mount_replies.specs.Services.{OpenSeen, Service, Terms, most_data, wakeup_at, with_count, with_interrupted, with_read, without_read, without_wakeup}
-use Rattle.mount_replies.specs.Steps.{Asking, Asks, AsksFor, AsksLines, AsksNothing, AsksNoting, Counts, Interrupts, IsTooLong, IsWrongLine, LineAsked, Noting, Outcome, Parks, Plain, Ran, Step, Takes, Tells, errors_after}
+use Rattle.mount_replies.specs.Steps.{Asking, Asks, AsksFor, AsksLines, AsksNothing, AsksNoting, Counts, Interrupts, IsTooLong, IsWrongLine, LineAsked, Notes, Noting, Outcome, Parks, Plain, Ran, Step, Takes, Tells, errors_after}
 use Rattle.mount_replies.specs.declared.parked.Parked.{Parked}
 use Rattle.mount_replies.specs.declared.counted.Counted.{Counted}
 use Rattle.mount_replies.specs.declared.fault.LineFault.{LineFault}
@@ -70,9 +71,30 @@ abbrev pub past_after : Result Answer Refusal → Request → List Request → L
 past_after (Ok answer) request past = request ∷ past
 past_after (Err refusal) request past = past
 
--- a command got this answer: the one that the commands done so far give it, or that memory was refused
-abbrev pub IsAnswered : Terms → List Request → Request → Result Answer Refusal → Type 0
-IsAnswered g past request answer = OrMemory answer (live_answer g.config past request)
+-- this is the answer that the commands done so far give a command, or that memory was refused
+abbrev pub MayAnswer : Terms → List Request → Request → Result Answer Refusal → Type 0
+MayAnswer g past request answer = OrMemory answer (live_answer g.config past request)
+
+-- a command got such an answer, and just its answer if it takes no memory
+pub record IsAnswered (g : Terms) (past : List Request) (request : Request) (answer : Result Answer Refusal) : Type 0 where
+  pub reply : MayAnswer g past request answer
+  pub takes_none : TakesNoMemory past request → answer ≡ live_answer g.config past request
+
+-- an error is noted
+abbrev pub IsNote : Noting → Type 0
+IsNote (Notes error) = ⊤
+IsNote noting = ⊥
+
+-- one whose answer may be noted: or there was no memory to note it, or for what is done beside it if that takes any
+abbrev pub IsAnsweredNoting : Terms → List Request → Request → Bool → (Result Answer Refusal → Noting) → Result Answer Refusal → Type 0
+IsAnsweredNoting g past request takes noting answer =
+    IsAnswered g past request answer
+    ⊎ ((answer ≡ Err Memory) × (IsNote (noting (live_answer g.config past request)) ⊎ (takes ≡ true)))
+
+-- a line's command, whose refusal may be noted
+abbrev pub IsLineAnswered : Terms → List Request → Request → Result Answer Refusal → Type 0
+IsLineAnswered g past request answer =
+    IsAnswered g past request answer ⊎ ((answer ≡ Err Memory) × IsErr (live_answer g.config past request))
 
 abbrev pub after_outcome : List Request → Outcome → Service → Service
 after_outcome past outcome before = record before { past = past; files = outcome.files }
@@ -108,7 +130,7 @@ IsLineRun g past done text more ran AsksNothing = more past
 IsLineRun g past done text more ran IsWrongLine = StopsAt past done text NoCommand ran
 IsLineRun g past done text more ran IsTooLong = StopsAt past done text TooLong ran
 IsLineRun g past done text more ran (AsksFor request) =
-    (answer : Result Answer Refusal) × IsAnswered g past request answer × GoesOnIf past done text request more ran answer
+    (answer : Result Answer Refusal) × IsLineAnswered g past request answer × GoesOnIf past done text request more ran answer
 
 -- these lines were done after these requests, and so many bytes before them, until one was refused
 abbrev pub IsRun : Terms → List Request → ℕ → List LineAsked → Ran → Type 0
@@ -116,9 +138,20 @@ IsRun g past done [] ran = ran ≡ all_done past done
 IsRun g past done (line ∷ lines) ran =
     IsLineRun g past done line.text (λ (now : List Request). IsRun g now line.end lines ran) ran line.asking
 
--- or memory was refused before the first
+-- what is asked for a line takes no memory and can be done, or if nothing is asked for it, `more` says so of the lines after it
+abbrev pub AsksDone : Terms → List Request → Type 0 → Asking → Type 0
+AsksDone g past more AsksNothing = more
+AsksDone g past more (AsksFor request) = TakesNoMemory past request × IsOk (live_answer g.config past request)
+AsksDone g past more wrong = ⊥
+
+-- the first of these lines for which anything is asked is such
+abbrev pub BeginsDone : Terms → List Request → List LineAsked → Type 0
+BeginsDone g past [] = ⊥
+BeginsDone g past (line ∷ lines) = AsksDone g past (BeginsDone g past lines) line.asking
+
+-- or memory was refused before the first, which it is not if that takes none
 abbrev pub MayRun : Terms → List Request → List LineAsked → Ran → Type 0
-MayRun g past lines ran = IsRun g past 0 lines ran ⊎ (ran ≡ stopped_at past 0 [] (Refused Memory))
+MayRun g past lines ran = IsRun g past 0 lines ran ⊎ ((ran ≡ stopped_at past 0 [] (Refused Memory)) × (BeginsDone g past lines → ⊥))
 
 -- ---- steps
 
@@ -135,8 +168,8 @@ Does g before (Asks request outcome) reply after =
 Does g before (Parks read) reply after =
     ((reply ≡ None) × (after ≡ with_read read before)) ⊎ ((reply ≡ Some (replies.Error ENOMEM)) × (after ≡ before))
 Does g before (Interrupts unique) reply after = (reply ≡ None) × (after ≡ with_interrupted unique before)
-Does g before (AsksNoting request outcome noting) reply after =
-    (answer : Result Answer Refusal) × IsAnswered g before.past request answer × (reply ≡ (outcome answer).reply)
+Does g before (AsksNoting request takes outcome noting) reply after =
+    (answer : Result Answer Refusal) × IsAnsweredNoting g before.past request takes noting answer × (reply ≡ (outcome answer).reply)
     × (after ≡ after_noting (past_after answer request before.past) (outcome answer) (noting answer) before)
 Does g before (Tells noting takes outcome) reply after =
     ((reply ≡ outcome.reply) × (after ≡ after_noting before.past outcome noting before))

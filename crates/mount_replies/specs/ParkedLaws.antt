@@ -101,8 +101,8 @@ taken_by g before (Asks request outcome) reply after (Ok answer, answered, told,
 taken_by g before (Asks request outcome) reply after (Err refusal, answered, told, same) = []
 taken_by g before (Parks read) reply after does = []
 taken_by g before (Interrupts unique) reply after does = []
-taken_by g before (AsksNoting request outcome noting) reply after (Ok answer, answered, told, same) = text_in answer
-taken_by g before (AsksNoting request outcome noting) reply after (Err refusal, answered, told, same) = []
+taken_by g before (AsksNoting request takes outcome noting) reply after (Ok answer, answered, told, same) = text_in answer
+taken_by g before (AsksNoting request takes outcome noting) reply after (Err refusal, answered, told, same) = []
 taken_by g before (Tells noting takes outcome) reply after does = []
 taken_by g before (AsksLines lines outcome noting) reply after does = []
 taken_by g before (Counts count outcome) reply after does = []

@@ -6,7 +6,7 @@ use Rattle.fuse_wire.specs.declared.errno.Errno.TheVariants.{EPERM, ENOENT, EBAD
 use Rattle.fuse_wire.specs.declared.reply.Reply.TheVariants as replies
 use Rattle.fuse_wire.specs.declared.request.Operation.{Operation}
 use Rattle.fuse_wire.specs.declared.request.Operation.TheVariants as operations
-use Rattle.trace_command.specs.Requests.{request_of}
+use Rattle.trace_command.specs.Requests.{MakeInstance, RemoveInstance, request_of}
 use Rattle.trace_command.specs.declared.command.Command.TheVariants as commands
 use Rattle.trace_command.specs.declared.command.Reply.{Reply as Answer}
 use Rattle.trace_command.specs.declared.file_name.TopFile.TheVariants as top_files
@@ -81,7 +81,7 @@ noted_emptying scene now file asked text answer =
 -- the file has its handle only if that was done; its writes are by `>>`, since it is empty now
 abbrev pub emptied : SceneSeen → ℕ → OpenSeen → List (Option OpenSeen) → File → List ℕ → Step
 emptied scene now file open_files asked text =
-    AsksNoting (write_of scene (nodes.File file.owner asked) false text) (emptied_first file open_files) (noted_emptying scene now file asked text)
+    AsksNoting (write_of scene (nodes.File file.owner asked) false text) true (emptied_first file open_files) (noted_emptying scene now file asked text)
 
 -- `error_log` that is opened to be emptied forgets the errors of its instance
 abbrev pub clears : File → ℕ → Bool
@@ -269,10 +269,6 @@ poll_file g s handle wakeup flags (Some file) = poll_kind g s handle wakeup flag
 
 -- ---- MKDIR, RMDIR
 
--- an instance's folder
-abbrev pub instance_path : List ℕ → List ℕ
-instance_path name = codes "instances/" ++ name
-
 abbrev pub made_folder : Terms → ℕ → List (Option OpenSeen) → Result Answer Refusal → Outcome
 made_folder g serial files (Ok answer) = told (replies.Entry (attributes_of g (nodes.Folder (Made serial) folders.Root) 0)) files
 made_folder g serial files (Err refusal) = told (replies.Error (errno_of refusal)) files
@@ -280,7 +276,7 @@ made_folder g serial files (Err refusal) = told (replies.Error (errno_of refusal
 -- where a scene takes one more
 abbrev pub make_instance : Terms → SceneSeen → List ℕ → List (Option OpenSeen) → Step
 make_instance g scene name files =
-    if nat_lt scene.made most_made then Asks (request_of (commands.Mkdir (instance_path name))) (made_folder g scene.made files)
+    if nat_lt scene.made most_made then Asks (MakeInstance (Some name)) (made_folder g scene.made files)
     else failed ENOSPC files
 
 -- in `instances` alone
@@ -304,7 +300,7 @@ forgotten_if_done target (Err refusal) = Keeps
 
 abbrev pub remove_instance : SceneSeen → List ℕ → List (Option OpenSeen) → Step
 remove_instance scene name files =
-    AsksNoting (request_of (commands.Rmdir (instance_path name))) (removed_folder files)
+    AsksNoting (RemoveInstance (Some name)) false (removed_folder files)
     (forgotten_if_done (found_in scene name (Some (nodes.Folder Top folders.Instances))))
 
 abbrev pub remove_folder : SceneSeen → List ℕ → List (Option OpenSeen) → Option Node → Step

@@ -78,7 +78,7 @@ pub data Step : Type 0 where
   -- the read of this number waits no more, if it does
   Interrupts : (unique : ℕ) → Step
   -- the tracer is asked this; its answer gives the outcome, and what becomes of the errors
-  AsksNoting : (request : Request) (outcome : Result Answer Refusal → Outcome) (noting : Result Answer Refusal → Noting) → Step
+  AsksNoting : (request : Request) (takes : Bool) (outcome : Result Answer Refusal → Outcome) (noting : Result Answer Refusal → Noting) → Step
   -- nothing is asked, and this becomes of the errors; memory may be taken
   Tells : (noting : Noting) (takes : Bool) (outcome : Outcome) → Step
   -- the tracer is asked for these lines, one after another until one is refused; how far that came gives the outcome, and what becomes of the errors

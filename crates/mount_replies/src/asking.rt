@@ -6,8 +6,7 @@
 ghost use Rattle.std.specs.Prelude.{◌≡◌, ◌∷◌, ◌++◌, [], Bool, false, true, IfOk, None, OnErr, OnOk, List, Some};
 ghost use Rattle.std.specs.Result.{result_ok};
 ghost use Rattle.trace_format.specs.Reading.{definition_of};
-ghost use Rattle.trace_command.specs.Requests.{Request, request_of};
-ghost use Rattle.trace_command.specs.declared.command.Command.TheVariants as commands;
+ghost use Rattle.trace_command.specs.Requests.{MakeInstance, RemoveInstance, Request, request_of};
 ghost use Rattle.tracer_specification.specs.Settings.{declares, made, now_of, removed};
 ghost use Rattle.error_log.specs.Errors.{begun};
 ghost use Rattle.mount_tree.specs.Children.{is_there};
@@ -15,7 +14,6 @@ ghost use Rattle.mount_tree.specs.NodePaths.{path_of};
 ghost use Rattle.mount_tree.specs.declared.node.Node.TheVariants as nodes;
 ghost use Rattle.mount_replies.specs.Lines.{noted_answer};
 ghost use Rattle.mount_replies.specs.Mounted.{AsksBy, HasLedTo, IsAsked, IsQuiet};
-ghost use Rattle.mount_replies.specs.Served.{instance_path};
 ghost use Rattle.mount_replies.specs.Steps.{read_of, write_of};
 ghost use Rattle.mount_replies.specs.private.LineRuns.{StaysThere};
 ghost use Rattle.mount_replies.specs.private.Notings.{AsksNoted};
@@ -26,19 +24,10 @@ use crate::noting::note_answer;
 use fuse_wire::Errno;
 use mount_tree::{File, Node, Owner};
 use std::alloc::{AllocError, Global};
-use trace_command::{Command, Refusal, Reply, instance_of};
+use trace_command::{Command, Refusal, Reply};
 use trace_format::EventDef;
 use trace_lex::Text;
 use trace_script::declared;
-
-/// The path of an instance's folder.
-fn instance_path(alloc: Global, name: &[u8]) -> Result<Text, AllocError>
-    ensures { IfOk result (λ path. path ≡ instance_path name.now) }
-{
-    let mut path = Vec::from_slice(alloc, b"instances/".as_slice())?;
-    path.extend_from_slice(name)?;
-    Ok(Text::from(path))
-}
 
 impl Mount {
     /// The path of a file.
@@ -51,9 +40,9 @@ impl Mount {
     }
 
     /// Asks a command that leaves the folders and files as they are.
-    pub(crate) fn ask(&mut self, command: Command) -> Result<Reply, Refusal>
-        requires { IsQuiet (request_of command) }
-        ensures { AsksBy self.old self.new (request_of command) result }
+    pub(crate) fn ask(&mut self, command: &Command) -> Result<Reply, Refusal>
+        requires { IsQuiet (request_of command.now) }
+        ensures { AsksBy self.old self.new (request_of command.now) result }
     {
         self.live.ask(command)
     }
@@ -200,21 +189,15 @@ impl Mount {
 
     /// Makes the instance of this name.
     pub(crate) fn ask_mkdir(&mut self, name: &[u8]) -> Result<Reply, Refusal>
-        ensures { AsksBy self.old self.new (request_of (commands.Mkdir (instance_path name.now))) result }
+        ensures { AsksBy self.old self.new (MakeInstance (Some name.now)) result }
     {
-        let Ok(path) = instance_path(self.alloc, name) else {
-            return Err(Refusal::Memory);
-        };
-        let Some(name) = instance_of(path.as_bytes()) else {
-            return self.ask(Command::Mkdir(path));
-        };
         if !self.scene.can_make() {
             return Err(Refusal::Memory);
         }
         if self.scene.add_instance(name).is_err() {
             return Err(Refusal::Memory);
         }
-        match self.live.ask(Command::Mkdir(path)) {
+        match self.live.make_instance(name) {
             Ok(reply) => Ok(reply),
             Err(refusal) => {
                 self.scene.take_back_instance();
@@ -225,23 +208,10 @@ impl Mount {
 
     /// Removes the instance of this name.
     pub(crate) fn ask_rmdir(&mut self, name: &[u8]) -> Result<Reply, Refusal>
-        ensures { AsksBy self.old self.new (request_of (commands.Rmdir (instance_path name.now))) result }
+        ensures { AsksBy self.old self.new (RemoveInstance (Some name.now)) result }
     {
-        let Ok(path) = instance_path(self.alloc, name) else {
-            return Err(Refusal::Memory);
-        };
-        let Ok(copy) = path.clone() else {
-            return Err(Refusal::Memory);
-        };
-        let Some(name) = instance_of(copy.as_bytes()) else {
-            return self.ask(Command::Rmdir(path));
-        };
-        match self.live.ask(Command::Rmdir(path)) {
-            Ok(reply) => {
-                self.scene.remove_instance(name);
-                Ok(reply)
-            }
-            Err(refusal) => Err(refusal),
-        }
+        let reply = self.live.remove_instance(name)?;
+        self.scene.remove_instance(name);
+        Ok(reply)
     }
 }

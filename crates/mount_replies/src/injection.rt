@@ -173,7 +173,7 @@ impl Mount {
             return Err(LineFault::NoCommand);
         }
         match emission(self.alloc, own, pid % cpus, (pid % (1 << 31)) as i32, line) {
-            Ok(Some(command)) => match self.ask(command) {
+            Ok(Some(command)) => match self.ask(&command) {
                 Ok(_) => Ok(()),
                 Err(refusal) => Err(LineFault::Refused(refusal)),
             },

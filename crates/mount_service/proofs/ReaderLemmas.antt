@@ -110,7 +110,7 @@ does-take g before (Asks request outcome) reply after file (Ok answer, answered,
   limit = limit;
   there = there;
   answer = answer;
-  answered = ap (live_answer g.config before.past) (sym is) ∙ answered;
+  answered = ap (live_answer g.config before.past) (sym is) ∙ answered.reply;
   is = refl;
   now = ap (λ (s : Service). s.past) same ∙ ap (λ (r : Request). r ∷ before.past) is;
 })

@@ -30,15 +30,15 @@ pub trait SharedBook: Logged<Entry = Entry> + Drop + Sized {
     /// Runs a command, or refuses it. The answer is the one that the history gives. A command that is done becomes the history's next entry, under
     /// this ticket and caller's number; a refused one changes nothing. The history stays legal. If an allocation is refused, `Memory` may replace the
     /// answer, but no refusal that is found early, and none of a command that allocates late (`TakesMemoryLate`).
-    fn answer(&mut self, ticket: u64, by: u32, command: Command) -> Result<Reply, Refusal>
+    fn answer(&mut self, ticket: u64, by: u32, command: &Command) -> Result<Reply, Refusal>
         requires { All (λ (entry : Entry). entry.ticket < ticket) (Self.entries self.old) }
-        ensures reply { OrMemory result (answer_to (made_with self.old) (Self.entries self.old) command) }
-        ensures early { IsFoundEarly (answer_to (made_with self.old) (Self.entries self.old) command)
-            → result ≡ answer_to (made_with self.old) (Self.entries self.old) command }
-        ensures late_memory { TakesMemoryLate (request_of command)
-            → IfErr (answer_to (made_with self.old) (Self.entries self.old) command) (λ r. result ≡ Err r) }
+        ensures reply { OrMemory result (answer_to (made_with self.old) (Self.entries self.old) command.now) }
+        ensures early { IsFoundEarly (answer_to (made_with self.old) (Self.entries self.old) command.now)
+            → result ≡ answer_to (made_with self.old) (Self.entries self.old) command.now }
+        ensures late_memory { TakesMemoryLate (request_of command.now)
+            → IfErr (answer_to (made_with self.old) (Self.entries self.old) command.now) (λ r. result ≡ Err r) }
         ensures done { OnOk result (Self.entries self.new
-            ≡ Self.entries self.old ++ record { ticket = ticket; by = by; command = command } ∷ []) }
+            ≡ Self.entries self.old ++ record { ticket = ticket; by = by; command = command.now } ∷ []) }
         ensures refused { OnErr result (Self.entries self.new ≡ Self.entries self.old) }
         ensures config { made_with self.new ≡ made_with self.old }
         ensures legal { IsLegal (made_with self.new) (Self.entries self.new) };

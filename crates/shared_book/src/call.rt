@@ -1,6 +1,6 @@
 //! One call: a turn at the lock, in which the book runs a command.
 
-ghost use Rattle.std.specs.Prelude.{◌≡◌, Err, IfOk, IfErr};
+ghost use Rattle.std.specs.Prelude.{◌≡◌, IfOk, IfErr};
 ghost use Rattle.ticket_lock.specs.Calls.{view_of, IsOf};
 ghost use Rattle.tracer_specification.specs.History.{IsLegal};
 ghost use Rattle.shared_book.specs.Bases.{numbers_of};
@@ -9,18 +9,8 @@ ghost use Rattle.trace_command.specs.declared.command.Config.{Config};
 
 use crate::book::SharedBook;
 use std::sync::Wait;
-use ticket_lock::{Pass, TicketLock, Worn};
+use ticket_lock::{Pass, TicketLock};
 use trace_command::{BorrowedEmission, Command, Refusal, Reply};
-
-/// The answer if no ticket is left. Out of line, so that other calls don't pay for dropping the command.
-#[cold]
-#[inline(never)]
-fn worn_out<B: SharedBook>(worn: Worn<B>, _command: Command) -> (Pass<B>, Result<Reply, Refusal>)
-    ensures pass { result.0 ≡ worn.pass }
-    ensures answer { result.1 ≡ Err Refusal.Worn }
-{
-    (worn.pass, Err(Refusal::Worn))
-}
 
 /// Takes a turn at the lock, runs a command under the pass's first name, and returns the pass with the answer.
 ///
@@ -30,13 +20,13 @@ pub fn ask<B: SharedBook, R: Wait>(
     rt: &R,
     lock: &TicketLock<B>,
     pass: Pass<B>,
-    command: Command,
+    command: &Command,
 ) -> (Pass<B>, Result<Reply, Refusal>)
     requires { IsOf lock.now pass }
     ensures of { IsOf lock.now result.0 }
     ensures goes_on { GoesOn (view_of pass) (view_of result.0) }
-    ensures done { IfOk result.1 (IsDone (view_of pass) (view_of result.0) command) }
-    ensures refused { IfErr result.1 (IsRefused (view_of pass) (view_of result.0) command) }
+    ensures done { IfOk result.1 (IsDone (view_of pass) (view_of result.0) command.now) }
+    ensures refused { IfErr result.1 (IsRefused (view_of pass) (view_of result.0) command.now) }
     ensures legal { (g : Config) → numbers_of g ≡ (view_of pass).base → IsLegal g (view_of pass).seen → IsLegal g (view_of result.0).seen }
 {
     match lock.acquire(rt, pass) {
@@ -46,7 +36,7 @@ pub fn ask<B: SharedBook, R: Wait>(
             let answer = held.value().answer(ticket, by, command);
             (lock.release(held), answer)
         }
-        Err(worn) => worn_out(worn, command),
+        Err(worn) => (worn.pass, Err(Refusal::Worn)),
     }
 }
 

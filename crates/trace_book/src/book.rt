@@ -32,7 +32,7 @@ use std::slice;
 use trace_command::{BorrowedEmission, Command, Config, Refusal, Reply, address_of};
 use trace_format::{Pair, borrowed};
 use trace_instance::Instance;
-use tracer::{Tracer, let_go, single};
+use tracer::{Tracer, single};
 
 /// A tracer and the history of the commands done. Commands name files as in ftrace.rst and run one at a time.
 #[derive(Drop)]
@@ -74,20 +74,20 @@ impl Book {
     /// If an allocation is refused, `Memory` may replace the answer, but never `NoSuchFile`, `NotReadable`, `NotWritable`, `BadValue`, `NoSuchEvent`,
     /// `InstanceExists`, `NoSuchInstance` or `NoSuchCpu`, and never a refusal of a command that allocates late (`TakesMemoryLate`): `rmdir`, or a
     /// write of anything but a declaration, a filter that doesn't clear, a trigger with a filter, or a hist trigger.
-    pub fn ask(&mut self, ticket: u64, by: u32, command: Command) -> Result<Reply, Refusal>
+    pub fn ask(&mut self, ticket: u64, by: u32, command: &Command) -> Result<Reply, Refusal>
         requires { All (λ entry. entry.ticket < ticket) self.old.entries }
-        ensures reply { OrMemory result (answer_to self.old.config self.old.entries command) }
-        ensures early { IsFoundEarly (answer_to self.old.config self.old.entries command)
-            → result ≡ answer_to self.old.config self.old.entries command }
-        ensures late_memory { TakesMemoryLate (request_of command)
-            → IfErr (answer_to self.old.config self.old.entries command) (λ r. result ≡ Err r) }
+        ensures reply { OrMemory result (answer_to self.old.config self.old.entries command.now) }
+        ensures early { IsFoundEarly (answer_to self.old.config self.old.entries command.now)
+            → result ≡ answer_to self.old.config self.old.entries command.now }
+        ensures late_memory { TakesMemoryLate (request_of command.now)
+            → IfErr (answer_to self.old.config self.old.entries command.now) (λ r. result ≡ Err r) }
         ensures done { OnOk result (self.new.entries
-            ≡ self.old.entries ++ record { ticket = ticket; by = by; command = command } ∷ []) }
+            ≡ self.old.entries ++ record { ticket = ticket; by = by; command = command.now } ∷ []) }
         ensures refused { OnErr result (self.new.entries ≡ self.old.entries) }
         ensures config { self.new.config ≡ self.old.config }
         ensures legal { IsLegal self.new.config self.new.entries }
     {
-        let answer = match &command {
+        match command {
             Command::Emit {
                 event,
                 cpu,
@@ -95,10 +95,8 @@ impl Book {
                 pairs,
             } => self.ask_pairs(ticket, by, event.as_bytes(), *cpu, *pid, pairs.as_slice()),
             Command::Read { path, limit } => self.ask_read(ticket, by, path.as_bytes(), *limit),
-            _ => self.ask_other(ticket, by, &command),
-        };
-        let_go(command);
-        answer
+            _ => self.ask_other(ticket, by, command),
+        }
     }
 
     // As `ask`, for an emission of these pairs. For a single pair no list is allocated.

@@ -15,7 +15,7 @@ impl SharedBook for Book {
     }
 
     #[inline(always)]
-    fn answer(&mut self, ticket: u64, by: u32, command: Command) -> Result<Reply, Refusal> {
+    fn answer(&mut self, ticket: u64, by: u32, command: &Command) -> Result<Reply, Refusal> {
         self.ask(ticket, by, command)
     }
 

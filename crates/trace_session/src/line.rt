@@ -59,7 +59,7 @@ pub(crate) fn ask_line<B: SharedBook, R: Wait>(
 {
     match said {
         Ok(Line::Ask(command)) => {
-            let (pass, answer) = ask(rt, lock, pass, command);
+            let (pass, answer) = ask(rt, lock, pass, &command);
             match answer {
                 Ok(reply) => (pass, Ok(Some(Outcome::Replied(reply)))),
                 Err(Refusal::Memory | Refusal::Worn) => (pass, Err(Stop::Memory)),

@@ -31,7 +31,7 @@ fn ask_ready<B: SharedBook, R: Wait>(
     ensures legal { (g : Config) → numbers_of g ≡ (view_of pass).base → IsLegal g (view_of pass).seen → IsLegal g (view_of result.0).seen }
 {
     match ready {
-        Ready::Command(command) => ask(rt, lock, pass, command),
+        Ready::Command(command) => ask(rt, lock, pass, &command),
         Ready::Emission {
             event,
             cpu,

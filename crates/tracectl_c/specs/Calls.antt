@@ -2,13 +2,14 @@
 use Rattle.std.specs.Prelude.{◌≡◌, ◌^◌, ◌-◌, ◌==◌, if◌then◌else◌, max, ℕ, ℤ, pos, neg_ℤ, Bool, true, false, List, [], length, Option, Some, None, Result, Ok, Err}
 use Rattle.trace_command.specs.Paths.{address_of}
 use Rattle.trace_command.specs.Refusals.{number_of}
+use Rattle.trace_command.specs.declared.command.Command.{Command}
 use Rattle.trace_command.specs.declared.command.Config.{Config}
 use Rattle.trace_command.specs.declared.refusal.Refusal.{Refusal}
 use Rattle.trace_command.specs.declared.refusal.Refusal.TheVariants.{BadValue}
 use Rattle.trace_format.specs.declared.field_value.FieldValue.{FieldValue}
 use Rattle.tracer_specification.specs.Waiting.{waiting}
 use Rattle.tracer.specs.Lives.{most_done}
-use Rattle.library_tracer.specs.Consoles.{Asked, ComesTo, StandsFor, after_values, with_last}
+use Rattle.library_tracer.specs.Consoles.{Asked, ComesTo, NeedsNoMemory, StandsFor, after_values, with_last}
 use Rattle.library_tracer.specs.ConsolesSeen.{ConsoleSeen}
 use Rattle.library_tracer.specs.Statuses.{offset_in, reply_in, status_of}
 use Rattle.trace_script.specs.declared.outcome.Outcome.TheVariants.{Refused}
@@ -36,6 +37,12 @@ abbrev pub Does : (Asked → Asked) → Option ConsoleSeen → Option ConsoleSee
 Does expected None after status = (status ≡ 200) × (after ≡ None)
 Does expected (Some before) None status = ⊥
 Does expected (Some before) (Some after) status = (status ≡ status_of after.last) × ComesTo expected before after
+
+-- a command that takes no memory after what its console was asked is not refused any
+abbrev pub NeedsNone : Command → Option ConsoleSeen → Option ConsoleSeen → Type 0
+NeedsNone command None after = after ≡ None
+NeedsNone command (Some before) None = ⊥
+NeedsNone command (Some before) (Some after) = NeedsNoMemory command before after
 
 -- an emission of the values that are given; one of an unknown kind is refused, and nothing is asked
 abbrev pub after_given : ℕ → ℕ → ℤ → Option (List FieldValue) → Asked → Asked

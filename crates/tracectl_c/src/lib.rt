@@ -10,7 +10,7 @@ ghost use Rattle.library_tracer.specs.Consoles.{ComesTo, StandsFor, after_comman
 ghost use Rattle.library_tracer.specs.Statuses.{status_of};
 ghost use Rattle.tracectl_c.specs.GivenValues.{values_in};
 ghost use Rattle.tracectl_c.specs.Handles.{console_of};
-ghost use Rattle.tracectl_c.specs.Calls.{Does, WasAsked, TellsDone, TellsWaiting, after_given, config_of, limit_of, offset_read, reply_read, waiting_number};
+ghost use Rattle.tracectl_c.specs.Calls.{Does, NeedsNone, WasAsked, TellsDone, TellsWaiting, after_given, config_of, limit_of, offset_read, reply_read, waiting_number};
 
 mod handle;
 mod opening;
@@ -206,7 +206,8 @@ pub extern "C" fn tracectl_emit_values(
 
 /// Writes a string to a file, or appends it.
 fn write(alloc: Global, handle: &mut Handle, path: &[u8], text: &[u8], appends: bool) -> u32
-    ensures { Does (after_command (commands.Write path.now appends text.now)) (console_of handle.old) (console_of handle.new) result }
+    ensures done { Does (after_command (commands.Write path.now appends text.now)) (console_of handle.old) (console_of handle.new) result }
+    ensures takes_none { NeedsNone (commands.Write path.now appends text.now) (console_of handle.old) (console_of handle.new) }
 {
     let Some(mut console) = handle.take(alloc) else {
         return NOT_OPEN;
@@ -228,7 +229,8 @@ pub extern "C" fn tracectl_write(
     path: &[u8],
     text: &[u8],
 ) -> u32
-    ensures { Does (after_command (commands.Write path.now false text.now)) (console_of handle.old) (console_of handle.new) result }
+    ensures done { Does (after_command (commands.Write path.now false text.now)) (console_of handle.old) (console_of handle.new) result }
+    ensures takes_none { NeedsNone (commands.Write path.now false text.now) (console_of handle.old) (console_of handle.new) }
 {
     write(alloc, handle, path, text, false)
 }
@@ -241,7 +243,8 @@ pub extern "C" fn tracectl_append(
     path: &[u8],
     text: &[u8],
 ) -> u32
-    ensures { Does (after_command (commands.Write path.now true text.now)) (console_of handle.old) (console_of handle.new) result }
+    ensures done { Does (after_command (commands.Write path.now true text.now)) (console_of handle.old) (console_of handle.new) result }
+    ensures takes_none { NeedsNone (commands.Write path.now true text.now) (console_of handle.old) (console_of handle.new) }
 {
     write(alloc, handle, path, text, true)
 }

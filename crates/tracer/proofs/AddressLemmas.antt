@@ -1,10 +1,10 @@
 -- Where paths lead.
 use Rattle.std.proofs.Common.{◌≡◌, true, false, Bool, List, [], ℕ, ◌∷◌, Option, Some, None, is_some, refl, ap, subst, sym, if◌then◌else◌}
 use Rattle.trace_command.specs.FileNames.{address_at}
-use Rattle.trace_command.specs.Requests.{ReadFile, request_of}
+use Rattle.trace_command.specs.Requests.{ReadFile, WriteFile, request_of}
 use Rattle.trace_command.specs.declared.address.Address.{Address as Borrowed}
-use Rattle.trace_command.specs.declared.command.Command.TheVariants.{Read}
-use Rattle.tracer_state.specs.AddressedRequests.{read_at}
+use Rattle.trace_command.specs.declared.command.Command.TheVariants.{Read, Write}
+use Rattle.tracer_state.specs.AddressedRequests.{read_at, write_at}
 use Rattle.trace_command.specs.Paths.{Address, File, OfCpu, OfEvent, OfInstance, SyntheticEvents, address_in, address_of, below_mount_point, file_in, file_of_instance, is_instance, parts}
 
 abbrev Declares : Address → Type 0
@@ -38,3 +38,8 @@ paths-declare path address is = subst Declares (sym is) (parts-declare (parts (b
 pub read-leads : (path : List ℕ) (address : Borrowed) (limit : Option ℕ) → address_at address ≡ address_of path
     → read_at address limit ≡ request_of (Read path limit)
 read-leads path address limit is = ap (λ (a : Address). ReadFile a.instance a.file limit) is
+
+-- a write to it
+pub write-leads : (path : List ℕ) (address : Borrowed) (append : Bool) (text : List ℕ) → address_at address ≡ address_of path
+    → write_at address append text ≡ request_of (Write path append text)
+write-leads path address append text is = ap (λ (a : Address). WriteFile a.instance a.file append text) is

@@ -1,11 +1,6 @@
 //! Dropping what is not needed any more, out of line, so that calls that do without don't pay for the code.
 
-use trace_command::Command;
 use tracer_state::Prepared;
-
-/// Drops a command, out of line.
-#[inline(never)]
-pub fn let_go(_command: Command) {}
 
 /// Drops what was prepared for a command that is refused.
 #[cold]

@@ -6,6 +6,5 @@ pub mod laws;
 mod pair;
 mod tracer;
 
-pub use discard::let_go;
 pub use pair::single;
 pub use tracer::{MOST_DONE, Tracer};

@@ -135,23 +135,22 @@ module _ {g : Config} {state : State} {past : List Request} {path : Option (List
     tt,
   )
 
-pub remove-lost : (g : Config) (state : State) (past : List Request) (path : Option (List ℕ)) (name : List ℕ) → StandsFor g state past
-    → path ≡ Some name → place_in state (Some name) ≡ None → IsPrepared g past (RemoveInstance path) state (Err NoSuchInstance)
-remove-lost g state past path name stands is at =
+pub remove-lost : (g : Config) (state : State) (past : List Request) (name : List ℕ) → StandsFor g state past → place_in state (Some name) ≡ None
+    → IsPrepared g past (RemoveInstance (Some name)) state (Err NoSuchInstance)
+remove-lost g state past name stands at =
     let gone : is_there (Some name) past ≡ false = there-index g state past (Some name) None stands at in
-    rw is (refused NoSuchInstance _ (rw gone refl))
+    refused NoSuchInstance _ (rw gone refl)
 
-pub remove-done : (g : Config) (state : State) (past : List Request) (path : Option (List ℕ)) (name : List ℕ) (index : ℕ) → StandsFor g state past
-    → path ≡ Some name → place_in state (Some name) ≡ Some index
-    → IsPrepared g past (RemoveInstance path) state (Ok (record { change = Remove index; reply = Done }))
-remove-done g state past path name index stands is at =
+pub remove-done : (g : Config) (state : State) (past : List Request) (name : List ℕ) (index : ℕ) → StandsFor g state past
+    → place_in state (Some name) ≡ Some index
+    → IsPrepared g past (RemoveInstance (Some name)) state (Ok (record { change = Remove index; reply = Done }))
+remove-done g state past name index stands at =
     let there = found-there g state past (Some name) index stands at in
     let names = instance_names past in
     let items = state.instances.items in
     let inside = there.1.0 in
     let many = length-names_of items names stands.names in
-    let some = first items (omega (arith, inside)) in
-    rw is (
+    let some = first items (omega (arith, inside)) in (
       rw there.0 refl,
       record {
         declares = refl;

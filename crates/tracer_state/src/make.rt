@@ -32,6 +32,21 @@ impl State {
         let Some(name) = instance_of(path) else {
             return Err(Refusal::NoSuchFile);
         };
+        self.prepare_making(alloc, config, name)
+    }
+
+    /// As `prepare`, for an instance that is made with this name.
+    pub fn prepare_making(
+        &self,
+        alloc: Global,
+        config: &Config,
+        name: &[u8],
+    ) -> Result<Prepared, Refusal>
+        requires usable { IsUsable config.now self.now }
+        requires in_range { IsInRange config.now }
+        ensures { (past : List Request) → StandsFor config.now self.now past
+            → IsPrepared config.now past (MakeInstance (Some name.now)) self.now result }
+    {
         if !is_name(name) {
             return Err(Refusal::BadValue);
         }
@@ -59,6 +74,16 @@ impl State {
         let Some(name) = instance_of(path) else {
             return Err(Refusal::NoSuchFile);
         };
+        self.prepare_removal(name)
+    }
+
+    /// As `prepare`, for the removal of the instance of this name.
+    pub fn prepare_removal(&self, name: &[u8]) -> Result<Prepared, Refusal>
+        ensures prepared { (g : Config) (past : List Request) → StandsFor g self.now past
+            → IsPrepared g past (RemoveInstance (Some name.now)) self.now result }
+        ensures memory { IfErr result (λ r. r ≢ Refusal.Memory) }
+        ensures takes_none { IfOk result (λ prepared. TakesMemory self.now prepared.change → ⊥) }
+    {
         let Some(index) = self.index_of(Some(name)) else {
             return Err(Refusal::NoSuchInstance);
         };

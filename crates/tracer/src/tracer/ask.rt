@@ -1,14 +1,13 @@
 //! Whole calls: a command is done, or refused.
 
-ghost use Rattle.std.specs.Prelude.{◌≡◌, ◌≤◌, List};
-ghost use Rattle.trace_command.specs.Requests.{Request, Emission, request_of};
+ghost use Rattle.std.specs.Prelude.{◌≡◌, ◌≤◌, List, Some};
+ghost use Rattle.trace_command.specs.Requests.{Request, Emission, MakeInstance, RemoveInstance, request_of};
 ghost use Rattle.tracer_specification.specs.Settings.{declared_events, ticks};
 ghost use Rattle.tracer_state.specs.AddressedRequests.{DeclaresAtTop, read_at, write_at};
 ghost use Rattle.tracer_state.specs.ValueEmissions.{values_emission};
 ghost use Rattle.tracer.specs.Lives.{IsLive, IsCall, IsCallWithin, most_done};
 
 use super::{MOST_DONE, Tracer};
-use crate::discard::let_go;
 use crate::pair::single;
 use std::slice;
 use trace_command::{Address, BorrowedEmission, Command, Refusal, Reply};
@@ -22,32 +21,30 @@ impl Tracer {
     /// `InstanceExists`, `NoSuchInstance` or `NoSuchCpu`, and never a refusal of a command that allocates late (`TakesMemoryLate`): `rmdir`, or a
     /// write of anything but a declaration, a filter that doesn't clear, a trigger with a filter, or a hist trigger. Of these a command that takes no
     /// memory at all (`TakesNoMemory`) has just its answer: any but a trigger that is attached, and a snapshot that needs a spare side.
-    pub fn ask(&mut self, command: Command) -> Result<Reply, Refusal>
+    pub fn ask(&mut self, command: &Command) -> Result<Reply, Refusal>
         ensures call { (past : List Request) → IsLive self.old.config past self.old
-            → IsCall past self.new (request_of command) result }
+            → IsCall past self.new (request_of command.now) result }
         ensures config { self.new.config ≡ self.old.config }
     {
         self.ask_within(MOST_DONE, command)
     }
 
     /// As `ask`, but where `limit` commands were done, one that would be done is refused with `HistoryFull`.
-    pub fn ask_within(&mut self, limit: u64, command: Command) -> Result<Reply, Refusal>
+    pub fn ask_within(&mut self, limit: u64, command: &Command) -> Result<Reply, Refusal>
         requires { limit ≤ most_done }
         ensures call { (past : List Request) → IsLive self.old.config past self.old
-            → IsCallWithin limit past self.new (request_of command) result }
+            → IsCallWithin limit past self.new (request_of command.now) result }
         ensures config { self.new.config ≡ self.old.config }
     {
-        let answer = match &command {
+        match command {
             Command::Emit {
                 event,
                 cpu,
                 pid,
                 pairs,
             } => self.ask_pairs(limit, event.as_bytes(), *cpu, *pid, pairs.as_slice()),
-            _ => self.ask_other(limit, &command),
-        };
-        let_go(command);
-        answer
+            _ => self.ask_other(limit, command),
+        }
     }
 
     // As `ask_within`, for an emission of these pairs. For a single pair no list is allocated.
@@ -179,7 +176,44 @@ impl Tracer {
             → IsCall past self.new (write_at address.entry append text.now) result }
         ensures config { self.new.config ≡ self.old.config }
     {
-        let prepared = self.prepare_write_at(MOST_DONE, address, append, text)?;
+        self.write_at_within(MOST_DONE, address, append, text)
+    }
+
+    /// As `ask_within`, for the same.
+    pub fn write_at_within(
+        &mut self,
+        limit: u64,
+        address: Address<'_>,
+        append: bool,
+        text: &[u8],
+    ) -> Result<Reply, Refusal>
+        requires few { limit ≤ most_done }
+        requires top { DeclaresAtTop address }
+        ensures call { (past : List Request) → IsLive self.old.config past self.old
+            → IsCallWithin limit past self.new (write_at address.entry append text.now) result }
+        ensures config { self.new.config ≡ self.old.config }
+    {
+        let prepared = self.prepare_write_at(limit, address, append, text)?;
+        self.carry_out(prepared)
+    }
+
+    /// As `ask`, for an instance that is made with this name.
+    pub fn make_instance(&mut self, name: &[u8]) -> Result<Reply, Refusal>
+        ensures call { (past : List Request) → IsLive self.old.config past self.old
+            → IsCall past self.new (MakeInstance (Some name.now)) result }
+        ensures config { self.new.config ≡ self.old.config }
+    {
+        let prepared = self.prepare_making(MOST_DONE, name)?;
+        self.carry_out(prepared)
+    }
+
+    /// As `ask`, for the removal of the instance of this name.
+    pub fn remove_instance(&mut self, name: &[u8]) -> Result<Reply, Refusal>
+        ensures call { (past : List Request) → IsLive self.old.config past self.old
+            → IsCall past self.new (RemoveInstance (Some name.now)) result }
+        ensures config { self.new.config ≡ self.old.config }
+    {
+        let prepared = self.prepare_removal(MOST_DONE, name)?;
         self.carry_out(prepared)
     }
 

@@ -1,8 +1,8 @@
 //! The two phases of a command: what can be refused, and then what changes.
 
-ghost use Rattle.std.specs.Prelude.{◌≡◌, ◌≢◌, ◌<◌, List, ◌∷◌, Ok, IfOk, IfErr, OnOk, OnErr};
+ghost use Rattle.std.specs.Prelude.{◌≡◌, ◌≢◌, ◌<◌, List, ◌∷◌, Ok, Some, IfOk, IfErr, OnOk, OnErr};
 ghost use Rattle.trace_command.specs.Refusals.{IsRefusal};
-ghost use Rattle.trace_command.specs.Requests.{Request, FitsItsTypes, request_of};
+ghost use Rattle.trace_command.specs.Requests.{Request, MakeInstance, RemoveInstance, FitsItsTypes, request_of};
 ghost use Rattle.trace_command.specs.declared.refusal.Refusal.TheVariants as refusal;
 ghost use Rattle.trace_format.specs.declared.pair.Pair.{Pair as PairSeen};
 ghost use Rattle.tracer_specification.specs.History.{emission_answer};
@@ -99,6 +99,38 @@ impl Tracer {
             return Err(Refusal::HistoryFull);
         }
         Ok(write)
+    }
+
+    /// As `prepare`, for an instance that is made with this name.
+    pub fn prepare_making(&self, limit: u64, name: &[u8]) -> Result<Prepared, Refusal>
+        ensures prepared { (past : List Request) → IsLive self.now.config past self.now
+            → IsPreparedWithin limit self.now.config past (MakeInstance (Some name.now)) self.now.state result }
+        ensures ready { IfOk result (IsReadyFor self.now) }
+        ensures room { OnOk result (self.now.done < limit) }
+    {
+        let making = self.state.prepare_making(self.alloc, &self.config, name)?;
+        if self.done >= limit {
+            let_go_change(making);
+            return Err(Refusal::HistoryFull);
+        }
+        Ok(making)
+    }
+
+    /// As `prepare`, for the removal of the instance of this name.
+    pub fn prepare_removal(&self, limit: u64, name: &[u8]) -> Result<Prepared, Refusal>
+        ensures prepared { (past : List Request) → IsLive self.now.config past self.now
+            → IsPreparedWithin limit self.now.config past (RemoveInstance (Some name.now)) self.now.state result }
+        ensures ready { IfOk result (IsReadyFor self.now) }
+        ensures room { OnOk result (self.now.done < limit) }
+        ensures memory { IfErr result (λ r. r ≢ refusal.Memory) }
+        ensures takes_none { IfOk result (λ prepared. TakesMemory self.now.state prepared.change → ⊥) }
+    {
+        let removal = self.state.prepare_removal(name)?;
+        if self.done >= limit {
+            let_go_change(removal);
+            return Err(Refusal::HistoryFull);
+        }
+        Ok(removal)
     }
 
     /// Makes the change that was prepared for a command, and returns its reply: the command is done. If memory is refused, of which only some changes

@@ -14,7 +14,7 @@ answer-answer-requires g c =
     let base = sym (g.met.B.SharedBook.bases (held_value held)) ∙ c.in-Ok.ensures.base in
     let lent = kept_same g.B.SharedBook.made_with g.B.Logged.entries c.value.result.now (held_value held) c.value.ensures.value in
     asked_above (view_of c.args.pass) (held_view held) (held_view held) (held_ticket held) c.ticket-ticket.result c.by-by.result
-    (kept (held_value held)) (kept c.value.result.now) (kept c.value.result.now) c.args.command (Err Worn) named
+    (kept (held_value held)) (kept c.value.result.now) (kept c.value.result.now) c.args.command.now (Err Worn) named
     c.in-Ok.ensures.drawn found c.in-Ok.ensures.entries base lent c.ticket-ticket.ensures c.by-by.ensures
 
 -- the book is left as the lock takes it back
@@ -34,7 +34,7 @@ release-requires-clause-entries g c =
     let lent = kept_same g.B.SharedBook.made_with g.B.Logged.entries c.value.result.now (held_value held) c.value.ensures.value in
     left_of g.met.B.SharedBook.tickets g.met.B.SharedBook.callers (held_view held) (held_ticket held) (g.B.Logged.entries c.answer-answer.new.self)
     (asked_leaves (view_of c.args.pass) (held_view held) (held_view held) (held_ticket held) c.ticket-ticket.result c.by-by.result
-    (kept (held_value held)) (kept c.value.result.now) (kept c.answer-answer.new.self) c.args.command c.answer-answer.result named
+    (kept (held_value held)) (kept c.value.result.now) (kept c.answer-answer.new.self) c.args.command.now c.answer-answer.result named
     c.in-Ok.ensures.drawn found c.in-Ok.ensures.entries base lent c.ticket-ticket.ensures c.by-by.ensures
     c.answer-answer.ensures.done c.answer-answer.ensures.refused)
 
@@ -47,19 +47,17 @@ returns-in-Ok g c =
     let base = sym (g.met.B.SharedBook.bases (held_value held)) ∙ c.in-Ok.ensures.base in
     let lent = kept_same g.B.SharedBook.made_with g.B.Logged.entries c.value.result.now (held_value held) c.value.ensures.value in
     let comes = asked_comes (view_of c.args.pass) (held_view held) (view_of c.release.result) (held_ticket held) c.ticket-ticket.result c.by-by.result
-    (kept (held_value held)) (kept c.value.result.now) (kept c.answer-answer.new.self) c.args.command c.answer-answer.result named
+    (kept (held_value held)) (kept c.value.result.now) (kept c.answer-answer.new.self) c.args.command.now c.answer-answer.result named
     c.in-Ok.ensures.drawn found c.in-Ok.ensures.entries base lent c.ticket-ticket.ensures c.by-by.ensures
     c.answer-answer.ensures.reply c.answer-answer.ensures.early c.answer-answer.ensures.late_memory c.answer-answer.ensures.done c.answer-answer.ensures.refused c.answer-answer.ensures.config c.answer-answer.ensures.legal c.release.ensures.back in
     record { of = c.release.ensures.of; goes_on = comes.goes_on; done = comes.done; refused = comes.refused; legal = comes.legal }
 
 pub returns-in-Err-clause-goes_on : goal.returns-in-Err-clause-goes_on
 returns-in-Err-clause-goes_on g c =
-    rw c.worn_out.ensures.pass (worn_goes_on (view_of c.args.pass) (view_of c.in-Err.worn.pass) c.args.pass.bounded c.in-Err.ensures.worn)
+    worn_goes_on (view_of c.args.pass) (view_of c.in-Err.worn.pass) c.args.pass.bounded c.in-Err.ensures.worn
 
 pub returns-in-Err-clause-refused : goal.returns-in-Err-clause-refused
-returns-in-Err-clause-refused g c =
-    rw (c.worn_out.ensures.pass, c.worn_out.ensures.answer)
-    (asked_worn (view_of c.args.pass) (view_of c.in-Err.worn.pass) c.args.command c.in-Err.ensures.worn)
+returns-in-Err-clause-refused g c = asked_worn (view_of c.args.pass) (view_of c.in-Err.worn.pass) c.args.command.now c.in-Err.ensures.worn
 
 pub returns-in-Err-clause-legal : goal.returns-in-Err-clause-legal
-returns-in-Err-clause-legal g c config is legal = rw c.worn_out.ensures.pass (worn_legal (view_of c.args.pass) (view_of c.in-Err.worn.pass) c.in-Err.ensures.worn config legal)
+returns-in-Err-clause-legal g c config is legal = worn_legal (view_of c.args.pass) (view_of c.in-Err.worn.pass) c.in-Err.ensures.worn config legal

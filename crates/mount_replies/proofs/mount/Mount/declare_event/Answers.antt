@@ -7,7 +7,7 @@ use Rattle.mount_tree.specs.declared.node.Node.TheVariants as nodes
 use Rattle.tracer.specs.Lives.{IsCall}
 use Rattle.mount_replies.specs.Steps.{write_of}
 use Rattle.mount_replies.specs.contracts.mount.Mount.{the_view}
-use Rattle.mount_replies.proofs.AddressLemmas.{declared-call, declares-text, grown-address, undeclared-call, write-is}
+use Rattle.mount_replies.proofs.AddressLemmas.{declared-call, declares-text, grown-address, undeclared, undeclared-call, write-is}
 use Rattle.mount_replies.proofs.mount.Mount.declare_event.Goals as goal
 
 pub returns-in-Ok-write_at-clause-asked : goal.returns-in-Ok-write_at-clause-asked
@@ -37,3 +37,9 @@ returns-in-Err-clause-asked c =
     (write_of old.scene (nodes.File c.args.owner SyntheticEvents) c.args.append c.args.text.now) c.in-Err.refusal mounted c.write_at.ensures.config
     (subst (λ (r : Request). IsCall past c.write_at.new.self r (Err c.in-Err.refusal)) same (c.in-Err.ensures.call past mounted.lives))
     (c.take_back_event.ensures old.scene c.in-Ok.ensures.ok))
+
+pub returns-in_default-clause-asked : goal.returns-in_default-clause-asked
+returns-in_default-clause-asked c =
+    let there = rw (← c.self.view_is) at c.requires.there in
+    rw (← c.self.view_is) (λ past mounted.
+    undeclared past (the_view c.self.inside) c.add_event.new.self c.args.owner c.args.append c.args.text.now mounted there c.in_default.ensures.err)
