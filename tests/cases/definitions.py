@@ -125,7 +125,9 @@ class File:
             if not is_value:
                 text, place = "impl Model for %s { ghost Value = { %s }; .. }" % (name, value), found.start()
             elif returned_by:
-                place = re.search(r"^    pub fn %s\(" % returned_by, self.text, re.M).start()
+                blocks = re.finditer(r"^impl(?:<[^>]*>)? %s\b.*?^\}$" % re.escape(name), self.text, re.M | re.S)
+                shown = r"^    pub fn %s\(" % returned_by
+                place = next(block.start() + at.start() for block in blocks if (at := re.search(shown, block.group(), re.M)))
                 method = self.with_comment([key], place, self.text[place : self.text.index("\n    {\n", place)])
                 text = "// Contracts see a value of %s as one of %s. This function of it shows that to a caller.\n%s" % (name, value, dedent(method.text))
             else:

@@ -43,10 +43,12 @@ def owner_of(head, modules, homes):
     trait, _, target = rest.strip().rpartition(" for ")
     found = re.match(r"(&?)(?:'\w+ )?(?:mut )?(\[?)(?:\w+::)*(\w+)", target)
     name = ("Ref" if found[1] else "") + ("Slice" if found[2] else "") + capital(found[3])
-    if trait in ("", "Drop"):
-        return homes.get(found[3], modules) + [name]
-    # the arguments of the trait, as `VecU8` of `From<Vec<u8>>`, without those that the impl is generic in
     own = re.findall(r"(?<!')\b[A-Za-z]\w*", parameters or "")
+    if trait in ("", "Drop"):
+        # the type's own arguments, as `Of+Bytes` of `impl<'a> Of<Bytes<'a>>`, without those that the impl is generic in
+        words = [word for word in re.findall(r"(?<!')\b[A-Za-z]\w*", target.partition("<")[2]) if word not in own]
+        return homes.get(found[3], modules) + ["+".join([name, *words])]
+    # the arguments of the trait, as `VecU8` of `From<Vec<u8>>`, without those that the impl is generic in
     words = [word for word in re.findall(r"(?<!')\b[A-Za-z]\w*", trait.partition("<")[2]) if word not in own]
     return modules + [name + without_generics(trait).split("::")[-1] + "".join(map(capital, words))]
 
