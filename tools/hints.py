@@ -63,7 +63,7 @@ def with_hints(text, hints):
     """The text of a module in which each function has its hints."""
 
     def hinted(found):
-        names = found[2].split("::")
+        names = [name.split("+")[0] for name in found[2].split("::")]  # `CommandOf+Bytes+..` is `CommandOf` of these types
         words = hints.get(found[2]) or hints.get("::".join([names[0], *names[-2:]]))
         return "%s %s {" % (found[1], words) if words else found[0]
 

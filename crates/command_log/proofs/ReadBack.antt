@@ -7,8 +7,8 @@ use Rattle.std.proofs.lemmas.List.{take_at, drop_at}
 use Rattle.std.proofs.lemmas.Nat.{from_le_bytes-to_le_bytes_4, from_le_bytes-to_le_bytes_8}
 use Rattle.std.proofs.Math.Facts.{Fits-of_z}
 use Rattle.trace_format.specs.declared.pair.Pair.{Pair}
-use Rattle.trace_command.specs.declared.command.Command.{Command}
-use Rattle.trace_command.specs.declared.command.Command.TheVariants.{Emit, Mkdir, Rmdir, Write, Read}
+use Rattle.trace_command.specs.Commands.{Command}
+use Rattle.trace_command.specs.declared.command.CommandOf.TheVariants.{Emit, Mkdir, Rmdir, Write, Read}
 use Rattle.trace_command.specs.declared.command.Entry.{Entry}
 use Rattle.command_log.specs.EntryEncoding.{length_bytes, text_bytes, pairs_bytes, emission_bytes, other_bytes, command_bytes, entry_bytes, ArePairsShort, IsWritable}
 use Rattle.command_log.specs.EntryDecoding.{length_in, after_length, text_in, after_text, pairs_in, after_pairs, emission_in, after_emission, other_of, other_in, after_other, command_in, after_command, entry_in, after_entry}

@@ -2,7 +2,7 @@
 use Rattle.std.proofs.Common.{◌≡◌, ℕ, ℤ, ◌<◌, ◌^◌, List, [], ◌∷◌, ◌++◌, length, get_or, Result, Ok, Err, OnOk, refl, sym, subst, ◌∙◌, append_assoc}
 use Rattle.std.specs.Int.{w32, w64, to_le_bytes, cast_unsigned}
 use Rattle.trace_format.specs.declared.pair.Pair.{Pair}
-use Rattle.trace_command.specs.declared.command.Command.TheVariants.{Emit}
+use Rattle.trace_command.specs.declared.command.CommandOf.TheVariants.{Emit}
 use Rattle.trace_command.specs.declared.command.Entry.{Entry}
 use Rattle.command_log.specs.EntryEncoding.{length_bytes, text_bytes, pairs_bytes, emission_bytes, other_bytes, command_bytes, entry_bytes, IsWritable}
 use Rattle.command_log.specs.PackedEntries.{IsOneEntry}

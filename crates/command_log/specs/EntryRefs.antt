@@ -1,6 +1,6 @@
 -- Entries that are read where they lie: the entry and the command that each shows.
-use Rattle.trace_command.specs.declared.command.Command.{Command}
-use Rattle.trace_command.specs.declared.command.Command.TheVariants.{Emit, Mkdir, Rmdir, Write, Read}
+use Rattle.trace_command.specs.Commands.{Command}
+use Rattle.trace_command.specs.declared.command.CommandOf.TheVariants.{Emit, Mkdir, Rmdir, Write, Read}
 use Rattle.trace_command.specs.declared.command.Entry.{Entry}
 use Rattle.command_log.specs.declared.entry_ref.EntryRef.{EntryRef}
 use Rattle.command_log.specs.declared.entry_ref.CommandRef.{CommandRef}

@@ -1,15 +1,16 @@
 //! How entries are written as bytes: `specs/EntryEncoding.antt` says it part by part.
 
-ghost use Rattle.std.specs.Prelude.{◌≡◌, ◌<◌, ◌^◌, [], ◌∷◌, ◌++◌, length, OnOk};
+ghost use Rattle.std.specs.Prelude.{◌≡◌, ◌≢◌, ◌<◌, ◌^◌, ℕ, ℤ, List, [], ◌∷◌, ◌++◌, length, OnOk};
 ghost use Rattle.std.specs.Int.{w32, w64, to_le_bytes, cast_unsigned};
-ghost use Rattle.trace_command.specs.declared.command.Command.{Command};
+ghost use Rattle.trace_command.specs.declared.command.CommandOf.TheVariants as commands;
+ghost use Rattle.trace_format.specs.declared.pair.Pair.{Pair};
 ghost use Rattle.command_log.specs.PackedEntries.{IsOneEntry};
 ghost use Rattle.command_log.specs.EntryEncoding.{length_bytes, text_bytes, pairs_bytes, other_bytes, ArePairsShort};
 
 use crate::chunk::Chunk;
-use std::alloc::{AllocError, Global};
-use trace_command::{BorrowedEmission, Command};
-use trace_format::{BorrowedPair, borrowed};
+use std::alloc::AllocError;
+use trace_command::Command;
+use trace_format::BorrowedPair;
 
 // Kinds of commands, as they are written.
 const EMIT: u8 = 0;
@@ -132,26 +133,50 @@ impl Chunk {
         self.write_pairs(pairs)
     }
 
-    /// Writes the entry of an emission ahead. Where memory is refused, a part of it may be written all the same. It is inlined, as most entries are of
-    /// emissions.
-    #[inline(always)]
-    pub(crate) fn write_emission(
+    // Writes the entry of an emission ahead piece by piece, likewise.
+    #[cold]
+    #[inline(never)]
+    fn write_long_emission(
         &mut self,
         ticket: u64,
         by: u32,
-        emission: &BorrowedEmission<'_>,
+        event: &[u8],
+        cpu: u32,
+        pid: i32,
+        pairs: &[BorrowedPair<'_>],
     ) -> Result<(), AllocError>
         requires { self.old.ahead ≡ [] }
         ensures entries { self.new.entries ≡ self.old.entries }
-        ensures entry { OnOk result (IsOneEntry self.new.ahead (record { ticket = ticket; by = by; command = emission.now })) }
+        ensures entry { OnOk result (IsOneEntry self.new.ahead
+            (record { ticket = ticket; by = by; command = commands.Emit event.now cpu pid pairs.now })) }
     {
-        let (event, cpu, pid, pairs) = emission.parts();
+        let head = emission_head(ticket, by, cpu, pid);
+        self.write_pieces(&head, event, pairs)
+    }
+
+    // Writes the entry of an emission ahead. Where memory is refused, a part of it may be written all the same. It is inlined, as most entries are of
+    // emissions. The head is put together anew for one that isn't short, so that it need not lie in memory.
+    #[inline(always)]
+    fn write_emission(
+        &mut self,
+        ticket: u64,
+        by: u32,
+        event: &[u8],
+        cpu: u32,
+        pid: i32,
+        pairs: &[BorrowedPair<'_>],
+    ) -> Result<(), AllocError>
+        requires { self.old.ahead ≡ [] }
+        ensures entries { self.new.entries ≡ self.old.entries }
+        ensures entry { OnOk result (IsOneEntry self.new.ahead
+            (record { ticket = ticket; by = by; command = commands.Emit event.now cpu pid pairs.now })) }
+    {
         let head = emission_head(ticket, by, cpu, pid);
         let is_short = self.write_short(&head, event, pairs)?;
         if is_short {
             return Ok(());
         }
-        self.write_pieces(&head, event, pairs)
+        self.write_long_emission(ticket, by, event, cpu, pid, pairs)
     }
 
     // Writes the entry of a command with a text ahead: kind, no limit, path and text. Where memory is refused, a part may be written all the same.
@@ -204,8 +229,8 @@ impl Chunk {
         self.write_pieces(&head, path, &[])
     }
 
-    /// Writes the entry of a read ahead, likewise.
-    pub(crate) fn write_read(
+    // Writes the entry of a read ahead, likewise.
+    fn write_read(
         &mut self,
         ticket: u64,
         by: u32,
@@ -214,7 +239,7 @@ impl Chunk {
     ) -> Result<(), AllocError>
         requires { self.old.ahead ≡ [] }
         ensures entries { self.new.entries ≡ self.old.entries }
-        ensures entry { OnOk result (IsOneEntry self.new.ahead (record { ticket = ticket; by = by; command = Command.Read path.now limit })) }
+        ensures entry { OnOk result (IsOneEntry self.new.ahead (record { ticket = ticket; by = by; command = commands.Read path.now limit })) }
     {
         match limit {
             None => self.write_path(ticket, by, READ, 0, path),
@@ -222,29 +247,21 @@ impl Chunk {
         }
     }
 
-    /// Writes an entry ahead. Where memory is refused, a part of it may be written all the same.
-    pub(crate) fn write_entry(
+    // Writes the entry of a command other than an emission ahead, likewise. It is kept out of line, so that an emission doesn't grow by it.
+    #[inline(never)]
+    fn write_other_entry(
         &mut self,
-        alloc: Global,
         ticket: u64,
         by: u32,
-        command: &Command,
+        command: &Command<'_>,
     ) -> Result<(), AllocError>
-        requires { self.old.ahead ≡ [] }
+        requires begun { self.old.ahead ≡ [] }
+        requires other { (event : List ℕ) (cpu : ℕ) (pid : ℤ) (pairs : List Pair) → command.now ≢ commands.Emit event cpu pid pairs }
         ensures entries { self.new.entries ≡ self.old.entries }
         ensures entry { OnOk result (IsOneEntry self.new.ahead (record { ticket = ticket; by = by; command = command.now })) }
     {
         match command {
-            Command::Emit {
-                event,
-                cpu,
-                pid,
-                pairs,
-            } => {
-                let pairs = borrowed(alloc, pairs.as_slice())?;
-                let emission = BorrowedEmission::new(event.as_bytes(), *cpu, *pid, &pairs);
-                self.write_emission(ticket, by, &emission)
-            }
+            Command::Emit { .. } => unreachable!(),
             Command::Mkdir(path) => self.write_path(ticket, by, MKDIR, 0, path.as_bytes()),
             Command::Rmdir(path) => self.write_path(ticket, by, RMDIR, 0, path.as_bytes()),
             Command::Write {
@@ -258,6 +275,29 @@ impl Chunk {
                 text,
             } => self.write_other(ticket, by, APPEND, path.as_bytes(), text.as_bytes()),
             Command::Read { path, limit } => self.write_read(ticket, by, path.as_bytes(), *limit),
+        }
+    }
+
+    /// Writes an entry ahead. Where memory is refused, a part of it may be written all the same. It is inlined, so that it is known which command it is.
+    #[inline(always)]
+    pub(crate) fn write_entry(
+        &mut self,
+        ticket: u64,
+        by: u32,
+        command: &Command<'_>,
+    ) -> Result<(), AllocError>
+        requires { self.old.ahead ≡ [] }
+        ensures entries { self.new.entries ≡ self.old.entries }
+        ensures entry { OnOk result (IsOneEntry self.new.ahead (record { ticket = ticket; by = by; command = command.now })) }
+    {
+        match command {
+            Command::Emit {
+                event,
+                cpu,
+                pid,
+                pairs,
+            } => { self.write_emission(ticket, by, event.as_bytes(), *cpu, *pid, pairs.as_slice()) }
+            _ => self.write_other_entry(ticket, by, &command.again()),
         }
     }
 }

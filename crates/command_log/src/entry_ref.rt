@@ -5,7 +5,7 @@ ghost use Rattle.command_log.specs.EntryRefs.{command_shown, entry_shown};
 
 use crate::pair_refs::PairRefs;
 use std::alloc::{AllocError, Global};
-use trace_command::{Command, Entry};
+use trace_command::{Entry, OwnedCommand};
 use trace_lex::Text;
 
 /// An entry of a history, read where it lies, so that no memory is taken.
@@ -16,7 +16,7 @@ pub struct EntryRef<'a> {
     pub command: CommandRef<'a>,
 }
 
-/// A command of a history, read where it lies: as [`Command`], but its strings and pairs are borrowed.
+/// A command of a history, read where it lies: its strings and pairs are slices of the history's bytes.
 #[derive(Drop)]
 pub enum CommandRef<'a> {
     Emit {
@@ -54,7 +54,7 @@ impl<'a> EntryRef<'a> {
 
 impl<'a> CommandRef<'a> {
     /// The command, with strings of its own. It fails only if memory is refused.
-    pub fn to_command(&self, alloc: Global) -> Result<Command, AllocError>
+    pub fn to_command(&self, alloc: Global) -> Result<OwnedCommand, AllocError>
         ensures { IfOk result (λ command. command ≡ command_shown self.now) }
     {
         match self {
@@ -63,18 +63,20 @@ impl<'a> CommandRef<'a> {
                 cpu,
                 pid,
                 pairs,
-            } => {
-                let pairs = pairs.to_pairs(alloc)?;
-                Command::emit(alloc, event, *cpu, *pid, pairs)
-            }
-            CommandRef::Mkdir(path) => Command::mkdir(alloc, path),
-            CommandRef::Rmdir(path) => Command::rmdir(alloc, path),
-            CommandRef::Write { path, append, text } => Ok(Command::Write {
+            } => Ok(OwnedCommand::Emit {
+                event: Text::from_slice(alloc, event)?,
+                cpu: *cpu,
+                pid: *pid,
+                pairs: pairs.to_pairs(alloc)?,
+            }),
+            CommandRef::Mkdir(path) => Ok(OwnedCommand::Mkdir(Text::from_slice(alloc, path)?)),
+            CommandRef::Rmdir(path) => Ok(OwnedCommand::Rmdir(Text::from_slice(alloc, path)?)),
+            CommandRef::Write { path, append, text } => Ok(OwnedCommand::Write {
                 path: Text::from_slice(alloc, path)?,
                 append: *append,
                 text: Text::from_slice(alloc, text)?,
             }),
-            CommandRef::Read { path, limit } => Ok(Command::Read {
+            CommandRef::Read { path, limit } => Ok(OwnedCommand::Read {
                 path: Text::from_slice(alloc, path)?,
                 limit: *limit,
             }),

@@ -1,7 +1,6 @@
 //! The history: entries as bytes, one after the other, in chunks.
 
 ghost use Rattle.std.specs.Prelude.{◌≡◌, ◌+◌, ◌<◌, ◌^◌, [], ◌∷◌, ◌++◌, length, OnOk, OnErr};
-ghost use Rattle.trace_command.specs.declared.command.Command.{Command};
 ghost use Rattle.command_log.specs.ChunkSeen.{entries_of};
 
 use crate::chunk::Chunk;
@@ -9,7 +8,7 @@ use crate::entries::Entries;
 use std::alloc::{AllocError, Global};
 use std::marker::Model;
 use std::mem;
-use trace_command::{BorrowedEmission, Command};
+use trace_command::Command;
 
 /// The entries of a history, seen as their list, and what is written ahead. An entry is written ahead first, which may be refused memory, and then
 /// appended, which can't fail. One that is never appended makes way for the next.
@@ -63,60 +62,22 @@ impl History {
         Ok(())
     }
 
-    /// Writes an emission ahead, in place of what was. `Err` says that memory is refused; nothing is written ahead then. It is inlined, as most entries
-    /// are of emissions.
+    /// Writes an entry ahead, in place of what was. `Err` says that memory is refused; nothing is written ahead then. It is inlined, so that it is known
+    /// which command it is.
     #[inline(always)]
-    pub fn write_emission_ahead(
+    pub fn write_ahead(
         &mut self,
         ticket: u64,
         by: u32,
-        emission: &BorrowedEmission<'_>,
+        command: &Command<'_>,
     ) -> Result<(), AllocError>
-        ensures written { OnOk result (self.new.ahead
-            ≡ record { ticket = ticket; by = by; command = emission.now } ∷ []) }
-        ensures refused { OnErr result (self.new.ahead ≡ []) }
-        ensures entries { self.new.entries ≡ self.old.entries }
-    {
-        self.begin()?;
-        if let Err(error) = self.last.write_emission(ticket, by, emission) {
-            self.last.discard();
-            return Err(error);
-        }
-        self.ahead = 1;
-        Ok(())
-    }
-
-    /// Writes an entry ahead, in place of what was. `Err` says that memory is refused; nothing is written ahead then.
-    pub fn write_ahead(&mut self, ticket: u64, by: u32, command: &Command) -> Result<(), AllocError>
         ensures written { OnOk result (self.new.ahead
             ≡ record { ticket = ticket; by = by; command = command.now } ∷ []) }
         ensures refused { OnErr result (self.new.ahead ≡ []) }
         ensures entries { self.new.entries ≡ self.old.entries }
     {
         self.begin()?;
-        if let Err(error) = self.last.write_entry(self.alloc, ticket, by, command) {
-            self.last.discard();
-            return Err(error);
-        }
-        self.ahead = 1;
-        Ok(())
-    }
-
-    /// Writes a read ahead, in place of what was. `Err` says that memory is refused; nothing is written ahead then.
-    pub fn write_read_ahead(
-        &mut self,
-        ticket: u64,
-        by: u32,
-        path: &[u8],
-        limit: Option<u64>,
-    ) -> Result<(), AllocError>
-        ensures written { OnOk result (self.new.ahead
-            ≡ record { ticket = ticket; by = by; command = Command.Read path.now limit } ∷ []) }
-        ensures refused { OnErr result (self.new.ahead ≡ []) }
-        ensures entries { self.new.entries ≡ self.old.entries }
-    {
-        self.begin()?;
-        if let Err(error) = self.last.write_read(ticket, by, path, limit) {
+        if let Err(error) = self.last.write_entry(ticket, by, command) {
             self.last.discard();
             return Err(error);
         }

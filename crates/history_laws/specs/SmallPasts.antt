@@ -3,7 +3,7 @@ use Rattle.std.specs.Prelude.{◌≡◌, ℕ, true, List, [], ◌∷◌, map, re
 use Rattle.trace_record.specs.Record.{timestamp}
 use Rattle.trace_buffer.specs.Families.{CpuReading, cpu_stats}
 use Rattle.trace_command.specs.Requests.{Request, request_of}
-use Rattle.trace_command.specs.declared.command.Command.{Command}
+use Rattle.trace_command.specs.Commands.{Command}
 use Rattle.tracer_specification.specs.Examples.{cat, echo, small, take, tick}
 use Rattle.tracer_specification.specs.Rings.{rings}
 use Rattle.history_laws.specs.AccountedFor.{counted, emissions_of, recorded_count, shown_of, was_emptied}

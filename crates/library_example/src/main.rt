@@ -7,9 +7,12 @@ ghost use Rattle.std.specs.Prelude.{◌≡◌, IfOk, vec_len};
 use parallel_history::history_of;
 use std::alloc::{AllocError, Global};
 use std::process::ExitCode;
+use std::slice;
 use std::sync::Wait;
 use std::thread::Threads;
-use trace_book::{Book, Command, CommandRef, Config, EntryRef, Pairs, Refusal, Reply, Tracer};
+use trace_book::{
+    Book, BorrowedPair, Command, CommandRef, Config, EntryRef, OwnedCommand, Refusal, Reply, Tracer,
+};
 use trace_workers::{BlockFault, OpenGate, Part};
 
 const CONFIG: Config = Config {
@@ -22,25 +25,19 @@ const CONFIG: Config = Config {
 /// The process that the emissions name.
 const PROCESS: i32 = 7;
 
-/// The pairs `n=NUMBER` of an emission.
-fn pairs(alloc: Global, number: u32) -> Result<Pairs, AllocError> {
+/// Does the command `emit 0 7 tick n=NUMBER`.
+fn tick(alloc: Global, tracer: &mut Tracer, number: u32) -> Result<Reply, Refusal> {
     let value = format!(in alloc; "{number}")?;
-    let mut pairs = Pairs::new(alloc);
-    pairs.push(alloc, b"n", value.as_bytes())?;
-    Ok(pairs)
-}
-
-/// The command `emit 0 7 tick n=NUMBER`.
-fn tick(alloc: Global, number: u32) -> Result<Command, AllocError> {
-    Command::emit(alloc, b"tick", 0, PROCESS, pairs(alloc, number)?)
+    let pair = BorrowedPair::new(b"n", value.as_bytes());
+    tracer.ask(&Command::emit(b"tick", 0, PROCESS, slice::from_ref(&pair)))
 }
 
 /// Declares an event, switches it on, and emits it five times.
 fn emit_five(alloc: Global, tracer: &mut Tracer) -> Result<(), Refusal> {
-    tracer.ask(&Command::append(alloc, b"synthetic_events", b"tick u64 n")?)?;
-    tracer.ask(&Command::write(alloc, b"events/synthetic/tick/enable", b"1")?)?;
+    tracer.ask(&Command::append(b"synthetic_events", b"tick u64 n"))?;
+    tracer.ask(&Command::write(b"events/synthetic/tick/enable", b"1"))?;
     for number in 1..6 {
-        tracer.ask(&tick(alloc, number)?)?;
+        tick(alloc, tracer, number)?;
     }
     Ok(())
 }
@@ -79,9 +76,9 @@ fn show_emissions(rt: &impl Print, book: &Book) {
 fn trace(rt: &(impl Print + AllocGlobal), tracer: &mut Tracer) -> Result<(), Refusal> {
     let alloc = rt.alloc();
     emit_five(alloc, tracer)?;
-    let record = tracer.ask(&Command::take(alloc, b"trace_pipe", 1)?)?;
+    let record = tracer.ask(&Command::take(b"trace_pipe", 1))?;
     show(rt, record);
-    let statistics = tracer.ask(&Command::read(alloc, b"per_cpu/cpu0/stats")?)?;
+    let statistics = tracer.ask(&Command::read(b"per_cpu/cpu0/stats"))?;
     show(rt, statistics);
     Ok(())
 }
@@ -94,12 +91,12 @@ fn run(rt: &(impl Print + AllocGlobal)) -> Result<(), Refusal> {
 }
 
 /// A part that makes an instance.
-fn maker(alloc: Global) -> Result<Vec<Command>, AllocError> {
-    Ok(vec![in alloc; Command::mkdir(alloc, b"instances/a")?]?)
+fn maker(alloc: Global) -> Result<Vec<OwnedCommand>, AllocError> {
+    Ok(vec![in alloc; Command::mkdir(b"instances/a").copied(alloc)?]?)
 }
 
 /// Three parts, each of which makes the same instance.
-fn makers(alloc: Global) -> Result<Vec<Vec<Command>>, AllocError>
+fn makers(alloc: Global) -> Result<Vec<Vec<OwnedCommand>>, AllocError>
     ensures { IfOk result (λ parts. vec_len parts ≡ 3) }
 {
     Ok(vec![in alloc; maker(alloc)?, maker(alloc)?, maker(alloc)?]?)

@@ -3,8 +3,8 @@
 ghost use Rattle.std.specs.Prelude.{◌≡◌, ◌≢◌, ◌≤◌, IfOk, IfErr, OnOk, false, true, None, Some, length};
 ghost use Rattle.trace_command.specs.Configs.{IsInRange};
 ghost use Rattle.trace_command.specs.Paths as paths;
-ghost use Rattle.trace_command.specs.declared.command.Command.{Command as CommandValue};
-ghost use Rattle.trace_command.specs.declared.command.Command.TheVariants as commands;
+ghost use Rattle.trace_command.specs.Commands.{Command as CommandValue};
+ghost use Rattle.trace_command.specs.declared.command.CommandOf.TheVariants as commands;
 ghost use Rattle.trace_command.specs.declared.command.Reply.TheVariants as replies;
 ghost use Rattle.trace_command.specs.declared.refusal.Refusal.TheVariants as refusals;
 ghost use Rattle.tracer_specification.specs.Waiting.{waiting};
@@ -19,7 +19,7 @@ use crate::status;
 use std::alloc::{AllocError, Global};
 use std::marker::Model;
 use std::slice;
-use trace_command::{BorrowedEmission, Command, Config, Refusal, Reply, address_of};
+use trace_command::{Command, Config, OwnedCommand, Refusal, Reply};
 use trace_format::FieldValue;
 use trace_lex::Text;
 use trace_script::{Line, LineError, Outcome, ScriptFault, prepare};
@@ -65,39 +65,24 @@ impl Console {
         })
     }
 
-    /// Does a command, or refuses it, and keeps which.
-    fn ask(&mut self, command: Command)
+    /// Does a command, or refuses it, and keeps which. It is inlined, so that it is known which command it is.
+    #[inline(always)]
+    fn ask(&mut self, command: &Command<'_>)
+        ensures done { ComesTo (after_command command.now) self.old self.new }
+        ensures takes_none { NeedsNoMemory command.now self.old self.new }
+    {
+        let answer = self.live.ask_within(self.limit, command);
+        self.keep(answer);
+    }
+
+    /// Does a command with strings of its own, for whose pairs a list may be allocated.
+    fn ask_owned(&mut self, command: OwnedCommand)
         ensures { ComesTo (after_command command) self.old self.new }
     {
-        let answer = self.live.ask_within(self.limit, &command);
-        self.keep(answer);
-    }
-
-    /// Reads a file, of a pipe at most so many records, as `ask` does a command.
-    fn ask_read(&mut self, path: &[u8], most: Option<u64>)
-        ensures { ComesTo (after_command (commands.Read path.now most)) self.old self.new }
-    {
-        let answer = self.live.read_at_within(self.limit, address_of(path), most);
-        self.keep(answer);
-    }
-
-    /// Writes a string to a file, by `>` or, to append, by `>>`, as `ask` does a command.
-    fn ask_write(&mut self, path: &[u8], append: bool, text: &[u8])
-        ensures done { ComesTo (after_command (commands.Write path.now append text.now)) self.old self.new }
-        ensures takes_none { NeedsNoMemory (commands.Write path.now append text.now) self.old self.new }
-    {
-        let answer = self
-            .live
-            .write_at_within(self.limit, address_of(path), append, text);
-        self.keep(answer);
-    }
-
-    /// Does an emission, as `ask` does a command.
-    fn ask_emission(&mut self, emission: &BorrowedEmission<'_>)
-        ensures { ComesTo (after_command emission.now) self.old self.new }
-    {
-        let answer = self.live.ask_emission_within(self.limit, emission);
-        self.keep(answer);
+        match command.lend_pairs(self.alloc) {
+            Ok(lent) => self.ask(&command.lent(lent.as_slice())),
+            Err(_) => self.tell(Outcome::Refused(Refusal::Memory)),
+        }
     }
 
     /// Does an emission of a string of fields, for which a list is allocated.
@@ -105,7 +90,7 @@ impl Console {
         ensures { ComesTo (after_emission event.now cpu pid fields.now) self.old self.new }
     {
         match pairs(self.alloc, fields) {
-            Ok(pairs) => self.ask_emission(&BorrowedEmission::new(event, cpu, pid, &pairs)),
+            Ok(pairs) => self.ask(&Command::emit(event, cpu, pid, &pairs)),
             Err(error) => self.tell(failed(error)),
         }
     }
@@ -157,7 +142,7 @@ impl Console {
         ensures status { result ≡ status_of self.new.last }
     {
         match prepare(self.alloc, line) {
-            Ok(Line::Ask(command)) => self.ask(command),
+            Ok(Line::Ask(command)) => self.ask_owned(command),
             Ok(Line::Blank) => self.tell(Outcome::Replied(Reply::Done)),
             Ok(Line::Parallel | Line::Thread | Line::End) => {
                 self.tell(Outcome::Fault(ScriptFault::BlockOutOfPlace))
@@ -175,7 +160,7 @@ impl Console {
         match lone_pair(fields) {
             Some(pair) => {
                 let pairs = slice::from_ref(&pair);
-                self.ask_emission(&BorrowedEmission::new(event, cpu, pid, pairs));
+                self.ask(&Command::emit(event, cpu, pid, pairs));
             }
             None => self.ask_pairs(event, cpu, pid, fields),
         }
@@ -208,17 +193,17 @@ impl Console {
         ensures takes_none { NeedsNoMemory (commands.Write path.now false text.now) self.old self.new }
         ensures status { result ≡ status_of self.new.last }
     {
-        self.ask_write(path, false, text);
+        self.ask(&Command::write(path, text));
         self.status()
     }
 
-    /// Appends a string to a file, as `echo TEXT >> PATH` does, and `write` otherwise.
+    /// Appends a string to a file, as `echo TEXT >> PATH` does. One that takes no memory is never refused any, as by `write`.
     pub fn append(&mut self, path: &[u8], text: &[u8]) -> u32
         ensures done { ComesTo (after_command (commands.Write path.now true text.now)) self.old self.new }
         ensures takes_none { NeedsNoMemory (commands.Write path.now true text.now) self.old self.new }
         ensures status { result ≡ status_of self.new.last }
     {
-        self.ask_write(path, true, text);
+        self.ask(&Command::append(path, text));
         self.status()
     }
 
@@ -227,7 +212,7 @@ impl Console {
         ensures done { ComesTo (after_command (commands.Read path.now None)) self.old self.new }
         ensures status { result ≡ status_of self.new.last }
     {
-        self.ask_read(path, None);
+        self.ask(&Command::read(path));
         self.status()
     }
 
@@ -236,7 +221,7 @@ impl Console {
         ensures done { ComesTo (after_command (commands.Read path.now (Some limit))) self.old self.new }
         ensures status { result ≡ status_of self.new.last }
     {
-        self.ask_read(path, Some(limit));
+        self.ask(&Command::take(path, limit));
         self.status()
     }
 

@@ -6,7 +6,7 @@ use Rattle.std.specs.Result.{result_ok}
 use Rattle.trace_command.specs.Paths as paths
 use Rattle.trace_command.specs.Paths.{Address, address_of, file_of_instance}
 use Rattle.trace_command.specs.FileNames.{address_at}
-use Rattle.trace_command.specs.Requests.{Request, ReadFile, WriteFile}
+use Rattle.trace_command.specs.Requests.{Request, Emission, MakeInstance, ReadFile, RemoveInstance, WriteFile}
 use Rattle.trace_command.specs.declared.address.Address.{Address as Borrowed}
 use Rattle.trace_command.specs.Refusals.{OrMemory}
 use Rattle.trace_command.specs.declared.command.Config.{Config}
@@ -16,7 +16,7 @@ use Rattle.trace_command.specs.declared.refusal.Refusal.{Refusal}
 use Rattle.trace_command.specs.declared.refusal.Refusal.TheVariants.{Memory}
 use Rattle.trace_format.specs.Definitions.{Definition}
 use Rattle.trace_format.specs.Reading.{definition_of}
-use Rattle.tracer_specification.specs.Settings.{declares, made, removed}
+use Rattle.tracer_specification.specs.Settings.{declares, made, removed, ticks}
 use Rattle.trace_instance.specs.MemoryTaken.{TakesNoMemory}
 use Rattle.tracer.specs.LiveSeen.{LiveSeen}
 use Rattle.tracer.specs.Lives.{IsCall, live_answer}
@@ -134,6 +134,25 @@ asked-call past old live request result mounted config call makes removes adds =
       errors = refl;
       counted = refl;
     }
+
+-- memory for an emission was refused before it was asked
+pub unemitted : (past : List Request) (old : MountSeen) (request : Request) → HasLedTo past old → ticks request ≡ 1 → IsAsked past old old request (Err Memory)
+unemitted past old request mounted emits = record {
+  answered = record { reply = λ other. absurd (other refl); takes_none = λ none. absurd (takes request emits none) };
+  mounted = mounted;
+  terms = refl;
+  files = refl;
+  parked = refl;
+  errors = refl;
+  counted = refl;
+}
+  where
+    takes : (r : Request) → ticks r ≡ 1 → TakesNoMemory past r → ⊥
+    takes (Emission event cpu pid pairs) ticked none = none
+    takes (MakeInstance name) ticked none = none
+    takes (RemoveInstance name) ticked none = absurd (cc)
+    takes (WriteFile instance file append text) ticked none = absurd (cc)
+    takes (ReadFile instance file limit) ticked none = none
 
 -- one that declares an event, which the scene has by then
 pub declared-call : (past : List Request) (old : MountSeen) (live : LiveSeen) (scene : SceneSeen) (request : Request) (event : Definition) (answer : Answer)

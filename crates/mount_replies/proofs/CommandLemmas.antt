@@ -6,7 +6,7 @@ use Rattle.std.proofs.lemmas.List.Quantifiers.{position-Some}
 use Rattle.std.proofs.lemmas.List.Splits.{slice_split_first, slice_split_none}
 use Rattle.std.proofs.lemmas.List.Sums.{fails_before_first, position_or_len_is}
 use Rattle.trace_command.specs.Requests.{Request, request_of}
-use Rattle.trace_command.specs.declared.command.Command.TheVariants as commands
+use Rattle.trace_command.specs.declared.command.CommandOf.TheVariants as commands
 use Rattle.file_list.specs.FileKinds.{takes_lines}
 use Rattle.file_list.specs.declared.file.File.{File}
 use Rattle.mount_tree.specs.Scenes.{SceneSeen}

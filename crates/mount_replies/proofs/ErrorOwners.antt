@@ -11,7 +11,7 @@ use Rattle.std.proofs.lemmas.Slice.Eq.{bytes_eq-Decides}
 use Rattle.fuse_wire.specs.declared.reply.Reply.{Reply}
 use Rattle.trace_command.specs.Paths.{below_mount_point, instance_in, instance_of, mount_point, parts}
 use Rattle.trace_command.specs.Requests.{RemoveInstance, Request, request_of}
-use Rattle.trace_command.specs.declared.command.Command.TheVariants as commands
+use Rattle.trace_command.specs.declared.command.CommandOf.TheVariants as commands
 use Rattle.trace_command.specs.declared.command.Reply.{Reply as Answer}
 use Rattle.trace_command.specs.declared.refusal.Refusal.{Refusal}
 use Rattle.tracer_specification.specs.Settings.{made, removed}

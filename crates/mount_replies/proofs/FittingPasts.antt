@@ -5,7 +5,7 @@ use Rattle.std.proofs.lemmas.List.Elements.{All-cons, All-nil}
 use Rattle.fuse_wire.specs.declared.reply.Reply.{Reply}
 use Rattle.trace_command.specs.Configs.{IsInRange}
 use Rattle.trace_command.specs.Requests.{FitsItsTypes, Request, request_of}
-use Rattle.trace_command.specs.declared.command.Command.TheVariants as commands
+use Rattle.trace_command.specs.declared.command.CommandOf.TheVariants as commands
 use Rattle.trace_command.specs.declared.command.Reply.{Reply as Answer}
 use Rattle.trace_command.specs.declared.refusal.Refusal.{Refusal}
 use Rattle.mount_tree.specs.ScenesAfter.{scene_after}

@@ -7,7 +7,7 @@ use Rattle.trace_format.specs.Kinds.{is_text_kind}
 use Rattle.trace_format.specs.declared.event.Field.{Field}
 use Rattle.trace_format.specs.declared.pair.Pair.{Pair}
 use Rattle.trace_command.specs.Requests.{Request, Emission}
-use Rattle.trace_command.specs.declared.command.Command.TheVariants.{Emit}
+use Rattle.trace_command.specs.declared.command.CommandOf.TheVariants.{Emit}
 use Rattle.trace_script.specs.Lines.{line_of}
 use Rattle.trace_script.specs.declared.fault.ScriptFault.{ScriptFault}
 use Rattle.trace_script.specs.declared.line.Line.{Line}

@@ -85,7 +85,7 @@ abbrev pub IsNote : Noting → Type 0
 IsNote (Notes error) = ⊤
 IsNote noting = ⊥
 
--- one whose answer may be noted: or there was no memory to note it, or for what is done beside it if that takes any
+-- one whose refusal is to be noted: or there was no memory to note that, or for what is done beside it if that takes any
 abbrev pub IsAnsweredNoting : Terms → List Request → Request → Bool → (Result Answer Refusal → Noting) → Result Answer Refusal → Type 0
 IsAnsweredNoting g past request takes noting answer =
     IsAnswered g past request answer

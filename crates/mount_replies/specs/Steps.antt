@@ -5,7 +5,7 @@ use Rattle.fuse_wire.specs.declared.errno.Errno.{Errno}
 use Rattle.fuse_wire.specs.declared.reply.Reply.{Reply}
 use Rattle.fuse_wire.specs.declared.reply.Reply.TheVariants as replies
 use Rattle.trace_command.specs.Requests.{Request, request_of}
-use Rattle.trace_command.specs.declared.command.Command.TheVariants as commands
+use Rattle.trace_command.specs.declared.command.CommandOf.TheVariants as commands
 use Rattle.trace_command.specs.declared.command.Reply.{Reply as Answer}
 use Rattle.trace_command.specs.declared.refusal.Refusal.{Refusal}
 use Rattle.error_log.specs.Errors.{ErrorSeen}
@@ -77,7 +77,7 @@ pub data Step : Type 0 where
   Parks : (read : Parked) → Step
   -- the read of this number waits no more, if it does
   Interrupts : (unique : ℕ) → Step
-  -- the tracer is asked this; its answer gives the outcome, and what becomes of the errors
+  -- the tracer is asked this; its answer gives the outcome, and what becomes of the errors. What is done beside it may take memory.
   AsksNoting : (request : Request) (takes : Bool) (outcome : Result Answer Refusal → Outcome) (noting : Result Answer Refusal → Noting) → Step
   -- nothing is asked, and this becomes of the errors; memory may be taken
   Tells : (noting : Noting) (takes : Bool) (outcome : Outcome) → Step

@@ -1,13 +1,14 @@
 //! Commands that a mounted tracer asks of its tracer.
 //!
 //! A file is read and written by its address; a path is made only to note a refusal. The folders and files have to be those that the commands done give: a
-//! command that may change them is first noted in the scene, which takes memory, and the note is taken back if the command is refused.
+//! command that may add to them is first noted in the scene, which takes memory, and the note is taken back if the command is refused; one that removes
+//! an instance takes none, and the scene follows it.
 
 ghost use Rattle.std.specs.Prelude.{◌≡◌, ◌∷◌, ◌++◌, [], Bool, false, true, IfOk, None, OnErr, OnOk, List, Some};
 ghost use Rattle.std.specs.Result.{result_ok};
 ghost use Rattle.trace_format.specs.Reading.{definition_of};
 ghost use Rattle.trace_command.specs.Requests.{MakeInstance, RemoveInstance, Request, request_of};
-ghost use Rattle.tracer_specification.specs.Settings.{declares, made, now_of, removed};
+ghost use Rattle.tracer_specification.specs.Settings.{declares, made, now_of, removed, ticks};
 ghost use Rattle.error_log.specs.Errors.{begun};
 ghost use Rattle.mount_tree.specs.Children.{is_there};
 ghost use Rattle.mount_tree.specs.NodePaths.{path_of};
@@ -24,7 +25,7 @@ use crate::noting::note_answer;
 use fuse_wire::Errno;
 use mount_tree::{File, Node, Owner};
 use std::alloc::{AllocError, Global};
-use trace_command::{Command, Refusal, Reply};
+use trace_command::{OwnedCommand, Refusal, Reply};
 use trace_format::EventDef;
 use trace_lex::Text;
 use trace_script::declared;
@@ -39,12 +40,16 @@ impl Mount {
         Ok(Text::from(path))
     }
 
-    /// Asks a command that leaves the folders and files as they are.
-    pub(crate) fn ask(&mut self, command: &Command) -> Result<Reply, Refusal>
-        requires { IsQuiet (request_of command.now) }
+    /// Asks an emission.
+    pub(crate) fn ask_emission(&mut self, command: &OwnedCommand) -> Result<Reply, Refusal>
+        requires quiet { IsQuiet (request_of command.now) }
+        requires emits { ticks (request_of command.now) ≡ 1 }
         ensures { AsksBy self.old self.new (request_of command.now) result }
     {
-        self.live.ask(command)
+        let Ok(lent) = command.lend_pairs(self.alloc) else {
+            return Err(Refusal::Memory);
+        };
+        self.live.ask(&command.lent(lent.as_slice()))
     }
 
     /// Reads a file that is there; of a pipe at most so many records.

@@ -7,7 +7,7 @@ ghost use Rattle.std.specs.Str.{bytes_eq};
 ghost use Rattle.trace_format.specs.Definitions.{Definition};
 ghost use Rattle.trace_format.specs.declared.pair.Pair.{Pair as PairSeen};
 ghost use Rattle.trace_command.specs.Requests.{Request, request_of};
-ghost use Rattle.tracer_specification.specs.Settings.{declared_events};
+ghost use Rattle.tracer_specification.specs.Settings.{declared_events, ticks};
 ghost use Rattle.mount_tree.specs.Children.{is_there};
 ghost use Rattle.mount_tree.specs.declared.node.Node.TheVariants as nodes;
 ghost use Rattle.mount_replies.specs.FileWrites as writes;
@@ -28,7 +28,7 @@ use crate::writing::Target;
 use fuse_wire::{Errno, Reply};
 use mount_tree::{File, Node, Owner};
 use std::alloc::{AllocError, Global};
-use trace_command::{Command, Pairs, Refusal};
+use trace_command::{OwnedCommand, Pairs, Refusal};
 use trace_format::{EventDef, Field, Pair};
 use trace_lex::Text;
 use trace_script::{Line, LineError, prepare};
@@ -38,7 +38,7 @@ fn pairs_asked(line: Line) -> Option<Pairs>
     ensures { result ≡ asked_pairs (Ok line) }
 {
     match line {
-        Line::Ask(Command::Emit { pairs, .. }) => Some(pairs),
+        Line::Ask(OwnedCommand::Emit { pairs, .. }) => Some(pairs),
         _ => None,
     }
 }
@@ -115,17 +115,18 @@ fn emission(
     cpu: u32,
     pid: i32,
     line: &[u8],
-) -> Result<Option<Command>, AllocError>
+) -> Result<Option<OwnedCommand>, AllocError>
     ensures asked { (process : ℕ) → pid ≡ pos process
         → IfOk result (λ command. option_map request_of command ≡ option_map (injection cpu event.now process) (pairs_of line.now)) }
     ensures quiet { IfOk result (λ command. IfSome command (λ c. IsQuiet (request_of c))) }
+    ensures emits { IfOk result (λ command. IfSome command (λ c. ticks (request_of c) ≡ 1)) }
 {
     let Some(mut pairs) = pairs_of_line(alloc, line)? else {
         return Ok(None);
     };
     push_left_out(alloc, &mut pairs, event.fields())?;
     let event = Text::from_slice(alloc, event.name())?;
-    Ok(Some(Command::Emit {
+    Ok(Some(OwnedCommand::Emit {
         event,
         cpu,
         pid,
@@ -173,7 +174,7 @@ impl Mount {
             return Err(LineFault::NoCommand);
         }
         match emission(self.alloc, own, pid % cpus, (pid % (1 << 31)) as i32, line) {
-            Ok(Some(command)) => match self.ask(&command) {
+            Ok(Some(command)) => match self.ask_emission(&command) {
                 Ok(_) => Ok(()),
                 Err(refusal) => Err(LineFault::Refused(refusal)),
             },

@@ -15,7 +15,7 @@ use std::sync::Wait;
 use std::thread::Threads;
 use ticket_lock::{Pass, TicketLock};
 use trace_book::Book;
-use trace_command::{Command, Config, Refusal, Reply};
+use trace_command::{Config, OwnedCommand, Refusal, Reply};
 use trace_workers::{BlockFault, Gate, Part, run_block};
 
 // Whether none of these replies is `Worn`.
@@ -82,7 +82,7 @@ pub fn history_of<R: Threads + Wait + Sync, G: Gate + Sync>(
     rt: &R,
     alloc: Global,
     config: Config,
-    parts: Vec<Vec<Command>>,
+    parts: Vec<Vec<OwnedCommand>>,
     gate: &G,
 ) -> Result<(Book, Vec<Part>), BlockFault>
     requires range { IsInRange config }

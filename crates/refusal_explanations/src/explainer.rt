@@ -15,7 +15,7 @@ use crate::row::row_fault;
 use crate::subject::{command_of, command_subject, path_of, written_in};
 use crate::wording::refusal_words;
 use std::alloc::{AllocError, Global};
-use trace_command::{Command, Refusal};
+use trace_command::{OwnedCommand, Refusal};
 use trace_format::EventDef;
 use trace_script::{Change, Outcome, ScriptFault, change_of};
 
@@ -32,7 +32,7 @@ pub struct Explainer {
 fn command_words(
     alloc: Global,
     events: &[EventDef],
-    command: &Command,
+    command: &OwnedCommand,
     refusal: &Refusal,
 ) -> Result<Vec<u8>, AllocError> {
     if let Refusal::BadRow { field } = refusal {
@@ -90,7 +90,7 @@ impl Explainer {
     fn told_of_command(
         &self,
         line: ScriptLine<'_>,
-        command: &Command,
+        command: &OwnedCommand,
         refusal: &Refusal,
     ) -> Result<Vec<u8>, AllocError>
         ensures { IfOk result (λ text. IsExplained line.entry.script.now line.entry.number line.entry.text.now (named_offset refusal.now)

@@ -11,7 +11,7 @@ use crate::subject::{
 use crate::trigger_due::mark_len;
 use crate::wording::filter_due_at;
 use std::alloc::{AllocError, Global};
-use trace_command::{Command, Refusal};
+use trace_command::{OwnedCommand, Refusal};
 use trace_format::EventDef;
 use trace_lex::{is_name_byte, len_before, trim, trim_end};
 use trace_script::ScriptFault;
@@ -135,7 +135,7 @@ fn operand_meant<'a>(events: &'a [EventDef], event: &[u8], rest: &[u8]) -> &'a [
 pub(crate) fn command_meant(
     alloc: Global,
     events: &[EventDef],
-    command: &Command,
+    command: &OwnedCommand,
     refusal: &Refusal,
 ) -> Result<Vec<u8>, AllocError> {
     let subject = command_subject(command);

@@ -12,7 +12,7 @@ use crate::row::row_fault;
 use crate::subject::{Subject, written_subject};
 use crate::trigger_due::trigger_offset;
 use std::alloc::{AllocError, Global};
-use trace_command::{Command, Refusal};
+use trace_command::{OwnedCommand, Refusal};
 use trace_format::EventDef;
 use trace_lex::blanks_len;
 
@@ -64,7 +64,7 @@ pub fn write_offset(path: &[u8], text: &[u8], refusal: &Refusal) -> usize
 /// Where the word of a line begins that is to blame, if one is: of a row the pair, or else the event; of other commands the path, which comes last.
 fn blamed_word(
     events: &[EventDef],
-    command: &Command,
+    command: &OwnedCommand,
     refusal: &Refusal,
     starts: &[usize],
 ) -> Option<usize> {
@@ -74,8 +74,8 @@ fn blamed_word(
             Some(index) => index.saturating_add(4),
             None => 3,
         },
-        (Command::Emit { .. }, Refusal::NoSuchCpu) => 1,
-        (Command::Emit { .. }, _) => 3,
+        (OwnedCommand::Emit { .. }, Refusal::NoSuchCpu) => 1,
+        (OwnedCommand::Emit { .. }, _) => 3,
         _ => return starts.last().copied(),
     };
     starts.get(index).copied()
@@ -86,10 +86,10 @@ fn other_place(
     alloc: Global,
     events: &[EventDef],
     line: &[u8],
-    command: &Command,
+    command: &OwnedCommand,
     refusal: &Refusal,
 ) -> Result<Option<usize>, AllocError> {
-    if let Command::Write { path, text, .. } = command {
+    if let OwnedCommand::Write { path, text, .. } = command {
         let subject = written_subject(path.as_bytes());
         if let Some(at) = other_offset(subject, text.as_bytes(), refusal) {
             return written_offset(alloc, line, at);
@@ -104,7 +104,7 @@ pub(crate) fn refusal_offset(
     alloc: Global,
     events: &[EventDef],
     line: &[u8],
-    command: &Command,
+    command: &OwnedCommand,
     refusal: &Refusal,
 ) -> Result<Option<usize>, AllocError>
     ensures { IfOk result (λ caret. IsUnder line.now (places.named_offset refusal.now) caret) }

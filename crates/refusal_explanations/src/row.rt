@@ -1,7 +1,7 @@
 //! Why the pairs of an emission are no row.
 
 use crate::subject::{event_named, field_named};
-use trace_command::Command;
+use trace_command::OwnedCommand;
 use trace_format::{EventDef, Kind, Pair};
 use trace_lex::number;
 
@@ -35,10 +35,10 @@ fn value_misfit(events: &[EventDef], event: &[u8], pair: &Pair) -> Option<&'stat
 /// What is wrong with the pairs of an emission at the name at which they are refused, in words, and which pair is, if one is.
 pub(crate) fn row_fault(
     events: &[EventDef],
-    command: &Command,
+    command: &OwnedCommand,
     name: &[u8],
 ) -> (&'static str, Option<usize>) {
-    let Command::Emit { event, pairs, .. } = command else {
+    let OwnedCommand::Emit { event, pairs, .. } = command else {
         return ("", None);
     };
     let mut same = pairs

@@ -5,7 +5,7 @@ ghost use Rattle.trace_format.specs.Rows.{field_named};
 ghost use Rattle.refusal_explanations.specs.Wording as wording;
 
 use std::alloc::{AllocError, Global};
-use trace_command::{Command, EventFile, FileName, TopFile, address_of};
+use trace_command::{EventFile, FileName, OwnedCommand, TopFile, address_of};
 use trace_format::{EventDef, Field, Text};
 use trace_script::{Line, LineError, prepare};
 
@@ -54,47 +54,47 @@ pub(crate) fn written_subject(path: &[u8]) -> Subject
 }
 
 /// What a command is about.
-pub(crate) fn command_subject(command: &Command) -> Subject {
+pub(crate) fn command_subject(command: &OwnedCommand) -> Subject {
     match command {
-        Command::Emit { .. } => Subject::Emission,
-        Command::Mkdir(_) | Command::Rmdir(_) => Subject::Instance,
-        Command::Write { path, .. } => written_subject(path.as_bytes()),
-        Command::Read { .. } => Subject::Read,
+        OwnedCommand::Emit { .. } => Subject::Emission,
+        OwnedCommand::Mkdir(_) | OwnedCommand::Rmdir(_) => Subject::Instance,
+        OwnedCommand::Write { path, .. } => written_subject(path.as_bytes()),
+        OwnedCommand::Read { .. } => Subject::Read,
     }
 }
 
 /// The path that a command names.
-pub(crate) fn path_of(command: &Command) -> &[u8] {
+pub(crate) fn path_of(command: &OwnedCommand) -> &[u8] {
     match command {
-        Command::Emit { .. } => b"",
-        Command::Mkdir(path) | Command::Rmdir(path) => path.as_bytes(),
-        Command::Write { path, .. } | Command::Read { path, .. } => path.as_bytes(),
+        OwnedCommand::Emit { .. } => b"",
+        OwnedCommand::Mkdir(path) | OwnedCommand::Rmdir(path) => path.as_bytes(),
+        OwnedCommand::Write { path, .. } | OwnedCommand::Read { path, .. } => path.as_bytes(),
     }
 }
 
 /// What a command writes.
-pub(crate) fn written_in(command: &Command) -> &[u8] {
+pub(crate) fn written_in(command: &OwnedCommand) -> &[u8] {
     match command {
-        Command::Write { text, .. } => text.as_bytes(),
+        OwnedCommand::Write { text, .. } => text.as_bytes(),
         _ => b"",
     }
 }
 
 /// The name of the event that a command names; empty, if it names none.
-pub(crate) fn event_of(command: &Command) -> &[u8] {
+pub(crate) fn event_of(command: &OwnedCommand) -> &[u8] {
     match (command, address_of(path_of(command)).file) {
-        (Command::Emit { event, .. }, _) => event.as_bytes(),
+        (OwnedCommand::Emit { event, .. }, _) => event.as_bytes(),
         (_, Some(FileName::OfEvent(name, _))) => name,
         _ => b"",
     }
 }
 
 /// The command that a line asks for; of a line that asks for none, one that names no path.
-pub(crate) fn command_of(alloc: Global, line: &[u8]) -> Result<Command, AllocError> {
+pub(crate) fn command_of(alloc: Global, line: &[u8]) -> Result<OwnedCommand, AllocError> {
     match prepare(alloc, line) {
         Ok(Line::Ask(command)) => Ok(command),
         Err(LineError::Memory) => Err(AllocError),
-        _ => Ok(Command::Mkdir(Text::new(alloc))),
+        _ => Ok(OwnedCommand::Mkdir(Text::new(alloc))),
     }
 }
 

@@ -13,14 +13,14 @@ use crate::part_line::PartLine;
 use crate::script::first_line;
 use std::alloc::{AllocError, Global};
 use std::snapshot::Snapshot;
-use trace_command::Command;
+use trace_command::OwnedCommand;
 use trace_script::{Line, LineError, ScriptFault, prepare};
 
 /// A command of a part, and the number of its line. Clauses alone speak of it: no value of it is made.
 #[derive(Drop)]
 pub struct Numbered {
     pub number: usize,
-    pub command: Command,
+    pub command: OwnedCommand,
 }
 
 /// A fault, and the number of its line.

@@ -8,7 +8,7 @@ use Rattle.std.proofs.lemmas.List.Splits.{length-slice_split}
 use Rattle.std.proofs.lemmas.List.Sums.{count_by-le-length}
 use Rattle.trace_lex.specs.Decimals.{decimal_number}
 use Rattle.trace_command.specs.Requests.{request_of, FitsItsTypes}
-use Rattle.trace_command.specs.declared.command.Command.{Command}
+use Rattle.trace_command.specs.Commands.{Command}
 use Rattle.script_reader.specs.Items.{Item, Single, Threads, Faulty, first_fault, own_with, own_commands, threads_with, threads_of, is_end, part_with, part_of, before_end, begun, taken_at, item_at, items_from, items_of}
 use Rattle.script_reader.specs.ScriptLines.{lines_of}
 use Rattle.script_reader.specs.declared.part.FaultAt.{FaultAt}

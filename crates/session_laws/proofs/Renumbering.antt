@@ -5,7 +5,7 @@ use Rattle.std.proofs.lemmas.List.{reverse-append}
 use Rattle.std.proofs.lemmas.List.Elements.{All-nil, All-cons, All-head, All-tail, All-weaker}
 use Rattle.trace_command.specs.Configs.{IsInRange}
 use Rattle.trace_command.specs.Requests.{Request, request_of}
-use Rattle.trace_command.specs.declared.command.Command.{Command}
+use Rattle.trace_command.specs.Commands.{Command}
 use Rattle.trace_command.specs.declared.command.Config.{Config}
 use Rattle.trace_command.specs.declared.command.Entry.{Entry}
 use Rattle.trace_command.specs.declared.command.Reply.{Reply}

@@ -3,7 +3,7 @@ use Rattle.std.proofs.Common.{◌≡◌, ℕ, ◌+◌, ◌<◌, ◌^◌, List, l
 use Rattle.std.proofs.lemmas.List.{length-map}
 use Rattle.trace_command.specs.Configs.{IsInRange}
 use Rattle.trace_command.specs.Requests.{Request, request_of, FitsItsTypes}
-use Rattle.trace_command.specs.declared.command.Command.{Command}
+use Rattle.trace_command.specs.Commands.{Command}
 use Rattle.trace_command.specs.declared.command.Config.{Config}
 use Rattle.trace_command.specs.declared.command.Reply.{Reply}
 use Rattle.trace_command.specs.declared.refusal.Refusal.{Refusal}

@@ -14,7 +14,7 @@ use Rattle.shared_book.specs.Bases.{numbers_of}
 use Rattle.shared_book.proofs.SameBases.{numbers_of-determines}
 use Rattle.trace_command.specs.Refusals.{OrMemory, IsFoundEarly}
 use Rattle.trace_command.specs.Requests.{request_of}
-use Rattle.trace_command.specs.declared.command.Command.{Command}
+use Rattle.trace_command.specs.Commands.{Command}
 use Rattle.trace_command.specs.declared.command.Config.{Config}
 use Rattle.trace_command.specs.declared.command.Entry.{Entry}
 use Rattle.trace_command.specs.declared.command.Reply.{Reply}

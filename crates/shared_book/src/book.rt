@@ -14,7 +14,7 @@ ghost use Rattle.shared_book.specs.Bases.{numbers_of};
 
 use std::alloc::Global;
 use ticket_lock::Logged;
-use trace_command::{BorrowedEmission, Command, Config, Entry, Refusal, Reply};
+use trace_command::{Command, Config, Entry, Refusal, Reply};
 
 /// A tracer and the history of the commands done, which callers can share through a lock. What runs over one, as threads and sessions do, is proved over
 /// this trait, and so doesn't wait for the proof of a tracer.
@@ -30,7 +30,7 @@ pub trait SharedBook: Logged<Entry = Entry> + Drop + Sized {
     /// Runs a command, or refuses it. The answer is the one that the history gives. A command that is done becomes the history's next entry, under
     /// this ticket and caller's number; a refused one changes nothing. The history stays legal. If an allocation is refused, `Memory` may replace the
     /// answer, but no refusal that is found early, and none of a command that allocates late (`TakesMemoryLate`).
-    fn answer(&mut self, ticket: u64, by: u32, command: &Command) -> Result<Reply, Refusal>
+    fn answer(&mut self, ticket: u64, by: u32, command: &Command<'_>) -> Result<Reply, Refusal>
         requires { All (λ (entry : Entry). entry.ticket < ticket) (Self.entries self.old) }
         ensures reply { OrMemory result (answer_to (made_with self.old) (Self.entries self.old) command.now) }
         ensures early { IsFoundEarly (answer_to (made_with self.old) (Self.entries self.old) command.now)
@@ -39,45 +39,6 @@ pub trait SharedBook: Logged<Entry = Entry> + Drop + Sized {
             → IfErr (answer_to (made_with self.old) (Self.entries self.old) command.now) (λ r. result ≡ Err r) }
         ensures done { OnOk result (Self.entries self.new
             ≡ Self.entries self.old ++ record { ticket = ticket; by = by; command = command.now } ∷ []) }
-        ensures refused { OnErr result (Self.entries self.new ≡ Self.entries self.old) }
-        ensures config { made_with self.new ≡ made_with self.old }
-        ensures legal { IsLegal (made_with self.new) (Self.entries self.new) };
-
-    /// As `answer`, for an emission whose strings are borrowed.
-    fn answer_emission(
-        &mut self,
-        ticket: u64,
-        by: u32,
-        emission: &BorrowedEmission<'_>,
-    ) -> Result<Reply, Refusal>
-        requires { All (λ (entry : Entry). entry.ticket < ticket) (Self.entries self.old) }
-        ensures reply { OrMemory result (answer_to (made_with self.old) (Self.entries self.old) emission.now) }
-        ensures early { IsFoundEarly (answer_to (made_with self.old) (Self.entries self.old) emission.now)
-            → result ≡ answer_to (made_with self.old) (Self.entries self.old) emission.now }
-        ensures late_memory { TakesMemoryLate (request_of emission.now)
-            → IfErr (answer_to (made_with self.old) (Self.entries self.old) emission.now) (λ r. result ≡ Err r) }
-        ensures done { OnOk result (Self.entries self.new
-            ≡ Self.entries self.old ++ record { ticket = ticket; by = by; command = emission.now } ∷ []) }
-        ensures refused { OnErr result (Self.entries self.new ≡ Self.entries self.old) }
-        ensures config { made_with self.new ≡ made_with self.old }
-        ensures legal { IsLegal (made_with self.new) (Self.entries self.new) };
-
-    /// As `answer`, for a read of this path, of a pipe of at most `limit` records. The path is borrowed.
-    fn answer_read(
-        &mut self,
-        ticket: u64,
-        by: u32,
-        path: &[u8],
-        limit: Option<u64>,
-    ) -> Result<Reply, Refusal>
-        requires { All (λ (entry : Entry). entry.ticket < ticket) (Self.entries self.old) }
-        ensures reply { OrMemory result (answer_to (made_with self.old) (Self.entries self.old) (Command.Read path.now limit)) }
-        ensures early { IsFoundEarly (answer_to (made_with self.old) (Self.entries self.old) (Command.Read path.now limit))
-            → result ≡ answer_to (made_with self.old) (Self.entries self.old) (Command.Read path.now limit) }
-        ensures late_memory { TakesMemoryLate (request_of (Command.Read path.now limit))
-            → IfErr (answer_to (made_with self.old) (Self.entries self.old) (Command.Read path.now limit)) (λ r. result ≡ Err r) }
-        ensures done { OnOk result (Self.entries self.new
-            ≡ Self.entries self.old ++ record { ticket = ticket; by = by; command = Command.Read path.now limit } ∷ []) }
         ensures refused { OnErr result (Self.entries self.new ≡ Self.entries self.old) }
         ensures config { made_with self.new ≡ made_with self.old }
         ensures legal { IsLegal (made_with self.new) (Self.entries self.new) };

@@ -10,17 +10,19 @@ ghost use Rattle.trace_command.specs.declared.command.Config.{Config};
 use crate::book::SharedBook;
 use std::sync::Wait;
 use ticket_lock::{Pass, TicketLock};
-use trace_command::{BorrowedEmission, Command, Refusal, Reply};
+use trace_command::{Command, Refusal, Reply};
 
 /// Takes a turn at the lock, runs a command under the pass's first name, and returns the pass with the answer.
 ///
 /// It waits for its turn, and the answer follows from everything done before: a command that is done becomes the history's next entry, a refused one
-/// leaves none. `Worn` exactly if all tickets are drawn; then nothing was run. The lock is held only while the book answers.
+/// leaves none. `Worn` exactly if all tickets are drawn; then nothing was run. The lock is held only while the book answers. It is inlined, so that its
+/// answer is not moved.
+#[inline(always)]
 pub fn ask<B: SharedBook, R: Wait>(
     rt: &R,
     lock: &TicketLock<B>,
     pass: Pass<B>,
-    command: &Command,
+    command: &Command<'_>,
 ) -> (Pass<B>, Result<Reply, Refusal>)
     requires { IsOf lock.now pass }
     ensures of { IsOf lock.now result.0 }
@@ -35,59 +37,6 @@ pub fn ask<B: SharedBook, R: Wait>(
             let by = held.by();
             let answer = held.value().answer(ticket, by, command);
             (lock.release(held), answer)
-        }
-        Err(worn) => (worn.pass, Err(Refusal::Worn)),
-    }
-}
-
-/// As `ask`, for an emission whose strings are borrowed. It builds no command. It is inlined, so that its answer is not moved.
-#[inline(always)]
-pub fn ask_emission<B: SharedBook, R: Wait>(
-    rt: &R,
-    lock: &TicketLock<B>,
-    pass: Pass<B>,
-    emission: &BorrowedEmission<'_>,
-) -> (Pass<B>, Result<Reply, Refusal>)
-    requires { IsOf lock.now pass }
-    ensures of { IsOf lock.now result.0 }
-    ensures goes_on { GoesOn (view_of pass) (view_of result.0) }
-    ensures done { IfOk result.1 (IsDone (view_of pass) (view_of result.0) emission.now) }
-    ensures refused { IfErr result.1 (IsRefused (view_of pass) (view_of result.0) emission.now) }
-    ensures legal { (g : Config) → numbers_of g ≡ (view_of pass).base → IsLegal g (view_of pass).seen → IsLegal g (view_of result.0).seen }
-{
-    match lock.acquire(rt, pass) {
-        Ok(mut held) => {
-            let ticket = held.ticket();
-            let by = held.by();
-            let reply = held.value().answer_emission(ticket, by, emission);
-            (lock.release(held), reply)
-        }
-        Err(worn) => (worn.pass, Err(Refusal::Worn)),
-    }
-}
-
-/// As `ask`, for a read whose path is borrowed. It builds no command. It is inlined, so that its answer is not moved.
-#[inline(always)]
-pub fn ask_read<B: SharedBook, R: Wait>(
-    rt: &R,
-    lock: &TicketLock<B>,
-    pass: Pass<B>,
-    path: &[u8],
-    limit: Option<u64>,
-) -> (Pass<B>, Result<Reply, Refusal>)
-    requires { IsOf lock.now pass }
-    ensures of { IsOf lock.now result.0 }
-    ensures goes_on { GoesOn (view_of pass) (view_of result.0) }
-    ensures done { IfOk result.1 (IsDone (view_of pass) (view_of result.0) (Command.Read path.now limit)) }
-    ensures refused { IfErr result.1 (IsRefused (view_of pass) (view_of result.0) (Command.Read path.now limit)) }
-    ensures legal { (g : Config) → numbers_of g ≡ (view_of pass).base → IsLegal g (view_of pass).seen → IsLegal g (view_of result.0).seen }
-{
-    match lock.acquire(rt, pass) {
-        Ok(mut held) => {
-            let ticket = held.ticket();
-            let by = held.by();
-            let read = held.value().answer_read(ticket, by, path, limit);
-            (lock.release(held), read)
         }
         Err(worn) => (worn.pass, Err(Refusal::Worn)),
     }

@@ -6,5 +6,5 @@ mod call;
 mod joining;
 
 pub use book::SharedBook;
-pub use call::{ask, ask_emission, ask_read};
+pub use call::ask;
 pub use joining::join;

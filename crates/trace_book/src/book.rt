@@ -9,6 +9,8 @@
 //!             records    the entry counts
 //! ```
 //!
+//! An emission's entry counts before it is delivered, which can't fail.
+//!
 //! So a command that is refused leaves nothing, and one that is done leaves its entry.
 
 ghost use Rattle.std.specs.Prelude.{◌≡◌, ◌<◌, [], ◌∷◌, ◌++◌, All, is_some, IfOk, IfErr, IfSome, OnOk, OnErr, ◌≢◌};
@@ -28,11 +30,9 @@ ghost use Rattle.trace_book.specs.private.BookCalls.{IsBookCall};
 use command_log::{Entries, History};
 use std::alloc::Global;
 use std::marker::Model;
-use std::slice;
-use trace_command::{BorrowedEmission, Command, Config, Refusal, Reply, address_of};
-use trace_format::{Pair, borrowed};
+use trace_command::{Command, Config, Refusal, Reply};
 use trace_instance::Instance;
-use tracer::{Tracer, single};
+use tracer::Tracer;
 
 /// A tracer and the history of the commands done. Commands name files as in ftrace.rst and run one at a time.
 #[derive(Drop)]
@@ -74,7 +74,8 @@ impl Book {
     /// If an allocation is refused, `Memory` may replace the answer, but never `NoSuchFile`, `NotReadable`, `NotWritable`, `BadValue`, `NoSuchEvent`,
     /// `InstanceExists`, `NoSuchInstance` or `NoSuchCpu`, and never a refusal of a command that allocates late (`TakesMemoryLate`): `rmdir`, or a
     /// write of anything but a declaration, a filter that doesn't clear, a trigger with a filter, or a hist trigger.
-    pub fn ask(&mut self, ticket: u64, by: u32, command: &Command) -> Result<Reply, Refusal>
+    #[inline(always)]
+    pub fn ask(&mut self, ticket: u64, by: u32, command: &Command<'_>) -> Result<Reply, Refusal>
         requires { All (λ entry. entry.ticket < ticket) self.old.entries }
         ensures reply { OrMemory result (answer_to self.old.config self.old.entries command.now) }
         ensures early { IsFoundEarly (answer_to self.old.config self.old.entries command.now)
@@ -88,128 +89,34 @@ impl Book {
         ensures legal { IsLegal self.new.config self.new.entries }
     {
         match command {
-            Command::Emit {
-                event,
-                cpu,
-                pid,
-                pairs,
-            } => self.ask_pairs(ticket, by, event.as_bytes(), *cpu, *pid, pairs.as_slice()),
-            Command::Read { path, limit } => self.ask_read(ticket, by, path.as_bytes(), *limit),
-            _ => self.ask_other(ticket, by, command),
+            Command::Emit { .. } => self.run_emission(ticket, by, command),
+            _ => self.run_other(ticket, by, &command.again()),
         }
     }
 
-    // As `ask`, for an emission of these pairs. For a single pair no list is allocated.
-    fn ask_pairs(
-        &mut self,
-        ticket: u64,
-        by: u32,
-        event: &[u8],
-        cpu: u32,
-        pid: i32,
-        pairs: &[Pair],
-    ) -> Result<Reply, Refusal>
-        requires { All (λ entry. entry.ticket < ticket) self.old.entries }
-        ensures { IsBookCall self.old self.new
-            (record { ticket = ticket; by = by; command = Command.Emit event.now cpu pid pairs.now }) result }
-    {
-        if let Some(pair) = single(pairs) {
-            let emission = BorrowedEmission::new(event, cpu, pid, slice::from_ref(&pair));
-            return self.ask_emission(ticket, by, &emission);
-        }
-        let Ok(pairs) = borrowed(self.live.alloc(), pairs) else {
-            return Err(self.live.refusal_without_memory(cpu, event));
-        };
-        self.ask_emission(ticket, by, &BorrowedEmission::new(event, cpu, pid, &pairs))
-    }
-
-    /// As `ask`, for an emission whose strings are borrowed.
-    pub fn ask_emission(
-        &mut self,
-        ticket: u64,
-        by: u32,
-        emission: &BorrowedEmission<'_>,
-    ) -> Result<Reply, Refusal>
-        requires { All (λ entry. entry.ticket < ticket) self.old.entries }
-        ensures reply { OrMemory result (answer_to self.old.config self.old.entries emission.now) }
-        ensures early { IsFoundEarly (answer_to self.old.config self.old.entries emission.now)
-            → result ≡ answer_to self.old.config self.old.entries emission.now }
-        ensures late_memory { TakesMemoryLate (request_of emission.now)
-            → IfErr (answer_to self.old.config self.old.entries emission.now) (λ r. result ≡ Err r) }
-        ensures done { OnOk result (self.new.entries
-            ≡ self.old.entries ++ record { ticket = ticket; by = by; command = emission.now } ∷ []) }
-        ensures refused { OnErr result (self.new.entries ≡ self.old.entries) }
-        ensures config { self.new.config ≡ self.old.config }
-        ensures legal { IsLegal self.new.config self.new.entries }
-    {
-        self.run_emission(ticket, by, emission)
-    }
-
-    // As `ask_emission`, whose clauses are here in one word. It is inlined, so that an emission's parts and its answer are not moved.
+    // As `ask`, for an emission, with its clauses in one word. It is inlined, so that an emission's parts and its answer are not moved.
     #[inline(always)]
-    pub(crate) fn run_emission(
+    fn run_emission(
         &mut self,
         ticket: u64,
         by: u32,
-        emission: &BorrowedEmission<'_>,
+        command: &Command<'_>,
     ) -> Result<Reply, Refusal>
-        requires { All (λ entry. entry.ticket < ticket) self.old.entries }
-        ensures { IsBookCall self.old self.new (record { ticket = ticket; by = by; command = emission.now }) result }
+        requires rises { All (λ entry. entry.ticket < ticket) self.old.entries }
+        requires emits { ticks (request_of command.now) ≡ 1 }
+        ensures { IsBookCall self.old self.new (record { ticket = ticket; by = by; command = command.now }) result }
     {
         let limit = self.live.config().history_limit;
-        self.live.prepare_emission(limit, emission)?;
-        self.history.write_emission_ahead(ticket, by, emission)?;
-        self.live.deliver();
+        self.live.prepare_emission(limit, command)?;
+        self.history.write_ahead(ticket, by, command)?;
         self.history.append_written();
+        self.live.deliver();
         Ok(Reply::Done)
     }
 
-    /// As `ask`, for a read of this path, of a pipe of at most `limit` records. The path is borrowed.
-    pub fn ask_read(
-        &mut self,
-        ticket: u64,
-        by: u32,
-        path: &[u8],
-        limit: Option<u64>,
-    ) -> Result<Reply, Refusal>
-        requires { All (λ entry. entry.ticket < ticket) self.old.entries }
-        ensures reply { OrMemory result (answer_to self.old.config self.old.entries (Command.Read path.now limit)) }
-        ensures early { IsFoundEarly (answer_to self.old.config self.old.entries (Command.Read path.now limit))
-            → result ≡ answer_to self.old.config self.old.entries (Command.Read path.now limit) }
-        ensures late_memory { TakesMemoryLate (request_of (Command.Read path.now limit))
-            → IfErr (answer_to self.old.config self.old.entries (Command.Read path.now limit)) (λ r. result ≡ Err r) }
-        ensures done { OnOk result (self.new.entries
-            ≡ self.old.entries ++ record { ticket = ticket; by = by; command = Command.Read path.now limit } ∷ []) }
-        ensures refused { OnErr result (self.new.entries ≡ self.old.entries) }
-        ensures config { self.new.config ≡ self.old.config }
-        ensures legal { IsLegal self.new.config self.new.entries }
-    {
-        self.run_read(ticket, by, path, limit)
-    }
-
-    // As `ask_read`, whose clauses are here in one word.
-    #[inline(always)]
-    fn run_read(
-        &mut self,
-        ticket: u64,
-        by: u32,
-        path: &[u8],
-        limit: Option<u64>,
-    ) -> Result<Reply, Refusal>
-        requires { All (λ entry. entry.ticket < ticket) self.old.entries }
-        ensures { IsBookCall self.old self.new
-            (record { ticket = ticket; by = by; command = Command.Read path.now limit }) result }
-    {
-        let room = self.live.config().history_limit;
-        let prepared = self.live.prepare_read_at(room, address_of(path), limit)?;
-        self.history.write_read_ahead(ticket, by, path, limit)?;
-        let shown = self.live.carry_out(prepared)?;
-        self.history.append_written();
-        Ok(shown)
-    }
-
     // As `ask`, for a command other than an emission.
-    fn ask_other(&mut self, ticket: u64, by: u32, command: &Command) -> Result<Reply, Refusal>
+    #[inline(never)]
+    fn run_other(&mut self, ticket: u64, by: u32, command: &Command<'_>) -> Result<Reply, Refusal>
         requires rises { All (λ entry. entry.ticket < ticket) self.old.entries }
         requires other { ticks (request_of command.now) ≡ 0 }
         ensures { IsBookCall self.old self.new (record { ticket = ticket; by = by; command = command.now }) result }

@@ -10,7 +10,7 @@ ghost use Rattle.tracer_specification.specs.LateMemory.{TakesMemoryLate};
 use crate::book::Book;
 use std::alloc::Global;
 use std::marker::Model;
-use trace_command::{BorrowedEmission, Command, Config, Refusal, Reply};
+use trace_command::{Command, Config, Refusal, Reply};
 
 /// The caller's number in the history.
 const CALLER: u32 = 0;
@@ -64,7 +64,7 @@ impl Tracer {
 
     /// Runs a command with the next ticket, as [`Book::ask`] does. A refused command uses its ticket up too. `Worn` if no ticket is left, after
     /// 2^64 - 1 commands; then nothing changes.
-    pub fn ask(&mut self, command: &Command) -> Result<Reply, Refusal>
+    pub fn ask(&mut self, command: &Command<'_>) -> Result<Reply, Refusal>
         ensures worn { self.old.next ≡ 2 ^ 64 - 1 → (result ≡ Err Refusal.Worn) × (self.new ≡ self.old) }
         ensures next { self.old.next < 2 ^ 64 - 1 → self.new.next ≡ self.old.next + 1 }
         ensures reply { self.old.next < 2 ^ 64 - 1 → OrMemory result (answer_to self.old.book.config self.old.book.entries command.now) }
@@ -80,25 +80,6 @@ impl Tracer {
     {
         let ticket = self.draw()?;
         self.book.ask(ticket, CALLER, command)
-    }
-
-    /// As `ask`, for an emission whose strings are borrowed.
-    pub fn emit(&mut self, emission: &BorrowedEmission<'_>) -> Result<Reply, Refusal>
-        ensures worn { self.old.next ≡ 2 ^ 64 - 1 → (result ≡ Err Refusal.Worn) × (self.new ≡ self.old) }
-        ensures next { self.old.next < 2 ^ 64 - 1 → self.new.next ≡ self.old.next + 1 }
-        ensures reply { self.old.next < 2 ^ 64 - 1 → OrMemory result (answer_to self.old.book.config self.old.book.entries emission.now) }
-        ensures early { self.old.next < 2 ^ 64 - 1 → IsFoundEarly (answer_to self.old.book.config self.old.book.entries emission.now)
-            → result ≡ answer_to self.old.book.config self.old.book.entries emission.now }
-        ensures late_memory { self.old.next < 2 ^ 64 - 1 → TakesMemoryLate (request_of emission.now)
-            → IfErr (answer_to self.old.book.config self.old.book.entries emission.now) (λ r. result ≡ Err r) }
-        ensures done { OnOk result (self.new.book.entries
-            ≡ self.old.book.entries ++ record { ticket = self.old.next; by = 0; command = emission.now } ∷ []) }
-        ensures refused { OnErr result (self.new.book.entries ≡ self.old.book.entries) }
-        ensures config { self.new.book.config ≡ self.old.book.config }
-        ensures legal { self.old.next < 2 ^ 64 - 1 → IsLegal self.new.book.config self.new.book.entries }
-    {
-        let ticket = self.draw()?;
-        self.book.ask_emission(ticket, CALLER, emission)
     }
 
     /// The book.

@@ -1,3 +1,4 @@
+pub mod Commands
 pub mod Configs
 pub mod PairLists
 pub mod Paths

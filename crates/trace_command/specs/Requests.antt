@@ -3,8 +3,8 @@ use Rattle.std.specs.Prelude.{ℕ, ℤ, ◌<◌, ◌^◌, FitsSigned, Bool, List
 use Rattle.std.specs.Int.{w32}
 use Rattle.trace_command.specs.Paths.{File, address_of, instance_of}
 use Rattle.trace_format.specs.declared.pair.Pair.{Pair}
-use Rattle.trace_command.specs.declared.command.Command.{Command}
-use Rattle.trace_command.specs.declared.command.Command.TheVariants.{Emit, Mkdir, Rmdir, Write, Read}
+use Rattle.trace_command.specs.Commands.{Command}
+use Rattle.trace_command.specs.declared.command.CommandOf.TheVariants.{Emit, Mkdir, Rmdir, Write, Read}
 
 -- what is asked: an emission; an instance made or removed; a string written to a file of an instance, to append it or not; such a file read,
 -- with a limit or to its end. In a write or a read no name is the top instance; no file: the path names none. A path to make or remove that

@@ -1,112 +1,232 @@
 //! Commands, their replies, and the entries of a history.
 
 ghost use Rattle.std.specs.Prelude.{◌≡◌, IfOk, Some, None, true, false};
+ghost use Rattle.trace_command.specs.declared.command.CommandOf.TheVariants as commands;
+ghost use Rattle.trace_command.specs.Commands.{pairs_of};
 ghost use Rattle.trace_command.specs.Configs.{IsInRange};
 
-use crate::pairs::Pairs;
+use crate::borrowed::{BorrowedPairs, Bytes};
+use crate::pairs::{LentPairs, Pairs};
 use std::alloc::{AllocError, Global};
+use trace_format::BorrowedPair;
 use trace_lex::Text;
 
-/// What is asked of a tracer.
+/// What is asked of a tracer, with strings of the type `S` and pairs of the type `P`.
 #[derive(Clone, PartialEq, Eq, Drop)]
-pub enum Command {
+pub enum CommandOf<S, P> {
     /// An event happens on a CPU, in a process.
     Emit {
-        event: Text,
+        event: S,
         cpu: u32,
         pid: i32,
-        pairs: Pairs,
+        pairs: P,
     },
     /// Makes the instance of this path.
-    Mkdir(Text),
+    Mkdir(S),
     /// Removes the instance of this path.
-    Rmdir(Text),
+    Rmdir(S),
     /// Writes the text to a file, by `>` or, to append, by `>>`.
     Write {
-        path: Text,
+        path: S,
         append: bool,
-        text: Text,
+        text: S,
     },
     /// Reads a file; of a pipe at most `limit` records.
     Read {
-        path: Text,
+        path: S,
         limit: Option<u64>,
     },
 }
 
-impl Command {
+/// A command whose strings and pairs lie elsewhere, as in the line of a script.
+pub type Command<'a> = CommandOf<Bytes<'a>, BorrowedPairs<'a>>;
+
+/// A command with strings and pairs of its own.
+pub type OwnedCommand = CommandOf<Text, Pairs>;
+
+impl<'a> CommandOf<Bytes<'a>, BorrowedPairs<'a>> {
     /// What `echo TEXT > PATH` asks: a write that replaces.
-    pub fn write(alloc: Global, path: &[u8], text: &[u8]) -> Result<Command, AllocError>
-        ensures { IfOk result (λ command. command ≡ Command.Write path.now false text.now) }
+    pub fn write(path: &'a [u8], text: &'a [u8]) -> Command<'a>
+        ensures { result ≡ commands.Write path.now false text.now }
     {
-        Ok(Command::Write {
-            path: Text::from_slice(alloc, path)?,
+        CommandOf::Write {
+            path: Bytes::new(path),
             append: false,
-            text: Text::from_slice(alloc, text)?,
-        })
+            text: Bytes::new(text),
+        }
     }
 
     /// What `echo TEXT >> PATH` asks: a write that appends.
-    pub fn append(alloc: Global, path: &[u8], text: &[u8]) -> Result<Command, AllocError>
-        ensures { IfOk result (λ command. command ≡ Command.Write path.now true text.now) }
+    pub fn append(path: &'a [u8], text: &'a [u8]) -> Command<'a>
+        ensures { result ≡ commands.Write path.now true text.now }
     {
-        Ok(Command::Write {
-            path: Text::from_slice(alloc, path)?,
+        CommandOf::Write {
+            path: Bytes::new(path),
             append: true,
-            text: Text::from_slice(alloc, text)?,
-        })
+            text: Bytes::new(text),
+        }
     }
 
     /// What `cat PATH` asks: a read to the end.
-    pub fn read(alloc: Global, path: &[u8]) -> Result<Command, AllocError>
-        ensures { IfOk result (λ command. command ≡ Command.Read path.now None) }
+    pub fn read(path: &'a [u8]) -> Command<'a>
+        ensures { result ≡ commands.Read path.now None }
     {
-        Ok(Command::Read {
-            path: Text::from_slice(alloc, path)?,
+        CommandOf::Read {
+            path: Bytes::new(path),
             limit: None,
-        })
+        }
     }
 
     /// What `take LIMIT PATH` asks: a read of at most so many records.
-    pub fn take(alloc: Global, path: &[u8], limit: u64) -> Result<Command, AllocError>
-        ensures { IfOk result (λ command. command ≡ Command.Read path.now (Some limit)) }
+    pub fn take(path: &'a [u8], limit: u64) -> Command<'a>
+        ensures { result ≡ commands.Read path.now (Some limit) }
     {
-        Ok(Command::Read {
-            path: Text::from_slice(alloc, path)?,
+        CommandOf::Read {
+            path: Bytes::new(path),
             limit: Some(limit),
-        })
+        }
     }
 
     /// What `mkdir PATH` asks: an instance made.
-    pub fn mkdir(alloc: Global, path: &[u8]) -> Result<Command, AllocError>
-        ensures { IfOk result (λ command. command ≡ Command.Mkdir path.now) }
+    pub fn mkdir(path: &'a [u8]) -> Command<'a>
+        ensures { result ≡ commands.Mkdir path.now }
     {
-        Ok(Command::Mkdir(Text::from_slice(alloc, path)?))
+        CommandOf::Mkdir(Bytes::new(path))
     }
 
     /// What `rmdir PATH` asks: an instance removed.
-    pub fn rmdir(alloc: Global, path: &[u8]) -> Result<Command, AllocError>
-        ensures { IfOk result (λ command. command ≡ Command.Rmdir path.now) }
+    pub fn rmdir(path: &'a [u8]) -> Command<'a>
+        ensures { result ≡ commands.Rmdir path.now }
     {
-        Ok(Command::Rmdir(Text::from_slice(alloc, path)?))
+        CommandOf::Rmdir(Bytes::new(path))
     }
 
     /// An emission of the event of this name on a CPU, in a process.
-    pub fn emit(
-        alloc: Global,
-        event: &[u8],
-        cpu: u32,
-        pid: i32,
-        pairs: Pairs,
-    ) -> Result<Command, AllocError>
-        ensures { IfOk result (λ command. command ≡ Command.Emit event.now cpu pid pairs) }
+    #[inline]
+    pub fn emit(event: &'a [u8], cpu: u32, pid: i32, pairs: &'a [BorrowedPair<'a>]) -> Command<'a>
+        ensures { result ≡ commands.Emit event.now cpu pid pairs.now }
     {
-        Ok(Command::Emit {
-            event: Text::from_slice(alloc, event)?,
+        CommandOf::Emit {
+            event: Bytes::new(event),
             cpu,
             pid,
-            pairs,
-        })
+            pairs: BorrowedPairs::new(pairs),
+        }
+    }
+}
+
+impl<'a> CommandOf<Bytes<'a>, BorrowedPairs<'a>> {
+    /// The same command once more. Where this one is handed on by reference to code that is not inlined, the compiler has to put it into memory, and no
+    /// longer knows which command it is; where the other is, it does.
+    #[inline]
+    pub fn again(&self) -> Command<'a>
+        ensures { result ≡ self.now }
+    {
+        match self {
+            CommandOf::Emit {
+                event,
+                cpu,
+                pid,
+                pairs,
+            } => Command::emit(event.as_bytes(), *cpu, *pid, pairs.as_slice()),
+            CommandOf::Mkdir(path) => Command::mkdir(path.as_bytes()),
+            CommandOf::Rmdir(path) => Command::rmdir(path.as_bytes()),
+            CommandOf::Write { path, append, text } => write_of(
+                path.as_bytes(),
+                *append,
+                text.as_bytes(),
+            ),
+            CommandOf::Read { path, limit } => read_of(path.as_bytes(), *limit),
+        }
+    }
+
+    /// The same with strings and pairs of its own.
+    pub fn copied(&self, alloc: Global) -> Result<OwnedCommand, AllocError>
+        ensures { IfOk result (λ copy. copy ≡ self.now) }
+    {
+        match self {
+            CommandOf::Emit {
+                event,
+                cpu,
+                pid,
+                pairs,
+            } => Ok(CommandOf::Emit {
+                event: event.copied(alloc)?,
+                cpu: *cpu,
+                pid: *pid,
+                pairs: pairs.copied(alloc)?,
+            }),
+            CommandOf::Mkdir(path) => Ok(CommandOf::Mkdir(path.copied(alloc)?)),
+            CommandOf::Rmdir(path) => Ok(CommandOf::Rmdir(path.copied(alloc)?)),
+            CommandOf::Write { path, append, text } => Ok(CommandOf::Write {
+                path: path.copied(alloc)?,
+                append: *append,
+                text: text.copied(alloc)?,
+            }),
+            CommandOf::Read { path, limit } => Ok(CommandOf::Read {
+                path: path.copied(alloc)?,
+                limit: *limit,
+            }),
+        }
+    }
+}
+
+impl CommandOf<Text, Pairs> {
+    /// The pairs of an emission, lent, for `lent`. It fails only if memory is refused; of at most one pair none is taken.
+    pub fn lend_pairs(&self, alloc: Global) -> Result<LentPairs<'_>, AllocError>
+        ensures { IfOk result (λ lent. lent ≡ pairs_of self.now) }
+    {
+        match self {
+            CommandOf::Emit { pairs, .. } => pairs.lend(alloc),
+            _ => Ok(LentPairs::none(alloc)),
+        }
+    }
+
+    /// The same by reference; the pairs are those that it lent.
+    pub fn lent<'a>(&'a self, pairs: &'a [BorrowedPair<'a>]) -> Command<'a>
+        requires { pairs.now ≡ pairs_of self.now }
+        ensures { result ≡ self.now }
+    {
+        match self {
+            CommandOf::Emit {
+                event,
+                cpu,
+                pid,
+                ..
+            } => { Command::emit(event.as_bytes(), *cpu, *pid, pairs) }
+            CommandOf::Mkdir(path) => Command::mkdir(path.as_bytes()),
+            CommandOf::Rmdir(path) => Command::rmdir(path.as_bytes()),
+            CommandOf::Write { path, append, text } => CommandOf::Write {
+                path: Bytes::new(path.as_bytes()),
+                append: *append,
+                text: Bytes::new(text.as_bytes()),
+            },
+            CommandOf::Read { path, limit } => CommandOf::Read {
+                path: Bytes::new(path.as_bytes()),
+                limit: *limit,
+            },
+        }
+    }
+}
+
+// A write.
+fn write_of<'a>(path: &'a [u8], append: bool, text: &'a [u8]) -> Command<'a>
+    ensures { result ≡ commands.Write path.now append text.now }
+{
+    CommandOf::Write {
+        path: Bytes::new(path),
+        append,
+        text: Bytes::new(text),
+    }
+}
+
+// A read.
+fn read_of<'a>(path: &'a [u8], limit: Option<u64>) -> Command<'a>
+    ensures { result ≡ commands.Read path.now limit }
+{
+    CommandOf::Read {
+        path: Bytes::new(path),
+        limit,
     }
 }
 
@@ -122,7 +242,7 @@ pub enum Reply {
 pub struct Entry {
     pub ticket: u64,
     pub by: u32,
-    pub command: Command,
+    pub command: OwnedCommand,
 }
 
 /// What a book is made with.

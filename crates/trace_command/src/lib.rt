@@ -2,16 +2,16 @@
 #![tactic(auto)]
 
 mod address;
+mod borrowed;
 mod command;
-mod emission;
 mod file_name;
 pub mod laws;
 mod pairs;
 mod refusal;
 
 pub use address::{Address, address_of, instance_of};
-pub use command::{Command, Config, Entry, Reply};
-pub use emission::BorrowedEmission;
+pub use borrowed::{BorrowedPairs, Bytes};
+pub use command::{Command, CommandOf, Config, Entry, OwnedCommand, Reply};
 pub use file_name::{CpuFile, EventFile, FileName, TopFile};
-pub use pairs::Pairs;
+pub use pairs::{LentPairs, Pairs};
 pub use refusal::Refusal;

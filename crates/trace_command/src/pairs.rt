@@ -6,7 +6,7 @@ ghost use Rattle.trace_command.specs.PairLists.{pairs_in, IsOne};
 use std::alloc::{AllocError, Global};
 use std::marker::Model;
 use std::{mem, slice};
-use trace_format::Pair;
+use trace_format::{BorrowedPair, Pair, borrowed};
 use trace_lex::Text;
 
 /// Where pairs lie. Most emissions have one pair, which takes no block of its own.
@@ -49,6 +49,51 @@ impl From<Vec<Pair>> for Pairs {
     fn from(pairs: Vec<Pair>) -> Pairs {
         Pairs {
             list: PairList::Many(pairs),
+        }
+    }
+}
+
+// Where lent pairs lie.
+#[derive(Drop)]
+enum LentList<'a> {
+    One(BorrowedPair<'a>),
+    Many(Vec<BorrowedPair<'a>>),
+}
+
+/// Pairs whose strings are those of others.
+#[derive(Drop)]
+pub struct LentPairs<'a> {
+    list: LentList<'a>,
+}
+
+impl<'a> Model for LentPairs<'a> {
+    ghost use Rattle.std.specs.Prelude.{List};
+    ghost use Rattle.trace_format.specs.declared.pair.Pair.{Pair};
+
+    ghost Value = { List Pair };
+
+    ghost use Rattle.trace_command.specs.PairLists.{lent_in};
+
+    ghost view = { λ p. lent_in p.list };
+}
+
+impl<'a> LentPairs<'a> {
+    /// No pair.
+    pub fn none(alloc: Global) -> LentPairs<'a>
+        ensures { result ≡ [] }
+    {
+        LentPairs {
+            list: LentList::Many(Vec::new(alloc)),
+        }
+    }
+
+    /// The pairs.
+    pub fn as_slice(&self) -> &[BorrowedPair<'a>]
+        ensures { result.now ≡ self.now }
+    {
+        match &self.list {
+            LentList::One(pair) => slice::from_ref(pair),
+            LentList::Many(pairs) => pairs,
         }
     }
 }
@@ -124,6 +169,20 @@ impl Pairs {
                 pairs.push(pair)?;
                 Ok(())
             }
+        }
+    }
+
+    /// The pairs, lent. For a lone one no list is allocated.
+    pub fn lend(&self, alloc: Global) -> Result<LentPairs<'_>, AllocError>
+        ensures { IfOk result (λ lent. lent ≡ self.now) }
+    {
+        match self.as_slice() {
+            [pair] => Ok(LentPairs {
+                list: LentList::One(BorrowedPair::of(pair)),
+            }),
+            pairs => Ok(LentPairs {
+                list: LentList::Many(borrowed(alloc, pairs)?),
+            }),
         }
     }
 

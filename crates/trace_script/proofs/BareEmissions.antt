@@ -5,8 +5,8 @@ use Rattle.std.proofs.lemmas.List.{append-nil}
 use Rattle.std.specs.List.{list_all, list_any}
 use Rattle.std.specs.Option.{option_map, option_and_then}
 use Rattle.trace_format.specs.declared.pair.Pair.{Pair}
-use Rattle.trace_command.specs.declared.command.Command.{Command}
-use Rattle.trace_command.specs.declared.command.Command.TheVariants.{Emit}
+use Rattle.trace_command.specs.Commands.{Command}
+use Rattle.trace_command.specs.declared.command.CommandOf.TheVariants.{Emit}
 use Rattle.trace_script.specs.Lines.{number_up_to, process_id, pairs_of, emission_of, emission_with, is_line_byte, asked_of, spoken, line_of}
 use Rattle.trace_script.specs.Outcomes.{or_fault, ◌>>=◌}
 use Rattle.trace_script.specs.PlainEmissions.{emission_said, is_spaced, IsPlainEmission}

@@ -4,7 +4,7 @@ use Rattle.std.proofs.lemmas.Bool.Decides.{nat_tests}
 use Rattle.std.proofs.lemmas.List.{take-append-drop}
 use Rattle.std.proofs.lemmas.Slice.Eq.{bytes_eq-Decides}
 use Rattle.std.specs.Str.{bytes_eq}
-use Rattle.trace_command.specs.declared.command.Command.TheVariants.{Read}
+use Rattle.trace_command.specs.declared.command.CommandOf.TheVariants.{Read}
 use Rattle.trace_script.specs.Lines.{number_up_to, read_of, take_of, named_command, named_line, asked_of, says_nothing, spoken, line_of}
 use Rattle.trace_script.specs.Outcomes.{or_fault, ◌>>=◌}
 use Rattle.trace_script.specs.Tokens.{behind, tokens_of}

@@ -1,7 +1,7 @@
 -- Lines of a parallel part, and those of a command.
 use Rattle.std.proofs.Common.{◌≡◌, ◌≢◌, ℕ, Bool, true, false, ◌||◌, if◌then◌else◌, List, [], ◌∷◌, codes, Result, Ok, Err, refl, ap, ◌∙◌}
 use Rattle.std.specs.Str.{bytes_eq}
-use Rattle.trace_command.specs.declared.command.Command.{Command}
+use Rattle.trace_command.specs.Commands.{Command}
 use Rattle.trace_script.specs.Lines.{alone, named_command, named_line}
 use Rattle.trace_script.specs.Outcomes.{Fails, ◌>>=◌}
 use Rattle.trace_script.specs.private.Words.{is_block_word, block_line}

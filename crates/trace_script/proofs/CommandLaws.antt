@@ -10,8 +10,8 @@ use Rattle.std.specs.List.{AllByRecursion, position_or_len}
 use Rattle.std.specs.Option.{option_map, option_and_then}
 use Rattle.std.specs.Str.{bytes_eq}
 use Rattle.trace_format.specs.declared.pair.Pair.{Pair}
-use Rattle.trace_command.specs.declared.command.Command.{Command}
-use Rattle.trace_command.specs.declared.command.Command.TheVariants.{Emit, Mkdir, Rmdir, Read}
+use Rattle.trace_command.specs.Commands.{Command}
+use Rattle.trace_command.specs.declared.command.CommandOf.TheVariants.{Emit, Mkdir, Rmdir, Read}
 use Rattle.trace_script.specs.Outcomes.{or_fault, ◌>>=◌}
 use Rattle.trace_script.specs.Lines.{number_up_to, process_id, pair_of, pairs_of, emission_of, only_word, write_of, read_of, take_of, mkdir_of, rmdir_of, named_command, alone, named_line, asked_of}
 use Rattle.trace_script.specs.Commands.{pair_word, IsPair, IsEmissionOf, IsTakeOf, IsOfPath, IsCommandOf, AnEmit, AnEcho, ACat, ATake, AMkdir, ARmdir, IsAskedBy, ACommand, AParallel, AThread, AnEnd}

@@ -5,8 +5,8 @@ use Rattle.std.proofs.lemmas.Bool.Decides.{nat_tests}
 use Rattle.std.specs.List.{join_with_byte}
 use Rattle.std.specs.Option.{option_map}
 use Rattle.trace_format.specs.declared.pair.Pair.{Pair}
-use Rattle.trace_command.specs.declared.command.Command.{Command}
-use Rattle.trace_command.specs.declared.command.Command.TheVariants.{Write}
+use Rattle.trace_command.specs.Commands.{Command}
+use Rattle.trace_command.specs.declared.command.CommandOf.TheVariants.{Write}
 use Rattle.trace_script.specs.Commands.{IsWriteOf}
 use Rattle.trace_script.specs.Lines.{write_behind, write_of}
 use Rattle.trace_script.specs.declared.fault.ScriptFault.{ScriptFault}

@@ -4,12 +4,12 @@ use Rattle.std.proofs.lemmas.Bool.Decides.{nat_tests}
 use Rattle.std.specs.List.{list_all, join_with_byte}
 use Rattle.std.specs.Str.{bytes_eq}
 use Rattle.trace_format.specs.declared.pair.Pair.{Pair}
-use Rattle.trace_command.specs.declared.command.Command.{Command}
-use Rattle.trace_command.specs.declared.command.Command.TheVariants.{Emit, Mkdir, Rmdir, Write, Read}
+use Rattle.trace_command.specs.Commands.{Command}
+use Rattle.trace_command.specs.declared.command.CommandOf.TheVariants.{Emit, Mkdir, Rmdir, Write, Read}
 use Rattle.trace_script.specs.Commands.{pair_word, IsAskedBy, ACommand, AParallel, AThread, AnEnd, IsCommandOf, AnEmit, AnEcho, ACat, ATake, AMkdir, ARmdir}
 use Rattle.trace_script.specs.Faults.{Shape, Emission, Writing, Limited, OnePath, NameAlone, shape_of, IsEmissionShaped, IsWriteShaped, IsShaped, named_shape, AreWrong, Unnamed, Misshaped, Misnumbered, HasFault, TooLong, WrongByte, OpenQuote, WrongTokens}
 use Rattle.trace_script.specs.Grammar.{IsWritten}
-use Rattle.trace_script.specs.Lines.{number_up_to, process_id, pairs_of, emission_of, only_word, write_behind, write_of, read_of, take_of, mkdir_of, rmdir_of, named_command, alone, named_line, asked_of, is_line_byte, says_nothing, spoken, line_of}
+use Rattle.trace_script.specs.Lines.{number_up_to, process_id, pairs_of, emission_of, only_word, redirected_to, write_behind, write_of, read_of, take_of, mkdir_of, rmdir_of, named_command, alone, named_line, asked_of, is_line_byte, says_nothing, spoken, line_of}
 use Rattle.trace_script.specs.Outcomes.{or_fault, ◌>>=◌}
 use Rattle.trace_script.specs.Tokens.{tokens_of}
 use Rattle.trace_script.specs.declared.fault.ScriptFault.{ScriptFault}
@@ -42,7 +42,7 @@ path_wrong of_path (Redirect append ∷ tokens) fault e = inl ((λ s. absurd (cc
 path_wrong of_path (Word path ∷ []) fault e = absurd (cc)
 path_wrong of_path (Word path ∷ token ∷ tokens) fault e = inl ((λ s. absurd (cc s.1)), fault_is {A = Command} WrongWords fault e)
 
-limit_wrong : (digits path : List ℕ) (fault : ScriptFault) (number : Option ℕ) → (or_fault BadNumber number >>= λ limit. Ok (Read path (Some limit))) ≡ Err fault → fault ≡ BadNumber
+limit_wrong : (digits path : List ℕ) (fault : ScriptFault) (number : Option ℕ) → ◌≡◌ {A = Result Command ScriptFault} (or_fault BadNumber number >>= λ limit. Ok (Read path (Some limit))) (Err fault) → fault ≡ BadNumber
 limit_wrong digits path fault None e = fault_is {A = Command} BadNumber fault e
 limit_wrong digits path fault (Some limit) e = absurd (cc)
 
@@ -56,7 +56,7 @@ take_wrong (Word digits ∷ Word path ∷ []) fault e = inr ((digits, path, refl
 take_wrong (Word digits ∷ Word path ∷ token ∷ tokens) fault e = inl ((λ s. absurd (cc s.2)), fault_is {A = Command} WrongWords fault e)
 
 -- an `echo` has no other fault than wrong words
-redirected_wrong : (append : Bool) (text : List ℕ) (tokens : List Token) (fault : ScriptFault) → (only_word tokens >>= λ path. Ok (Write path append text)) ≡ Err fault → fault ≡ WrongWords
+redirected_wrong : (append : Bool) (text : List ℕ) (tokens : List Token) (fault : ScriptFault) → redirected_to append text tokens ≡ Err fault → fault ≡ WrongWords
 redirected_wrong append text [] fault e = fault_is {A = Command} WrongWords fault e
 redirected_wrong append text (Redirect other ∷ tokens) fault e = fault_is {A = Command} WrongWords fault e
 redirected_wrong append text (Word path ∷ []) fault e = absurd (cc)

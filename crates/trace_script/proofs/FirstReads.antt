@@ -4,8 +4,8 @@ use Rattle.std.proofs.Common.{length-append}
 use Rattle.std.proofs.Math.Seq.{take-append-add}
 use Rattle.std.proofs.lemmas.List.{length-take-le}
 use Rattle.std.proofs.lemmas.List.Sums.{prefix_len-le-length}
-use Rattle.trace_command.specs.declared.command.Command.{Command}
-use Rattle.trace_command.specs.declared.command.Command.TheVariants.{Read}
+use Rattle.trace_command.specs.Commands.{Command}
+use Rattle.trace_command.specs.declared.command.CommandOf.TheVariants.{Read}
 use Rattle.trace_script.specs.Lines.{line_of}
 use Rattle.trace_script.specs.Outcomes.{◌>>=◌}
 use Rattle.trace_script.specs.PlainEmissions.{line_len, line_in}

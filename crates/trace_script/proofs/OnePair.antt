@@ -1,6 +1,6 @@
 -- An emission of one pair, whose words are given.
 use Rattle.std.proofs.Common.{◌≡◌, ℕ, List, [], ◌∷◌, Some, None, Result, Ok, Err, refl, ap, sym, ◌∙◌}
-use Rattle.trace_command.specs.declared.command.Command.{Command}
+use Rattle.trace_command.specs.Commands.{Command}
 use Rattle.trace_format.specs.declared.pair.Pair.{Pair}
 use Rattle.trace_script.specs.Lines.{pair_of, pairs_of, emission_of, emission_with}
 use Rattle.trace_script.specs.Outcomes.{Fails, or_fault, ◌>>=◌}

@@ -2,8 +2,8 @@
 use Rattle.std.specs.Prelude.{◌≡◌, ◌≢◌, ◌≤◌, ℕ, ℤ, ◌-◌, ◌^◌, Bool, true, false, List, [], ◌∷◌, ◌++◌, length, map, Some, None, codes}
 use Rattle.std.specs.List.{AllByRecursion, list_all, join_with_byte}
 use Rattle.trace_format.specs.declared.pair.Pair.{Pair}
-use Rattle.trace_command.specs.declared.command.Command.{Command}
-use Rattle.trace_command.specs.declared.command.Command.TheVariants.{Emit, Mkdir, Rmdir, Write, Read}
+use Rattle.trace_command.specs.Commands.{Command}
+use Rattle.trace_command.specs.declared.command.CommandOf.TheVariants.{Emit, Mkdir, Rmdir, Write, Read}
 use Rattle.trace_script.specs.Grammar.{IsWritten}
 use Rattle.trace_script.specs.Lines.{number_up_to, process_id, is_line_byte, says_nothing}
 use Rattle.trace_script.specs.declared.line.Line.{Line}

@@ -7,8 +7,8 @@ use Rattle.std.specs.Str.{bytes_eq}
 use Rattle.trace_lex.specs.Blanks.{is_blank}
 use Rattle.trace_lex.specs.Decimals.{decimal_number, up_to}
 use Rattle.trace_format.specs.declared.pair.Pair.{Pair}
-use Rattle.trace_command.specs.declared.command.Command.{Command}
-use Rattle.trace_command.specs.declared.command.Command.TheVariants.{Emit, Mkdir, Rmdir, Write, Read}
+use Rattle.trace_command.specs.Commands.{Command}
+use Rattle.trace_command.specs.declared.command.CommandOf.TheVariants.{Emit, Mkdir, Rmdir, Write, Read}
 use Rattle.trace_script.specs.Outcomes.{or_fault, ◌>>=◌}
 use Rattle.trace_script.specs.Tokens.{tokens_of}
 use Rattle.trace_script.specs.declared.line.Line.{Line}

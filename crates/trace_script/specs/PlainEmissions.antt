@@ -3,8 +3,8 @@ use Rattle.std.specs.Prelude.{◌≡◌, ℕ, Bool, true, false, not, ◌&&◌, 
 use Rattle.std.specs.List.{list_any, prefix_len}
 use Rattle.trace_lex.specs.Blanks.{is_blank}
 use Rattle.trace_format.specs.declared.pair.Pair.{Pair}
-use Rattle.trace_command.specs.declared.command.Command.{Command}
-use Rattle.trace_command.specs.declared.command.Command.TheVariants.{Emit}
+use Rattle.trace_command.specs.Commands.{Command}
+use Rattle.trace_command.specs.declared.command.CommandOf.TheVariants.{Emit}
 use Rattle.trace_script.specs.Lines.{line_of}
 use Rattle.trace_script.specs.Tokens.{is_quote}
 use Rattle.trace_script.specs.declared.emission.EmissionHead.{EmissionHead}

@@ -1,6 +1,6 @@
 -- Reads whose words are read where they lie in their line.
 use Rattle.std.specs.Prelude.{Result, Ok}
-use Rattle.trace_command.specs.declared.command.Command.TheVariants.{Read}
+use Rattle.trace_command.specs.declared.command.CommandOf.TheVariants.{Read}
 use Rattle.trace_script.specs.declared.fault.ScriptFault.{ScriptFault}
 use Rattle.trace_script.specs.declared.line.Line.{Line}
 use Rattle.trace_script.specs.declared.line.Line.TheVariants.{Ask}

@@ -3,7 +3,7 @@
 ghost use Rattle.std.specs.Prelude.{◌≡◌, Bool, IfOk};
 ghost use Rattle.std.specs.Result.{result_ok};
 ghost use Rattle.trace_command.specs.Requests.{request_of};
-ghost use Rattle.trace_command.specs.declared.command.Command.TheVariants as commands;
+ghost use Rattle.trace_command.specs.declared.command.CommandOf.TheVariants as commands;
 ghost use Rattle.trace_format.specs.Reading.{definition_of};
 ghost use Rattle.trace_script.specs.Changes.{change_of, change_of_request, declares};
 
@@ -11,7 +11,7 @@ use crate::fault::LineError;
 use crate::line::{Line, prepare};
 use crate::outcome::Outcome;
 use std::alloc::{AllocError, Global};
-use trace_command::{Command, FileName, address_of, instance_of};
+use trace_command::{FileName, OwnedCommand, address_of, instance_of};
 use trace_format::{DefinitionFault, EventDef};
 use trace_lex::Text;
 
@@ -48,25 +48,25 @@ fn declared_by(alloc: Global, path: &[u8], text: &[u8]) -> Result<Option<EventDe
 }
 
 /// What a command changes that was done.
-fn change_of_command(alloc: Global, command: &Command) -> Result<Option<Change>, AllocError>
+fn change_of_command(alloc: Global, command: &OwnedCommand) -> Result<Option<Change>, AllocError>
     ensures { IfOk result (λ change. change ≡ change_of_request (request_of command.now)) }
 {
     match command {
-        Command::Mkdir(path) => match instance_of(path.as_bytes()) {
+        OwnedCommand::Mkdir(path) => match instance_of(path.as_bytes()) {
             Some(name) => Ok(Some(Change::Makes(Text::from_slice(alloc, name)?))),
             None => Ok(None),
         },
-        Command::Rmdir(path) => match instance_of(path.as_bytes()) {
+        OwnedCommand::Rmdir(path) => match instance_of(path.as_bytes()) {
             Some(name) => Ok(Some(Change::Removes(Text::from_slice(alloc, name)?))),
             None => Ok(None),
         },
-        Command::Write { path, text, .. } => {
+        OwnedCommand::Write { path, text, .. } => {
             match declared_by(alloc, path.as_bytes(), text.as_bytes())? {
                 Some(event) => Ok(Some(Change::Declares(event))),
                 None => Ok(None),
             }
         }
-        Command::Emit { .. } | Command::Read { .. } => Ok(None),
+        OwnedCommand::Emit { .. } | OwnedCommand::Read { .. } => Ok(None),
     }
 }
 

@@ -3,7 +3,7 @@
 ghost use Rattle.std.specs.Prelude.{◌≡◌, List, Ok, Err, ◌==◌, ◌++◌, ◌∷◌, [], IfOk, IfErr, OnOk, MatchOption, position, if◌then◌else◌, codes};
 ghost use Rattle.std.specs.Option.{option_map};
 ghost use Rattle.std.specs.Str.{bytes_eq};
-ghost use Rattle.trace_command.specs.declared.command.Command.{Command};
+ghost use Rattle.trace_command.specs.Commands.{Command};
 ghost use Rattle.trace_format.specs.declared.pair.Pair.{Pair as PairValue};
 ghost use Rattle.trace_script.specs.declared.token.Token.{Token};
 ghost use Rattle.trace_script.specs.Outcomes.{Fails, Gives, or_fault};
@@ -16,7 +16,7 @@ use crate::fault::{LineError, ScriptFault};
 use crate::number::{cpu_number, process_id};
 use crate::tokens::{BorrowedToken, Tokens};
 use std::alloc::{AllocError, Global};
-use trace_command::{Command, Pairs};
+use trace_command::{OwnedCommand, Pairs};
 use trace_format::Pair;
 use trace_lex::{Text, decimal_number};
 
@@ -91,7 +91,7 @@ fn more_pairs(alloc: Global, first: Pair, tokens: &mut Tokens<'_>) -> Result<Pai
 /// its room.
 #[cold]
 #[inline(never)]
-fn without_command(_pairs: Pairs, error: LineError) -> Result<Command, LineError>
+fn without_command(_pairs: Pairs, error: LineError) -> Result<OwnedCommand, LineError>
     ensures { result ≡ Err error }
 {
     Err(error)
@@ -104,14 +104,14 @@ pub(crate) fn emission_with(
     pid: &[u8],
     event: &[u8],
     pairs: Pairs,
-) -> Result<Command, LineError>
+) -> Result<OwnedCommand, LineError>
     ensures { Gives (λ command. command) result (emission_with cpu.now pid.now event.now pairs) }
 {
     let (Some(cpu), Some(pid)) = (cpu_number(cpu), process_id(pid)) else {
         return without_command(pairs, LineError::Fault(ScriptFault::BadNumber));
     };
     match Text::from_slice(alloc, event) {
-        Ok(event) => Ok(Command::Emit {
+        Ok(event) => Ok(OwnedCommand::Emit {
             event,
             cpu,
             pid,
@@ -123,7 +123,7 @@ pub(crate) fn emission_with(
 
 /// `emit CPU PID EVENT FIELD=VALUE ..`
 #[tactic(auto, using(crate::proofs::TakenCommands::no_cpu, crate::proofs::TakenCommands::no_process, crate::proofs::TakenCommands::no_event, crate::proofs::TakenCommands::no_pairs, crate::proofs::TakenCommands::bad_pairs))]
-pub(crate) fn emission(alloc: Global, tokens: &mut Tokens<'_>) -> Result<Command, LineError>
+pub(crate) fn emission(alloc: Global, tokens: &mut Tokens<'_>) -> Result<OwnedCommand, LineError>
     ensures { Gives (λ command. command) result (emission_of tokens.old) }
 {
     let Some(cpu) = tokens.next_word() else {
@@ -168,16 +168,16 @@ fn redirected(
     append: bool,
     text: Text,
     tokens: &mut Tokens<'_>,
-) -> Result<Command, LineError>
+) -> Result<OwnedCommand, LineError>
     ensures { Gives (λ command. command) result (redirected_to append text tokens.old) }
 {
     let path = only_word(alloc, tokens)?;
-    Ok(Command::Write { path, append, text })
+    Ok(OwnedCommand::Write { path, append, text })
 }
 
 /// An `echo`, with `>` or `>>` before its path: what is written is the words with a space between each two.
 #[tactic(auto, unfolding(crate::specs::Lines::write_of))]
-fn write(alloc: Global, tokens: &mut Tokens<'_>) -> Result<Command, LineError>
+fn write(alloc: Global, tokens: &mut Tokens<'_>) -> Result<OwnedCommand, LineError>
     ensures { Gives (λ command. command) result (write_of tokens.old) }
 {
     let mut text = Vec::new(alloc);
@@ -196,16 +196,16 @@ fn write(alloc: Global, tokens: &mut Tokens<'_>) -> Result<Command, LineError>
 
 /// `cat PATH`
 #[tactic(auto, unfolding(crate::specs::Lines::read_of))]
-fn read(alloc: Global, tokens: &mut Tokens<'_>) -> Result<Command, LineError>
+fn read(alloc: Global, tokens: &mut Tokens<'_>) -> Result<OwnedCommand, LineError>
     ensures { Gives (λ command. command) result (read_of tokens.old) }
 {
     let path = only_word(alloc, tokens)?;
-    Ok(Command::Read { path, limit: None })
+    Ok(OwnedCommand::Read { path, limit: None })
 }
 
 /// `take N PATH`: a read of at most N records.
 #[tactic(auto, unfolding(crate::specs::Lines::take_of))]
-fn take(alloc: Global, tokens: &mut Tokens<'_>) -> Result<Command, LineError>
+fn take(alloc: Global, tokens: &mut Tokens<'_>) -> Result<OwnedCommand, LineError>
     ensures { Gives (λ command. command) result (take_of tokens.old) }
 {
     let Some(count) = tokens.next_word() else {
@@ -215,7 +215,7 @@ fn take(alloc: Global, tokens: &mut Tokens<'_>) -> Result<Command, LineError>
     let Some(limit) = decimal_number(count, u64::MAX) else {
         return Err(LineError::Fault(ScriptFault::BadNumber));
     };
-    Ok(Command::Read {
+    Ok(OwnedCommand::Read {
         path,
         limit: Some(limit),
     })
@@ -223,20 +223,20 @@ fn take(alloc: Global, tokens: &mut Tokens<'_>) -> Result<Command, LineError>
 
 /// `mkdir PATH`
 #[tactic(auto, unfolding(crate::specs::Lines::mkdir_of))]
-fn mkdir(alloc: Global, tokens: &mut Tokens<'_>) -> Result<Command, LineError>
+fn mkdir(alloc: Global, tokens: &mut Tokens<'_>) -> Result<OwnedCommand, LineError>
     ensures { Gives (λ command. command) result (mkdir_of tokens.old) }
 {
     let path = only_word(alloc, tokens)?;
-    Ok(Command::Mkdir(path))
+    Ok(OwnedCommand::Mkdir(path))
 }
 
 /// `rmdir PATH`
 #[tactic(auto, unfolding(crate::specs::Lines::rmdir_of))]
-fn rmdir(alloc: Global, tokens: &mut Tokens<'_>) -> Result<Command, LineError>
+fn rmdir(alloc: Global, tokens: &mut Tokens<'_>) -> Result<OwnedCommand, LineError>
     ensures { Gives (λ command. command) result (rmdir_of tokens.old) }
 {
     let path = only_word(alloc, tokens)?;
-    Ok(Command::Rmdir(path))
+    Ok(OwnedCommand::Rmdir(path))
 }
 
 /// Whether a name is `emit`. Most names are, and a pattern is tested without a call.
@@ -252,7 +252,7 @@ pub(crate) fn command(
     alloc: Global,
     name: &[u8],
     tokens: &mut Tokens<'_>,
-) -> Result<Command, LineError>
+) -> Result<OwnedCommand, LineError>
     ensures { Gives (λ command. command) result (named_command name.now tokens.old) }
 {
     if is_emit(name) {

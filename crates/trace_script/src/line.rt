@@ -21,7 +21,7 @@ use crate::fault::{LineError, ScriptFault};
 use crate::token::{is_quote, tokens, without_blanks};
 use crate::tokens::{BorrowedToken, Tokens};
 use std::alloc::Global;
-use trace_command::Command;
+use trace_command::OwnedCommand;
 use trace_lex::is_blank;
 
 /// The most bytes that a line may have.
@@ -33,7 +33,7 @@ pub enum Line {
     /// Nothing: the line is empty, blank or a comment.
     Blank,
     /// This command.
-    Ask(Command),
+    Ask(OwnedCommand),
     /// `parallel`: a part begins whose threads run side by side.
     Parallel,
     /// `thread`: the commands of the part's next thread begin.

@@ -4,7 +4,7 @@
 //! between each two words, and one look finds its end. Another line is left to be read by its tokens, which would give the same for these.
 
 ghost use Rattle.std.specs.Prelude.{◌≡◌, ◌+◌, ◌≤◌, ◌++◌, length, Ok, IfSome, codes};
-ghost use Rattle.trace_command.specs.declared.command.Command.TheVariants.{Read};
+ghost use Rattle.trace_command.specs.declared.command.CommandOf.TheVariants.{Read};
 ghost use Rattle.trace_script.specs.Lines.{line_of};
 ghost use Rattle.trace_script.specs.PlainEmissions.{line_len, line_in};
 ghost use Rattle.trace_script.specs.PlainReads.{read_said};

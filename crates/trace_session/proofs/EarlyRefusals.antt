@@ -3,7 +3,7 @@ use Rattle.std.proofs.Common.{◌≡◌, inl, inr, List, ◌++◌, Result, Ok, E
 use Rattle.ticket_lock.specs.Calls.{IsWorn}
 use Rattle.ticket_lock.specs.declared.views.View.{View}
 use Rattle.trace_command.specs.Refusals.{IsFoundEarly}
-use Rattle.trace_command.specs.declared.command.Command.{Command}
+use Rattle.trace_command.specs.Commands.{Command}
 use Rattle.trace_command.specs.declared.command.Config.{Config}
 use Rattle.trace_command.specs.declared.command.Entry.{Entry}
 use Rattle.trace_command.specs.declared.command.Reply.{Reply}

@@ -1,6 +1,6 @@
 -- A line of a part, read by its thread.
 use Rattle.std.proofs.Common.{◌≡◌, Result, Ok, sym, ◌∙◌}
-use Rattle.trace_command.specs.declared.command.Command.{Command}
+use Rattle.trace_command.specs.Commands.{Command}
 use Rattle.trace_script.specs.declared.fault.ScriptFault.{ScriptFault}
 use Rattle.trace_script.specs.declared.line.Line.{Line}
 use Rattle.trace_script.specs.declared.line.Line.TheVariants.{Ask}

@@ -8,7 +8,7 @@ use Rattle.ticket_lock.specs.declared.views.View.{View}
 use Rattle.tracer_specification.specs.Blocks.{Trail, IsBlock, IsUnworn, StandsIn}
 use Rattle.tracer_specification.specs.History.{IsLegal}
 use Rattle.tracer_specification.specs.Trails.{IsTrail}
-use Rattle.trace_command.specs.declared.command.Command.{Command}
+use Rattle.trace_command.specs.Commands.{Command}
 use Rattle.trace_command.specs.declared.command.Config.{Config}
 use Rattle.trace_command.specs.declared.command.Entry.{Entry}
 use Rattle.trace_command.specs.declared.command.Reply.{Reply}

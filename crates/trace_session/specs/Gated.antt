@@ -1,7 +1,7 @@
 -- What the gate of a session may have answered. `may` is that: to the thread with this index in its part, at the command with this index in its
 -- thread, at this point (`Gate::may_answer`).
 use Rattle.std.specs.Prelude.{ℕ, Bool, List, ◌∷◌, map}
-use Rattle.trace_command.specs.declared.command.Command.{Command}
+use Rattle.trace_command.specs.Commands.{Command}
 use Rattle.script_reader.specs.Items.{Item, Single, Threads, Faulty}
 use Rattle.script_reader.specs.declared.part.Numbered.{Numbered}
 use Rattle.trace_session.specs.Parts.{Given}

@@ -8,7 +8,7 @@ use Rattle.parallel_output.specs.ThreadLines.{thread_line}
 use Rattle.parallel_output.specs.ThreadTexts.{numbered_text, numbered_outcomes}
 use Rattle.parallel_output.specs.declared.outcome_at.OutcomeAt.{OutcomeAt}
 use Rattle.trace_script.specs.declared.outcome.Outcome.{Outcome}
-use Rattle.trace_command.specs.declared.command.Command.{Command}
+use Rattle.trace_command.specs.Commands.{Command}
 use Rattle.trace_session.specs.declared.part_line.AskedLine.{AskedLine}
 use Rattle.trace_workers.specs.declared.part.Part.{Part}
 

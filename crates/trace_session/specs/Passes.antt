@@ -5,7 +5,7 @@ use Rattle.ticket_lock.specs.declared.views.View.{View}
 use Rattle.shared_book.specs.Bases.{numbers_of}
 use Rattle.trace_command.specs.Refusals.{IsFoundEarly}
 use Rattle.trace_command.specs.Requests.{request_of}
-use Rattle.trace_command.specs.declared.command.Command.{Command}
+use Rattle.trace_command.specs.Commands.{Command}
 use Rattle.trace_command.specs.declared.command.Config.{Config}
 use Rattle.trace_command.specs.declared.command.Entry.{Entry}
 use Rattle.tracer_specification.specs.History.{IsLegal, answer_to}

@@ -1,7 +1,7 @@
 //! A line of a part, read when its turn comes. It is read again, since its command was not kept.
 
 ghost use Rattle.std.specs.Prelude.{◌≡◌, Ok, IfOk};
-ghost use Rattle.trace_command.specs.declared.command.Command.{Command};
+ghost use Rattle.trace_command.specs.Commands.{Command};
 ghost use Rattle.trace_script.specs.Lines.{line_of};
 ghost use Rattle.trace_script.specs.declared.line.Line.TheVariants.{Ask};
 ghost use Rattle.trace_session.specs.PartTexts.{asked_command};

@@ -1,6 +1,6 @@
 //! One item of a session: a single line or a part runs, and its output is written.
 
-ghost use Rattle.std.specs.Prelude.{◌≡◌, ◌≢◌, ◌≤◌, [], ◌∷◌, true, None, vec_len, IfOk, IsSome, OnOk, OnErr, IsErrOf};
+ghost use Rattle.std.specs.Prelude.{◌≡◌, ◌≢◌, ◌≤◌, [], ◌∷◌, true, None, Ok, vec_len, IfOk, IsSome, OnOk, OnErr, IsErrOf};
 ghost use Rattle.ticket_lock.specs.Calls.{view_of, IsOf};
 ghost use Rattle.trace_command.specs.declared.command.Config.{Config};
 ghost use Rattle.script_reader.specs.declared.item.ItemRead.TheVariants as reads;
@@ -13,6 +13,7 @@ ghost use Rattle.script_reader.specs.Sources.{HasRisen};
 ghost use Rattle.trace_script.specs.Lines.{line_of};
 ghost use Rattle.trace_script.specs.PlainEmissions.{emission_said};
 ghost use Rattle.trace_script.specs.PlainReads.{read_said};
+ghost use Rattle.trace_script.specs.declared.line.Line.TheVariants.{Ask};
 ghost use Rattle.trace_session.specs.Devices.{Passes};
 ghost use Rattle.trace_session.specs.private.StepFronts.{PassesItem, GivesItem, AppendsItem};
 ghost use Rattle.trace_session.specs.Gated.{LetsPass, Stops, commands_asked};
@@ -25,7 +26,7 @@ ghost use Rattle.trace_workers.specs.Gates.{LetsAllPass, StopsOne};
 
 use crate::device::Sink;
 use crate::environment::Environment;
-use crate::line::{ask_emission_line, ask_line, ask_read_line};
+use crate::line::{ask_command, unasked};
 use crate::part_run::run_part;
 use crate::replies::Replies;
 use crate::status::Status;
@@ -40,7 +41,7 @@ use std::alloc::Global;
 use std::sync::Wait;
 use std::thread;
 use ticket_lock::Pass;
-use trace_command::{Refusal, Reply};
+use trace_command::{Bytes, Command, OwnedCommand, Refusal, Reply};
 use trace_format::BorrowedPair;
 use trace_script::{EmissionHead, Line, Outcome, ScriptFault};
 use trace_workers::Gate;
@@ -92,7 +93,9 @@ pub(crate) fn do_emission<B: SharedBook, R: Wait, W: Sink, G>(
         (outlet (W.contents writer.new) (W.failures writer.new) (W.heard writer.new) replies.new) result.1 }
     ensures faultless { IfOk result.1 (λ status. status ≢ Status.Fault) }
 {
-    let (pass, answer) = ask_emission_line(env.rt, env.lock, pass, item.head, item.pairs);
+    let EmissionHead { event, cpu, pid } = item.head;
+    let command = Command::emit(event, cpu, pid, item.pairs);
+    let (pass, answer) = ask_command(env.rt, env.lock, pass, &command);
     if is_silent(&answer, writer) {
         return (pass, Ok(Status::Done));
     }
@@ -102,7 +105,6 @@ pub(crate) fn do_emission<B: SharedBook, R: Wait, W: Sink, G>(
 
 /// Runs a read whose words lie in its line, and writes its output. It is kept out of line, so that emissions don't take its room.
 #[inline(never)]
-#[tactic(auto, using(crate::proofs::Stepping::no_fault))]
 pub(crate) fn do_read<B: SharedBook, R: Wait, W: Sink, G>(
     env: &Environment<'_, B, R, G>,
     pass: Pass<B>,
@@ -122,14 +124,40 @@ pub(crate) fn do_read<B: SharedBook, R: Wait, W: Sink, G>(
         (outlet (W.contents writer.new) (W.failures writer.new) (W.heard writer.new) replies.new) result.1 }
     ensures faultless { IfOk result.1 (λ status. status ≢ Status.Fault) }
 {
-    let (pass, asked) = ask_read_line(env.rt, env.lock, pass, item.read);
-    match asked {
-        Ok(outcome) => (
-            pass,
-            give(env.alloc, number, item.line, &outcome, replies, writer),
-        ),
-        Err(stop) => (pass, Err(stop)),
-    }
+    let command = Command::Read {
+        path: Bytes::new(item.read.path),
+        limit: item.read.limit,
+    };
+    let (pass, answer) = ask_command(env.rt, env.lock, pass, &command);
+    let given = give_answer(env.alloc, number, item.line, answer, replies, writer);
+    (pass, given)
+}
+
+/// Runs a line that asks for a command, and writes its output.
+fn do_command<B: SharedBook, R: Wait, W: Sink, G>(
+    env: &Environment<'_, B, R, G>,
+    pass: Pass<B>,
+    line: NumberedText<'_>,
+    command: &OwnedCommand,
+    replies: &mut Replies,
+    writer: &mut W,
+) -> (Pass<B>, Result<Status, Stop>)
+    requires of { IsOf env.now.lock.now pass }
+    requires session { (g : Config) × IsSessionPass g (view_of pass) }
+    requires says { line_of line.text.now ≡ Ok (Ask command.now) }
+    ensures of { IsOf env.now.lock.now result.0 }
+    ensures session { (g : Config) → IsSessionPass g (view_of pass) → IsSessionPass g (view_of result.0) }
+    ensures run { IsLineRun W.wants_first line.entry.number line.entry.text.now
+        (λ g. IsSessionPass g (view_of pass)) (progress_of (view_of pass)) (progress_of (view_of result.0))
+        (outlet (W.contents writer.old) (W.failures writer.old) (W.heard writer.old) replies.old)
+        (outlet (W.contents writer.new) (W.failures writer.new) (W.heard writer.new) replies.new) result.1 }
+{
+    let Ok(lent) = command.lend_pairs(env.alloc) else {
+        return (pass, Err(Stop::Memory));
+    };
+    let (pass, answer) = ask_command(env.rt, env.lock, pass, &command.lent(lent.as_slice()));
+    let given = give_answer(env.alloc, line.number, line.text, answer, replies, writer);
+    (pass, given)
 }
 
 /// Runs a single line, and writes its output.
@@ -151,13 +179,15 @@ fn do_line<B: SharedBook, R: Wait, W: Sink, G>(
         (outlet (W.contents writer.old) (W.failures writer.old) (W.heard writer.old) replies.old)
         (outlet (W.contents writer.new) (W.failures writer.new) (W.heard writer.new) replies.new) result.1 }
 {
-    let (pass, asked) = ask_line(env.rt, env.lock, pass, said);
-    match asked {
-        Ok(outcome) => (
-            pass,
-            give(env.alloc, line.number, line.text, &outcome, replies, writer),
-        ),
-        Err(stop) => (pass, Err(stop)),
+    match said {
+        Ok(Line::Ask(command)) => do_command(env, pass, line, &command, replies, writer),
+        said => {
+            let outcome = unasked(said);
+            (
+                pass,
+                give(env.alloc, line.number, line.text, &outcome, replies, writer),
+            )
+        }
     }
 }
 

@@ -2,7 +2,7 @@
 use Rattle.std.proofs.Common.{◌≡◌, ◌≢◌, [], Result, IfOk, IfErr, refl, sym, subst, append-nil, arith}
 use Rattle.ticket_lock.specs.declared.views.View.{View}
 use Rattle.shared_book.specs.Asks.{GoesOn, IsDone, IsRefused, IsUndone}
-use Rattle.trace_command.specs.declared.command.Command.{Command}
+use Rattle.trace_command.specs.Commands.{Command}
 use Rattle.trace_command.specs.declared.command.Entry.{Entry}
 use Rattle.trace_command.specs.declared.command.Reply.{Reply}
 use Rattle.trace_command.specs.declared.refusal.Refusal.{Refusal}

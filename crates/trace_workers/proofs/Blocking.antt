@@ -15,7 +15,7 @@ use Rattle.trace_workers.specs.BlockRuns.{trails_of, commands_of, Begins, IsAfte
 use Rattle.trace_workers.specs.Ends.{EndAs, told_fault, reported}
 use Rattle.trace_workers.specs.Gates.{HasReply, LetsBegunPass}
 use Rattle.trace_workers.specs.PartRuns.{HasRun, begun_trail, begun_trails, AreWhole, SeesCallers}
-use Rattle.trace_command.specs.declared.command.Command.{Command}
+use Rattle.trace_command.specs.Commands.{Command}
 use Rattle.trace_command.specs.declared.command.Config.{Config}
 use Rattle.trace_command.specs.declared.command.Entry.{Entry}
 use Rattle.trace_workers.specs.declared.fault.BlockFault.{BlockFault}

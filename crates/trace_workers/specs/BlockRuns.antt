@@ -8,7 +8,7 @@ use Rattle.tracer_specification.specs.Blocks.{Trail, StandsIn, IsUnworn}
 use Rattle.shared_book.specs.Bases.{numbers_of}
 use Rattle.shared_book.specs.Asks.{IsAhead}
 use Rattle.trace_workers.specs.declared.part.Part.{Part}
-use Rattle.trace_command.specs.declared.command.Command.{Command}
+use Rattle.trace_command.specs.Commands.{Command}
 use Rattle.trace_command.specs.declared.command.Config.{Config}
 use Rattle.trace_command.specs.declared.command.Entry.{Entry}
 

@@ -1,7 +1,7 @@
 -- How the parts of a block ended, and which fault is reported of them. `may` is what the gate may answer.
 use Rattle.std.specs.Prelude.{◌≡◌, ℕ, ◌+◌, ◌<◌, ◌⊎◌, Bool, false, List, [], ◌∷◌, length, Result, Option, None, Some}
 use Rattle.tracer_specification.specs.Blocks.{Trail}
-use Rattle.trace_command.specs.declared.command.Command.{Command}
+use Rattle.trace_command.specs.Commands.{Command}
 use Rattle.trace_command.specs.declared.command.Reply.{Reply}
 use Rattle.trace_command.specs.declared.refusal.Refusal.{Refusal}
 use Rattle.trace_workers.specs.declared.fault.BlockFault.{BlockFault}

@@ -3,7 +3,7 @@
 -- That it is asked at `Asking` before the command, and at `Answered` after it, is not said by any of these.
 use Rattle.std.specs.Prelude.{ℕ, ◌+◌, ◌<◌, Bool, true, false, List, [], map, length, get_or}
 use Rattle.tracer_specification.specs.Blocks.{Trail}
-use Rattle.trace_command.specs.declared.command.Command.{Command}
+use Rattle.trace_command.specs.Commands.{Command}
 use Rattle.trace_workers.specs.declared.gate.Point.{Point}
 use Rattle.trace_workers.specs.declared.gate.Point.TheVariants.{Asking, Answered}
 

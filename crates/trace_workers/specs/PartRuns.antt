@@ -12,7 +12,7 @@ use Rattle.trace_workers.specs.declared.fault.BlockFault.TheVariants.{Memory, St
 use Rattle.trace_workers.specs.declared.gate.Point.{Point}
 use Rattle.trace_workers.specs.declared.gate.Point.TheVariants.{Asking, Answered}
 use Rattle.trace_workers.specs.declared.part.Part.{Part}
-use Rattle.trace_command.specs.declared.command.Command.{Command}
+use Rattle.trace_command.specs.Commands.{Command}
 use Rattle.trace_command.specs.declared.command.Config.{Config}
 use Rattle.trace_command.specs.declared.command.Entry.{Entry}
 use Rattle.trace_command.specs.declared.command.Reply.{Reply}

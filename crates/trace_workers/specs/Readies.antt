@@ -1,6 +1,6 @@
 -- Commands that are ready to be asked.
-use Rattle.trace_command.specs.declared.command.Command.{Command}
-use Rattle.trace_command.specs.declared.command.Command.TheVariants.{Emit}
+use Rattle.trace_command.specs.Commands.{Command}
+use Rattle.trace_command.specs.declared.command.CommandOf.TheVariants.{Emit}
 use Rattle.trace_workers.specs.declared.asked.Ready.TheVariants as readies
 use Rattle.trace_workers.specs.declared.asked.Ready.{Ready}
 

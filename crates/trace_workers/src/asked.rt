@@ -1,20 +1,20 @@
 //! What a worker asks when its turn comes: a command, or something smaller that stands for one until then.
 
 ghost use Rattle.std.specs.Prelude.{◌≡◌, IfOk};
-ghost use Rattle.trace_command.specs.declared.command.Command.{Command};
+ghost use Rattle.trace_command.specs.Commands.{Command};
 ghost use Rattle.trace_workers.specs.Readies.{command_of};
 
 use shared_book::SharedBook;
 use std::alloc::{AllocError, Global};
 use ticket_lock::Pass;
-use trace_command::Command;
+use trace_command::OwnedCommand;
 use trace_format::BorrowedPair;
 
 /// A command that a worker can ask at once.
 #[derive(Drop)]
 pub enum Ready<'a> {
     /// A command.
-    Command(Command),
+    Command(OwnedCommand),
     /// An emission whose strings lie elsewhere.
     Emission {
         event: &'a [u8],
@@ -39,7 +39,7 @@ pub trait Asked {
         ensures { IfOk result (λ ready. command_of ready ≡ command self) };
 }
 
-impl Asked for Command {
+impl Asked for OwnedCommand {
     ghost command = { λ command. command };
 
     fn read<'r, B: SharedBook>(

@@ -38,7 +38,7 @@ use std::sync::atomic::{AtomicBool, Ordering};
 use std::thread;
 use std::thread::{Scope, Threads};
 use ticket_lock::{Pass, TicketLock};
-use trace_command::Command;
+use trace_command::OwnedCommand;
 
 /// The bytes of a thread's stack. Eight parts need 4 MiB, whatever the system's settings. In a trial a part used less than a tenth of its stack.
 const STACK_BYTES: usize = 512 * 1024;
@@ -251,7 +251,7 @@ pub fn run_block<B: SharedBook + Send, R: Threads + Wait + Sync, G: Gate + Sync>
     alloc: Global,
     lock: &TicketLock<B>,
     root: Pass<B>,
-    parts: Vec<Vec<Command>>,
+    parts: Vec<Vec<OwnedCommand>>,
     gate: &G,
 ) -> (Pass<B>, Result<Vec<Part>, BlockFault>)
     requires of { IsOf lock.now root }

@@ -16,4 +16,4 @@ pub use block::{run_block, run_block_of};
 pub use fault::BlockFault;
 pub use gate::{Gate, OpenGate, Point};
 pub use part::Part;
-pub use shared_book::{ask, ask_emission, ask_read};
+pub use shared_book::ask;

@@ -4,7 +4,7 @@ ghost use Rattle.std.specs.Prelude.{◌≡◌, ◌≢◌, ◌<◌, ◌≤◌, �
 ghost use Rattle.ticket_lock.specs.Calls.{view_of, IsOf};
 ghost use Rattle.trace_workers.specs.PartRuns.{HasAsked, IsGated};
 ghost use Rattle.trace_workers.specs.declared.fault.BlockFault.TheVariants.{Stopped};
-ghost use Rattle.trace_command.specs.declared.command.Command.{Command};
+ghost use Rattle.trace_command.specs.Commands.{Command};
 ghost use Rattle.trace_command.specs.declared.command.Reply.{Reply};
 ghost use Rattle.trace_command.specs.declared.refusal.Refusal.{Refusal};
 ghost use Rattle.trace_command.specs.declared.refusal.Refusal.TheVariants.{Memory};

@@ -6,7 +6,7 @@ use crate::bars::bars_of;
 use std::alloc::{AllocError, Global};
 use std::io;
 use std::io::Write;
-use trace_command::{Command, EventFile, FileName, Reply, address_of};
+use trace_command::{EventFile, FileName, OwnedCommand, Reply, address_of};
 use trace_script::{Line, LineError, Outcome, prepare};
 use trace_session::Sink;
 
@@ -22,7 +22,7 @@ pub struct Drawn<S, E> {
 /// Whether a line reads a `hist` file.
 fn reads_hist(alloc: Global, line: &[u8]) -> Result<bool, AllocError> {
     match prepare(alloc, line) {
-        Ok(Line::Ask(Command::Read { path, .. })) => Ok(matches!(
+        Ok(Line::Ask(OwnedCommand::Read { path, .. })) => Ok(matches!(
             address_of(path.as_bytes()).file,
             Some(FileName::OfEvent(_, EventFile::Hist))
         )),

@@ -3,8 +3,8 @@
 
 ghost use Rattle.std.specs.Prelude.{◌≡◌, ◌≢◌, ◌≤◌, None, Some, false, true, [], ◌∷◌, length, min, take, drop, ◌++◌, IfSome};
 ghost use Rattle.trace_command.specs.Configs.{IsInRange};
-ghost use Rattle.trace_command.specs.declared.command.Command.{Command as CommandValue};
-ghost use Rattle.trace_command.specs.declared.command.Command.TheVariants as commands;
+ghost use Rattle.trace_command.specs.Commands.{Command as CommandValue};
+ghost use Rattle.trace_command.specs.declared.command.CommandOf.TheVariants as commands;
 ghost use Rattle.tracer.specs.Lives.{most_done};
 ghost use Rattle.library_tracer.specs.Consoles.{ComesTo, StandsFor, after_command, after_emission, after_line, after_listing, opened};
 ghost use Rattle.library_tracer.specs.Statuses.{status_of};

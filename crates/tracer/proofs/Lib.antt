@@ -1,5 +1,4 @@
 pub mod Limits
 pub mod Living
 pub mod Calls
-pub mod AddressLemmas
 pub mod BookAnswers

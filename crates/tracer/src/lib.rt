@@ -3,8 +3,6 @@
 
 mod discard;
 pub mod laws;
-mod pair;
 mod tracer;
 
-pub use pair::single;
 pub use tracer::{MOST_DONE, Tracer};

@@ -25,7 +25,7 @@ use Rattle.trace_trigger.specs.declared.trigger.TriggerText.TheVariants as texts
 use Rattle.trace_command.specs.Paths.{File, SyntheticEvents, OfInstance, OfCpu, OfEvent}
 use Rattle.trace_command.specs.Refusals.{refusal_of_catalog, refusal_of_filter, refusal_of_trigger}
 use Rattle.trace_command.specs.Requests.{Request, Emission, MakeInstance, RemoveInstance, WriteFile, ReadFile, request_of}
-use Rattle.trace_command.specs.declared.command.Command.{Command}
+use Rattle.trace_command.specs.Commands.{Command}
 use Rattle.trace_command.specs.declared.command.Config.{Config}
 use Rattle.trace_command.specs.declared.command.Entry.{Entry}
 use Rattle.trace_command.specs.declared.command.Reply.{Reply}

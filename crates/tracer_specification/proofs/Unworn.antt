@@ -1,6 +1,6 @@
 -- No history answers that all tickets are drawn, or that memory was refused.
 use Rattle.std.proofs.Common.{◌≡◌, List, Err, subst}
-use Rattle.trace_command.specs.declared.command.Command.{Command}
+use Rattle.trace_command.specs.Commands.{Command}
 use Rattle.trace_command.specs.declared.command.Config.{Config}
 use Rattle.trace_command.specs.declared.command.Entry.{Entry}
 use Rattle.trace_command.specs.declared.refusal.Refusal.TheVariants.{Memory, Worn}

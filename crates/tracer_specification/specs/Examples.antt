@@ -2,8 +2,8 @@
 use Rattle.std.specs.Prelude.{◌≡◌, ℕ, pos, true, false, is_ok, if◌then◌else◌, List, [], ◌∷◌, ◌++◌, map, flat_map, Some, None, Result, Ok, Err, codes}
 use Rattle.trace_format.specs.declared.pair.Pair.{Pair}
 use Rattle.trace_command.specs.Requests.{Request, request_of}
-use Rattle.trace_command.specs.declared.command.Command.{Command}
-use Rattle.trace_command.specs.declared.command.Command.TheVariants.{Emit, Mkdir, Rmdir, Write, Read}
+use Rattle.trace_command.specs.Commands.{Command}
+use Rattle.trace_command.specs.declared.command.CommandOf.TheVariants.{Emit, Mkdir, Rmdir, Write, Read}
 use Rattle.trace_command.specs.declared.command.Config.{Config}
 use Rattle.trace_command.specs.declared.command.Reply.{Reply}
 use Rattle.trace_command.specs.declared.command.Reply.TheVariants.{Done, Text}

@@ -1,8 +1,8 @@
 -- Scripts of hist triggers with the answers that the definitions give them, worked by hand (histogram.rst, "hist triggers"). The checker computes
 -- them.
 use Rattle.std.specs.Prelude.{ℕ, pos, List, [], ◌∷◌, ◌++◌, Err, codes}
-use Rattle.trace_command.specs.declared.command.Command.{Command}
-use Rattle.trace_command.specs.declared.command.Command.TheVariants.{Emit, Mkdir, Rmdir}
+use Rattle.trace_command.specs.Commands.{Command}
+use Rattle.trace_command.specs.declared.command.CommandOf.TheVariants.{Emit, Mkdir, Rmdir}
 use Rattle.trace_command.specs.declared.refusal.Refusal.TheVariants.{NotWritable, BadValue, NoSuchField, HistSyntax, BadSize, TriggerExists, NoSuchTrigger, TooMany}
 use Rattle.tracer_specification.specs.Examples.{Turn, ◌gives◌, echo, append, cat, take, pair, tick, done, shows, with_tick, counted}
 use Rattle.tracer_specification.specs.SnapshotExamples.{freed, trigger_file, in_instance}

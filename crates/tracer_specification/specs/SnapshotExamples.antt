@@ -1,7 +1,7 @@
 -- Scripts of snapshots and triggers with the answers that the definitions give them, worked by hand (ftrace.rst, "Snapshot"; events.rst, "Event
 -- triggers", "snapshot"). The checker computes them.
 use Rattle.std.specs.Prelude.{ℕ, List, [], ◌∷◌, ◌++◌, Err, codes}
-use Rattle.trace_command.specs.declared.command.Command.TheVariants.{Mkdir, Rmdir}
+use Rattle.trace_command.specs.declared.command.CommandOf.TheVariants.{Mkdir, Rmdir}
 use Rattle.trace_command.specs.declared.refusal.Refusal.TheVariants.{BadValue, NoSuchEvent, FilterSyntax, NoSuchField, WrongOperator, TriggerExists, NoSuchTrigger, Busy}
 use Rattle.tracer_specification.specs.Examples.{Turn, ◌gives◌, echo, append, cat, take, tick, done, shows, with_tick, traced, counted}
 

@@ -1,6 +1,6 @@
 -- Two callers who ask side by side, with all that they may be answered, worked by hand.
 use Rattle.std.specs.Prelude.{◌≡◌, ◌≢◌, ◌⊎◌, ℕ, List, [], ◌∷◌, Result, Err, codes}
-use Rattle.trace_command.specs.declared.command.Command.TheVariants.{Mkdir}
+use Rattle.trace_command.specs.declared.command.CommandOf.TheVariants.{Mkdir}
 use Rattle.trace_command.specs.declared.command.Entry.{Entry}
 use Rattle.trace_command.specs.declared.command.Reply.{Reply}
 use Rattle.trace_command.specs.declared.refusal.Refusal.{Refusal}

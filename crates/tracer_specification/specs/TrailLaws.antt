@@ -4,7 +4,7 @@ use Rattle.tracer_specification.specs.History.{answer_to, past_of}
 use Rattle.tracer_specification.specs.Trails.{IsTrail, commands_of, done_of}
 use Rattle.tracer_specification.specs.Blocks.{Trail, IsBlock, IsUnworn}
 use Rattle.tracer_specification.specs.Examples.{answers_after}
-use Rattle.trace_command.specs.declared.command.Command.{Command}
+use Rattle.trace_command.specs.Commands.{Command}
 use Rattle.trace_command.specs.declared.command.Config.{Config}
 use Rattle.trace_command.specs.declared.command.Entry.{Entry}
 use Rattle.trace_command.specs.declared.command.Reply.{Reply}

@@ -2,7 +2,7 @@
 -- It is told in two pieces: `before`, what had been done when the caller began, and `after`, what was done since, by this caller and by others.
 use Rattle.std.specs.Prelude.{◌≡◌, ◌≢◌, ℕ, ◌==◌, List, [], ◌∷◌, ◌++◌, map, filter, All, Result, Ok, Err}
 use Rattle.tracer_specification.specs.History.{answer_to}
-use Rattle.trace_command.specs.declared.command.Command.{Command}
+use Rattle.trace_command.specs.Commands.{Command}
 use Rattle.trace_command.specs.declared.command.Config.{Config}
 use Rattle.trace_command.specs.declared.command.Entry.{Entry}
 use Rattle.trace_command.specs.declared.command.Reply.{Reply}

@@ -2,8 +2,8 @@
 use Rattle.std.specs.Prelude.{◌≡◌, ℕ, Bool, true, false, IsOk, List, [], ◌∷◌, Result, Ok, Err, ⊤, codes}
 use Rattle.trace_command.specs.Paths.{address_of}
 use Rattle.trace_command.specs.Requests.{Request, request_of}
-use Rattle.trace_command.specs.declared.command.Command.{Command}
-use Rattle.trace_command.specs.declared.command.Command.TheVariants.{Mkdir}
+use Rattle.trace_command.specs.Commands.{Command}
+use Rattle.trace_command.specs.declared.command.CommandOf.TheVariants.{Mkdir}
 use Rattle.trace_command.specs.declared.command.Config.{Config}
 use Rattle.trace_command.specs.declared.refusal.Refusal.{Refusal}
 use Rattle.trace_command.specs.declared.refusal.Refusal.TheVariants.{NoSuchFile, NotReadable, BadValue, NoSuchEvent, NoSuchInstance, NoSuchCpu}

@@ -10,7 +10,7 @@ ghost use Rattle.trace_format.specs.Cells.{IsRowOf, record_size_of};
 ghost use Rattle.trace_format.specs.declared.pair.Pair.{Pair as PairSeen};
 ghost use Rattle.tracer_specification.specs.History.{answer_with_room, emission_answer};
 ghost use Rattle.tracer_specification.specs.LateMemory.{TakesMemoryLate};
-ghost use Rattle.tracer_specification.specs.Settings.{declared_events};
+ghost use Rattle.tracer_specification.specs.Settings.{declared_events, ticks};
 ghost use Rattle.tracer_state.specs.EventPlans.{IsPlanOf};
 ghost use Rattle.tracer_state.specs.private.Emissions as emissions;
 ghost use Rattle.tracer_state.specs.ValueEmissions.{emission_by};
@@ -24,7 +24,7 @@ use crate::resolve::{Found, find_likely, find_numbered};
 use crate::row::record;
 use crate::state::{Named, State};
 use std::alloc::{AllocError, Global};
-use trace_command::{BorrowedEmission, Config, Refusal};
+use trace_command::{Command, Config, Refusal};
 use trace_format::{Emission, FieldValue, Row, payload_size};
 use trace_instance::{Delivery, INSTANCES, MOST_TRIGGERS, Passed};
 
@@ -48,28 +48,37 @@ impl State {
         alloc: Global,
         delivery: &mut Delivery,
         config: &Config,
-        emission: &BorrowedEmission<'_>,
+        command: &Command<'_>,
     ) -> Result<(), Refusal>
         requires usable { IsUsable config.now self.old }
         requires in_range { IsInRange config.now }
+        requires emits { ticks (request_of command.now) ≡ 1 }
         ensures alike { IsStateAlike self.old self.new }
         ensures prepared { (past : List Request) → StandsFor config.now self.old past
-            → OnOk result (IsPreparedEmission config.now past (request_of emission.now) self.new delivery.new) }
+            → OnOk result (IsPreparedEmission config.now past (request_of command.now) self.new delivery.new) }
         ensures refused { (past : List Request) → StandsFor config.now self.old past
-            → IfErr result (λ r. IsRefusal r (answer_with_room config.now past (request_of emission.now))) }
-        ensures fits { OnOk result (requests.FitsItsTypes (request_of emission.now)) }
-        ensures memory { ¬ TakesMemoryLate (request_of emission.now) }
+            → IfErr result (λ r. IsRefusal r (answer_with_room config.now past (request_of command.now))) }
+        ensures fits { OnOk result (requests.FitsItsTypes (request_of command.now)) }
+        ensures memory { ¬ TakesMemoryLate (request_of command.now) }
     {
-        let (name, cpu, pid, pairs) = emission.parts();
-        if cpu >= config.cpus {
+        let Command::Emit {
+            event,
+            cpu,
+            pid,
+            pairs,
+        } = command
+        else {
+            unreachable!()
+        };
+        if *cpu >= config.cpus {
             return Err(Refusal::NoSuchCpu);
         }
-        let Some(found) = find_likely(&self.catalog, delivery.event, name) else {
+        let Some(found) = find_likely(&self.catalog, delivery.event, event.as_bytes()) else {
             return Err(Refusal::NoSuchEvent);
         };
-        delivery.row.rebuild(alloc, found.event, pairs)?;
-        delivery.cpu = cpu;
-        delivery.pid = pid;
+        delivery.row.rebuild(alloc, found.event, pairs.as_slice())?;
+        delivery.cpu = *cpu;
+        delivery.pid = *pid;
         let plan = &self.plans[found.index];
         prepare_row(plan, &mut self.instances, self.clock, found, delivery)?;
         Ok(())
@@ -110,23 +119,6 @@ impl State {
         let plan = &self.plans[found.index];
         prepare_row(plan, &mut self.instances, self.clock, found, delivery)?;
         Ok(())
-    }
-
-    /// The refusal of an emission that ran out of memory: a missing CPU or event is reported even so.
-    #[cold]
-    #[inline(never)]
-    #[tactic(auto, unfolding(tracer_specification::specs::History::emission_answer))]
-    pub fn refusal_without_memory(&self, config: &Config, cpu: u32, name: &[u8]) -> Refusal
-        ensures { (past : List Request) (pairs : List PairSeen) → StandsFor config.now self.now past
-            → IsRefusal result (emission_answer config.now past name.now cpu pairs) }
-    {
-        if cpu >= config.cpus {
-            return Refusal::NoSuchCpu;
-        }
-        if self.catalog.find(name).is_none() {
-            return Refusal::NoSuchEvent;
-        }
-        Refusal::Memory
     }
 }
 

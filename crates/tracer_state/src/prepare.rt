@@ -30,7 +30,7 @@ impl State {
         alloc: Global,
         config: &Config,
         number: u64,
-        command: &Command,
+        command: &Command<'_>,
     ) -> Result<Prepared, Refusal>
         requires usable { IsUsable config.now self.now }
         requires in_range { IsInRange config.now }

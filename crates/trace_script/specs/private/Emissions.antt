@@ -1,7 +1,7 @@
 -- Words for the private contracts that cut the words of an emission out of its line.
 use Rattle.std.specs.Prelude.{ℕ, List, ◌∷◌, Option, Result, Ok}
 use Rattle.std.specs.Option.{option_and_then}
-use Rattle.trace_command.specs.declared.command.Command.{Command}
+use Rattle.trace_command.specs.Commands.{Command}
 use Rattle.trace_format.specs.declared.pair.Pair.{Pair}
 use Rattle.trace_script.specs.Lines.{pairs_of, emission_of}
 use Rattle.trace_script.specs.Outcomes.{or_fault, ◌>>=◌}

@@ -1,6 +1,6 @@
 -- Words for the private contracts that cut the words of a read out of its line.
 use Rattle.std.specs.Prelude.{ℕ, List, Result}
-use Rattle.trace_command.specs.declared.command.Command.{Command}
+use Rattle.trace_command.specs.Commands.{Command}
 use Rattle.trace_script.specs.Lines.{read_of, take_of}
 use Rattle.trace_script.specs.Outcomes.{or_fault, ◌>>=◌}
 use Rattle.trace_script.specs.Tokens.{tokens_of}

@@ -1,17 +1,15 @@
 //! Whole calls: a command is done, or refused.
 
 ghost use Rattle.std.specs.Prelude.{◌≡◌, ◌≤◌, List, Some};
-ghost use Rattle.trace_command.specs.Requests.{Request, Emission, MakeInstance, RemoveInstance, request_of};
+ghost use Rattle.trace_command.specs.Requests.{Request, MakeInstance, RemoveInstance, request_of};
 ghost use Rattle.tracer_specification.specs.Settings.{declared_events, ticks};
 ghost use Rattle.tracer_state.specs.AddressedRequests.{DeclaresAtTop, read_at, write_at};
 ghost use Rattle.tracer_state.specs.ValueEmissions.{values_emission};
 ghost use Rattle.tracer.specs.Lives.{IsLive, IsCall, IsCallWithin, most_done};
 
 use super::{MOST_DONE, Tracer};
-use crate::pair::single;
-use std::slice;
-use trace_command::{Address, BorrowedEmission, Command, Refusal, Reply};
-use trace_format::{FieldValue, Pair, borrowed};
+use trace_command::{Address, Command, Refusal, Reply};
+use trace_format::FieldValue;
 use tracer_state::ValuesEmission;
 
 impl Tracer {
@@ -21,7 +19,8 @@ impl Tracer {
     /// `InstanceExists`, `NoSuchInstance` or `NoSuchCpu`, and never a refusal of a command that allocates late (`TakesMemoryLate`): `rmdir`, or a
     /// write of anything but a declaration, a filter that doesn't clear, a trigger with a filter, or a hist trigger. Of these a command that takes no
     /// memory at all (`TakesNoMemory`) has just its answer: any but a trigger that is attached, and a snapshot that needs a spare side.
-    pub fn ask(&mut self, command: &Command) -> Result<Reply, Refusal>
+    #[inline(always)]
+    pub fn ask(&mut self, command: &Command<'_>) -> Result<Reply, Refusal>
         ensures call { (past : List Request) → IsLive self.old.config past self.old
             → IsCall past self.new (request_of command.now) result }
         ensures config { self.new.config ≡ self.old.config }
@@ -30,68 +29,28 @@ impl Tracer {
     }
 
     /// As `ask`, but where `limit` commands were done, one that would be done is refused with `HistoryFull`.
-    pub fn ask_within(&mut self, limit: u64, command: &Command) -> Result<Reply, Refusal>
+    #[inline(always)]
+    pub fn ask_within(&mut self, limit: u64, command: &Command<'_>) -> Result<Reply, Refusal>
         requires { limit ≤ most_done }
         ensures call { (past : List Request) → IsLive self.old.config past self.old
             → IsCallWithin limit past self.new (request_of command.now) result }
         ensures config { self.new.config ≡ self.old.config }
     {
         match command {
-            Command::Emit {
-                event,
-                cpu,
-                pid,
-                pairs,
-            } => self.ask_pairs(limit, event.as_bytes(), *cpu, *pid, pairs.as_slice()),
+            Command::Emit { .. } => self.ask_emission(limit, command),
             _ => self.ask_other(limit, command),
         }
     }
 
-    // As `ask_within`, for an emission of these pairs. For a single pair no list is allocated.
-    fn ask_pairs(
-        &mut self,
-        limit: u64,
-        event: &[u8],
-        cpu: u32,
-        pid: i32,
-        pairs: &[Pair],
-    ) -> Result<Reply, Refusal>
-        requires { limit ≤ most_done }
+    // As `ask_within`, for an emission.
+    fn ask_emission(&mut self, limit: u64, command: &Command<'_>) -> Result<Reply, Refusal>
+        requires few { limit ≤ most_done }
+        requires emits { ticks (request_of command.now) ≡ 1 }
         ensures call { (past : List Request) → IsLive self.old.config past self.old
-            → IsCallWithin limit past self.new (Emission event.now cpu pid pairs.now) result }
+            → IsCallWithin limit past self.new (request_of command.now) result }
         ensures config { self.new.config ≡ self.old.config }
     {
-        if let Some(pair) = single(pairs) {
-            let emission = BorrowedEmission::new(event, cpu, pid, slice::from_ref(&pair));
-            return self.ask_emission_within(limit, &emission);
-        }
-        let Ok(pairs) = borrowed(self.alloc, pairs) else {
-            return Err(self.refusal_without_memory(cpu, event));
-        };
-        self.ask_emission_within(limit, &BorrowedEmission::new(event, cpu, pid, &pairs))
-    }
-
-    /// As `ask`, for an emission whose strings are borrowed.
-    pub fn ask_emission(&mut self, emission: &BorrowedEmission<'_>) -> Result<Reply, Refusal>
-        ensures call { (past : List Request) → IsLive self.old.config past self.old
-            → IsCall past self.new (request_of emission.now) result }
-        ensures config { self.new.config ≡ self.old.config }
-    {
-        self.ask_emission_within(MOST_DONE, emission)
-    }
-
-    /// As `ask_within`, for an emission whose strings are borrowed.
-    pub fn ask_emission_within(
-        &mut self,
-        limit: u64,
-        emission: &BorrowedEmission<'_>,
-    ) -> Result<Reply, Refusal>
-        requires { limit ≤ most_done }
-        ensures call { (past : List Request) → IsLive self.old.config past self.old
-            → IsCallWithin limit past self.new (request_of emission.now) result }
-        ensures config { self.new.config ≡ self.old.config }
-    {
-        self.prepare_emission(limit, emission)?;
+        self.prepare_emission(limit, command)?;
         self.deliver();
         Ok(Reply::Done)
     }
@@ -144,23 +103,7 @@ impl Tracer {
             → IsCall past self.new (read_at address.entry most) result }
         ensures config { self.new.config ≡ self.old.config }
     {
-        self.read_at_within(MOST_DONE, address, most)
-    }
-
-    /// As `ask_within`, for the same.
-    pub fn read_at_within(
-        &mut self,
-        limit: u64,
-        address: Address<'_>,
-        most: Option<u64>,
-    ) -> Result<Reply, Refusal>
-        requires few { limit ≤ most_done }
-        requires top { DeclaresAtTop address }
-        ensures call { (past : List Request) → IsLive self.old.config past self.old
-            → IsCallWithin limit past self.new (read_at address.entry most) result }
-        ensures config { self.new.config ≡ self.old.config }
-    {
-        let prepared = self.prepare_read_at(limit, address, most)?;
+        let prepared = self.prepare_read_at(MOST_DONE, address, most)?;
         self.carry_out(prepared)
     }
 
@@ -176,24 +119,7 @@ impl Tracer {
             → IsCall past self.new (write_at address.entry append text.now) result }
         ensures config { self.new.config ≡ self.old.config }
     {
-        self.write_at_within(MOST_DONE, address, append, text)
-    }
-
-    /// As `ask_within`, for the same.
-    pub fn write_at_within(
-        &mut self,
-        limit: u64,
-        address: Address<'_>,
-        append: bool,
-        text: &[u8],
-    ) -> Result<Reply, Refusal>
-        requires few { limit ≤ most_done }
-        requires top { DeclaresAtTop address }
-        ensures call { (past : List Request) → IsLive self.old.config past self.old
-            → IsCallWithin limit past self.new (write_at address.entry append text.now) result }
-        ensures config { self.new.config ≡ self.old.config }
-    {
-        let prepared = self.prepare_write_at(limit, address, append, text)?;
+        let prepared = self.prepare_write_at(MOST_DONE, address, append, text)?;
         self.carry_out(prepared)
     }
 
@@ -218,7 +144,7 @@ impl Tracer {
     }
 
     // As `ask_within`, for a command other than an emission.
-    fn ask_other(&mut self, limit: u64, command: &Command) -> Result<Reply, Refusal>
+    fn ask_other(&mut self, limit: u64, command: &Command<'_>) -> Result<Reply, Refusal>
         requires few { limit ≤ most_done }
         requires other { ticks (request_of command.now) ≡ 0 }
         ensures call { (past : List Request) → IsLive self.old.config past self.old

@@ -4,8 +4,6 @@ ghost use Rattle.std.specs.Prelude.{◌≡◌, ◌≢◌, ◌<◌, List, ◌∷�
 ghost use Rattle.trace_command.specs.Refusals.{IsRefusal};
 ghost use Rattle.trace_command.specs.Requests.{Request, MakeInstance, RemoveInstance, FitsItsTypes, request_of};
 ghost use Rattle.trace_command.specs.declared.refusal.Refusal.TheVariants as refusal;
-ghost use Rattle.trace_format.specs.declared.pair.Pair.{Pair as PairSeen};
-ghost use Rattle.tracer_specification.specs.History.{emission_answer};
 ghost use Rattle.tracer_specification.specs.LateMemory.{TakesMemoryLate};
 ghost use Rattle.tracer_specification.specs.Settings.{declared_events, ticks};
 ghost use Rattle.trace_instance.specs.MemoryTaken.{TakesNoMemory};
@@ -16,14 +14,14 @@ ghost use Rattle.tracer.specs.Lives.{IsLive, IsPreparedWithin, IsReadyFor, CanDe
 
 use super::Tracer;
 use crate::discard::let_go_change;
-use trace_command::{Address, BorrowedEmission, Command, Refusal, Reply};
+use trace_command::{Address, Command, Refusal, Reply};
 use trace_instance::WrittenText;
 use tracer_state::{Prepared, ValuesEmission};
 
 impl Tracer {
     /// Looks at a command other than an emission, and allocates what it needs: its change and its reply, or its refusal. It is refused with
     /// `HistoryFull` if it would be done, and as many commands as `limit` were. Nothing changes.
-    pub fn prepare(&self, limit: u64, command: &Command) -> Result<Prepared, Refusal>
+    pub fn prepare(&self, limit: u64, command: &Command<'_>) -> Result<Prepared, Refusal>
         requires { ticks (request_of command.now) ≡ 0 }
         ensures prepared { (past : List Request) → IsLive self.now.config past self.now
             → IsPreparedWithin limit self.now.config past (request_of command.now) self.now.state result }
@@ -157,24 +155,21 @@ impl Tracer {
     /// Looks at an emission, and allocates what it needs: what is delivered, which the tracer keeps, or its refusal, `HistoryFull` as for `prepare`.
     /// Nothing else changes but memory reserved for tables.
     #[inline(always)]
-    pub fn prepare_emission(
-        &mut self,
-        limit: u64,
-        emission: &BorrowedEmission<'_>,
-    ) -> Result<(), Refusal>
+    pub fn prepare_emission(&mut self, limit: u64, command: &Command<'_>) -> Result<(), Refusal>
+        requires { ticks (request_of command.now) ≡ 1 }
         ensures prepared { (past : List Request) → IsLive self.old.config past self.old
-            → OnOk result (IsPreparedEmission self.new.config past (request_of emission.now) self.new.state self.new.delivery) }
+            → OnOk result (IsPreparedEmission self.new.config past (request_of command.now) self.new.state self.new.delivery) }
         ensures refused { (past : List Request) → IsLive self.old.config past self.old
-            → IfErr result (λ r. IsRefusal r (limited_answer limit self.new.config past (request_of emission.now))) }
+            → IfErr result (λ r. IsRefusal r (limited_answer limit self.new.config past (request_of command.now))) }
         ensures ready { OnOk result (CanDeliver self.new) }
         ensures room { OnOk result (self.new.done < limit) }
-        ensures fits { OnOk result (FitsItsTypes (request_of emission.now)) }
-        ensures memory { ¬ TakesMemoryLate (request_of emission.now) }
+        ensures fits { OnOk result (FitsItsTypes (request_of command.now)) }
+        ensures memory { ¬ TakesMemoryLate (request_of command.now) }
         ensures lives { (past : List Request) → IsLive self.old.config past self.old → IsLive self.new.config past self.new }
         ensures config { self.new.config ≡ self.old.config }
     {
         self.state
-            .prepare_emission(self.alloc, &mut self.delivery, &self.config, emission)?;
+            .prepare_emission(self.alloc, &mut self.delivery, &self.config, command)?;
         if self.done >= limit {
             return Err(Refusal::HistoryFull);
         }
@@ -218,14 +213,5 @@ impl Tracer {
     {
         self.state.deliver(&self.config, &self.delivery);
         self.done += 1;
-    }
-
-    /// The refusal of an emission that ran out of memory: a missing CPU or event is reported even so.
-    #[cold]
-    pub fn refusal_without_memory(&self, cpu: u32, name: &[u8]) -> Refusal
-        ensures { (past : List Request) (pairs : List PairSeen) → IsLive self.now.config past self.now
-            → IsRefusal result (emission_answer self.now.config past name.now cpu pairs) }
-    {
-        self.state.refusal_without_memory(&self.config, cpu, name)
     }
 }

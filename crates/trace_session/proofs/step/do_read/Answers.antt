@@ -1,18 +1,14 @@
-use Rattle.std.proofs.Common.{Err, ap}
+use Rattle.std.proofs.Common.{◌≡◌, ◌∙◌, Ok, ap, sym}
 use Rattle.ticket_lock.specs.Calls.{view_of}
-use Rattle.trace_command.specs.declared.command.Config.{Config}
-use Rattle.trace_session.specs.Passes.{IsSessionPass, progress_of}
-use Rattle.trace_session.proofs.SingleLines.{line_run, line_stops, only_memory}
+use Rattle.trace_command.specs.declared.command.CommandOf.TheVariants.{Read}
+use Rattle.trace_script.specs.Lines.{line_of}
+use Rattle.trace_script.specs.declared.line.Line.TheVariants.{Ask}
+use Rattle.trace_session.specs.Passes.{progress_of}
 use Rattle.trace_session.proofs.step.do_read.Goals as goal
 
-pub returns-in-Ok-clause-run : goal.returns-in-Ok-clause-run
-returns-in-Ok-clause-run g c =
-    line_run g.W.Sink.wants_first c.args.number c.args.item.now.line.now (λ (config : Config). IsSessionPass config (view_of c.args.pass)) (progress_of (view_of c.args.pass))
-    (progress_of (view_of c.ask_read_line-pass.result.0)) c.in-Ok.outcome (λ config seat. (rw c.in-Ok.is at c.ask_read_line-pass.ensures.turn) config c.args.item.now.line.now seat c.requires.says)
-    _ _ c.give.result c.give.ensures
-
-pub returns-in-Err-clause-run : goal.returns-in-Err-clause-run
-returns-in-Err-clause-run g c =
-    line_stops g.W.Sink.wants_first c.args.number c.args.item.now.line.now (λ (config : Config). IsSessionPass config (view_of c.args.pass)) (progress_of (view_of c.args.pass))
-    (progress_of (view_of c.ask_read_line-pass.result.0)) _ c.in-Err.stop
-    (only_memory c.in-Err.stop (λ is. (rw c.in-Err.is at c.ask_read_line-pass.ensures.stopped) (ap Err is)) (λ is. (rw c.in-Err.is at c.ask_read_line-pass.ensures.device) (ap Err is)))
+pub returns-clause-run : goal.returns-clause-run
+returns-clause-run g c =
+    let said : line_of c.args.item.now.line.now ≡ Ok (Ask (Read c.new.result c.args.item.now.read.limit)) =
+    sym c.requires.says ∙ ap (λ path. Ok (Ask (Read path c.args.item.now.read.limit))) (sym c.new.ensures) in
+    c.give_answer-given.ensures.run (view_of c.args.pass) (progress_of (view_of c.ask_command-pass.result.0))
+    (λ outcome told config seat. c.ask_command-pass.ensures.turn outcome told config c.args.item.now.line.now seat said)

@@ -6,7 +6,7 @@ use Rattle.trace_workers.specs.BlockRuns.{commands_of}
 use Rattle.trace_workers.specs.Gates.{StopsOne}
 use Rattle.trace_workers.specs.declared.fault.BlockFault.{BlockFault}
 use Rattle.trace_workers.specs.PartRuns.{HasAsked, IsGated, begun_trail, begun_trails}
-use Rattle.trace_command.specs.declared.command.Command.{Command}
+use Rattle.trace_command.specs.Commands.{Command}
 use Rattle.trace_command.specs.declared.command.Entry.{Entry}
 use Rattle.trace_workers.specs.declared.fault.BlockFault.TheVariants.{Stopped}
 use Rattle.trace_workers.proofs.Gating.{gated_whole, pass_push, begun_pass_none, begun_pass_push, stops_before, stops_last, stopped_early, ends_as, end_push, told_push}

@@ -1,7 +1,7 @@
 use Rattle.std.proofs.Common.{◌≡◌, IfOk, IfErr, List, Option, Some, vec_len, subst}
 use Rattle.std.specs.List.{AllZip}
 use Rattle.ticket_lock.specs.Calls.{view_of}
-use Rattle.trace_command.specs.declared.command.Command.{Command}
+use Rattle.trace_command.specs.Commands.{Command}
 use Rattle.trace_workers.specs.BlockRuns.{trails_of, Begins, IsAfterBlock}
 use Rattle.trace_workers.specs.Gates.{LetsAllPass, LetsBegunPass, StopsOne}
 use Rattle.tracer_specification.specs.Blocks.{Trail}

@@ -6,7 +6,7 @@ use Rattle.trace_workers.specs.declared.fault.BlockFault.{BlockFault}
 use Rattle.trace_workers.specs.Gates.{LetsBegunPass}
 use Rattle.trace_workers.specs.BlockRuns.{commands_of}
 use Rattle.trace_workers.specs.PartRuns.{begun_trails, HasRun, AreWhole, SeesCallers}
-use Rattle.trace_command.specs.declared.command.Command.{Command}
+use Rattle.trace_command.specs.Commands.{Command}
 use Rattle.trace_workers.proofs.Blocking.{not_begun, comes, whole_begun, begun_begins}
 use Rattle.trace_workers.proofs.block.run_block_of.Goals as goal
 

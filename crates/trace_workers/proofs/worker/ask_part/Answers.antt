@@ -3,7 +3,7 @@ use Rattle.std.proofs.lemmas.List.{map-append}
 use Rattle.std.specs.Vec.Iter.{into_iter_items}
 use Rattle.ticket_lock.specs.Calls.{view_of}
 use Rattle.trace_workers.specs.PartRuns.{HasAsked, IsGated}
-use Rattle.trace_command.specs.declared.command.Command.{Command}
+use Rattle.trace_command.specs.Commands.{Command}
 use Rattle.trace_workers.proofs.Gating.{gated_none, gated_more}
 use Rattle.trace_workers.proofs.Working.{asked_none, asked_then, asked_stop}
 use Rattle.trace_workers.proofs.worker.ask_part.Goals as goal

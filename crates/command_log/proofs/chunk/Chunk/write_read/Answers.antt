@@ -1,6 +1,6 @@
 use Rattle.std.proofs.Common.{◌<◌, ◌^◌, arith, Some, None}
 use Rattle.std.proofs.lemmas.Result.{on_ok_weaker}
-use Rattle.trace_command.specs.declared.command.Command.TheVariants.{Read}
+use Rattle.trace_command.specs.declared.command.CommandOf.TheVariants.{Read}
 use Rattle.trace_command.specs.declared.command.Entry.{Entry}
 use Rattle.command_log.proofs.WrittenEntries.{entry_written}
 use Rattle.command_log.proofs.chunk.Chunk.write_read.Goals as goal

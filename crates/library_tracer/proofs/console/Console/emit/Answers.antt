@@ -9,7 +9,7 @@ returns-clause-done c =
     let pid : to_z w32 (of_z w32 c.args.pid) ≡ c.args.pid = to_z-of_z w32 c.args.pid (search rules) in
     elim c.match-lone_pair.branch [
       | in-Some w ↦
-          (let asked = rw pid at (rw w.new.ensures at w.ask_emission.ensures) in
+          (let asked = rw pid at (rw w.emit.ensures at w.ask.ensures.done) in
           rw w.self-is (lone_asked _ _ _ _ (w.in-Some.pair ∷ []) _ _ w.in-Some.ensures (rw w.from_ref-pairs.ensures.value at asked)))
       | in-None w ↦ rw w.self-is (rw pid at w.ask_pairs.ensures)
     ]

@@ -23,7 +23,7 @@ returns-in-Ok c =
     ap (λ (g : Config). g.cpus) c.config.ensures ∙ ap (λ (m : MountSeen). m.live.config.cpus) c.self.view_is in
     λ past own mounted is.
     let led = subst (λ (m : MountSeen). HasLedTo past m) (sym c.self.view_is) mounted in
-    event-done past c.args.self.now c.ask.new.self (request_of c.in-Ok-Some.command)
+    event-done past c.args.self.now c.ask_emission.new.self (request_of c.in-Ok-Some.command)
     (asked_by_line c.args.self.now.live.config.cpus c.args.pid own c.args.line.now) c.in-Ok.field-0 (c.in-Ok.ensures past mounted) quiet
     (event-asks c.config.result.now.cpus c.args.self.now.live.config.cpus c.args.pid c.in-Some.own.now own c.args.line.now (request_of c.in-Ok-Some.command)
     (sym c.is_blank.ensures ∙ c.if-is_blank.false) cpus_are (same-event c.in-Some.own.now own _ (there past led.lives) is) asked)
@@ -37,8 +37,8 @@ returns-in-Ok-Some c =
     ap (λ (g : Config). g.cpus) c.config.ensures ∙ ap (λ (m : MountSeen). m.live.config.cpus) c.self.view_is in
     λ past own mounted is.
     let led = subst (λ (m : MountSeen). HasLedTo past m) (sym c.self.view_is) mounted in
-    event-refused past c.args.self.now c.ask.new.self (request_of c.in-Ok-Some.command)
-    (asked_by_line c.args.self.now.live.config.cpus c.args.pid own c.args.line.now) c.in-Err-ask.refusal (c.in-Err-ask.ensures past mounted)
+    event-refused past c.args.self.now c.ask_emission.new.self (request_of c.in-Ok-Some.command)
+    (asked_by_line c.args.self.now.live.config.cpus c.args.pid own c.args.line.now) c.in-Err-ask_emission.refusal (c.in-Err-ask_emission.ensures past mounted)
     (event-asks c.config.result.now.cpus c.args.self.now.live.config.cpus c.args.pid c.in-Some.own.now own c.args.line.now (request_of c.in-Ok-Some.command)
     (sym c.is_blank.ensures ∙ c.if-is_blank.false) cpus_are (same-event c.in-Some.own.now own _ (there past led.lives) is) asked)
 

@@ -57,7 +57,7 @@ pub returns-clause-ready : goal.returns-clause-ready
 returns-clause-ready c =
     record {
       past = c.self.invariant.past;
-      request = request_of c.args.emission.now;
+      request = request_of c.args.command.now;
       lives = live-alike _ _ (seen c.self.inside) _ c.self.invariant.lives refl c.prepare_emission.ensures.alike;
       is = c.in_ok-prepare_emission.ensures.prepared c.self.invariant.past c.self.invariant.lives.stands;
     }
