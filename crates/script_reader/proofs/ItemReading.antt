@@ -1,15 +1,12 @@
 -- The items of a script, read one after the other.
 use Rattle.std.proofs.Common.{◌≡◌, ℕ, suc, ◌+◌, ◌-◌, ◌||◌, Bool, true, false, if◌then◌else◌, List, [], ◌∷◌, drop, length, Result, Ok, Err, refl, ap, sym, subst, ◌∙◌, arith}
 use Rattle.std.specs.List.{list_any, slice_get}
-use Rattle.trace_format.specs.declared.pair.Pair.{Pair}
+use Rattle.trace_command.specs.Commands.{Command}
 use Rattle.trace_script.specs.Lines.{line_of}
-use Rattle.trace_script.specs.PlainEmissions.{emission_said, line_in, IsPlainEmission}
-use Rattle.trace_script.specs.PlainReads.{read_said}
-use Rattle.trace_script.specs.declared.emission.EmissionHead.{EmissionHead}
+use Rattle.trace_script.specs.PlainEmissions.{line_in, IsPlainEmission}
 use Rattle.trace_script.specs.declared.fault.ScriptFault.{ScriptFault}
 use Rattle.trace_script.specs.declared.line.Line.{Line}
 use Rattle.trace_script.specs.declared.line.Line.TheVariants.{Blank, Ask, Parallel, Thread, End}
-use Rattle.trace_script.specs.declared.read.PlainRead.{PlainRead}
 use Rattle.script_reader.specs.Items.{Item, Single, is_end, part_of, before_end, after_end, Taken, begun, taken_at, item_at, items_from}
 use Rattle.script_reader.specs.NextItems.{begins_with}
 use Rattle.script_reader.specs.PartReads.{IsPartRead, IsLineAt, HasItsLine}
@@ -129,15 +126,10 @@ part_left number line all lines item count rest is part =
     sym part.3 ∙ left_after_end lines part.0 ∙ ap (λ (n : ℕ). drop (suc n) lines) part.2
     ∙ (ap (drop (suc (suc count))) (sym is) ∙ ap (λ (n : ℕ). drop n all) (sym many))
 
--- an emission, which begins no part
-pub emission_next : (number : ℕ) (line : List ℕ) (all lines : List (List ℕ)) (head : EmissionHead) (pairs : List Pair) → all ≡ line ∷ lines
-    → line_of line ≡ emission_said head pairs → items_from number 0 all ≡ Single number line ∷ items_from (number + 1) 0 lines
-emission_next number line all lines head pairs is says = line_next number line all lines (emission_said head pairs) is (sym says) refl
-
--- a read, which begins none either
-pub read_next : (number : ℕ) (line : List ℕ) (all lines : List (List ℕ)) (read : PlainRead) → all ≡ line ∷ lines → read_said read ≡ line_of line
-    → items_from number 0 all ≡ Single number line ∷ items_from (number + 1) 0 lines
-read_next number line all lines read is says = line_next number line all lines (read_said read) is says refl
+-- a command, which begins no part
+pub plain_next : (number : ℕ) (line : List ℕ) (all lines : List (List ℕ)) (command : Command) → all ≡ line ∷ lines
+    → line_of line ≡ Ok (Ask command) → items_from number 0 all ≡ Single number line ∷ items_from (number + 1) 0 lines
+plain_next number line all lines command is says = line_next number line all lines (Ok (Ask command)) is (sym says) refl
 
 -- a text's first line is the one that it begins with
 pub plain_first : (text line : List ℕ) (lines : List (List ℕ)) → lines_of text ≡ line ∷ lines → IsPlainEmission line → IsPlainEmission (line_in text)

@@ -5,16 +5,13 @@ use Rattle.std.proofs.Math.Seq.{take-append-add}
 use Rattle.std.proofs.lemmas.List.{length-take-le}
 use Rattle.std.proofs.lemmas.List.Sums.{prefix_len-le-length}
 use Rattle.trace_command.specs.Commands.{Command}
-use Rattle.trace_command.specs.declared.command.CommandOf.TheVariants.{Read}
 use Rattle.trace_script.specs.Lines.{line_of}
 use Rattle.trace_script.specs.Outcomes.{◌>>=◌}
 use Rattle.trace_script.specs.PlainEmissions.{line_len, line_in}
-use Rattle.trace_script.specs.PlainReads.{read_said}
 use Rattle.trace_script.specs.private.Bytes.{highest_rank}
 use Rattle.trace_script.specs.private.Reads.{cat_in, take_in}
 use Rattle.trace_script.specs.declared.fault.ScriptFault.{ScriptFault}
 use Rattle.trace_script.specs.declared.line.Line.TheVariants.{Ask}
-use Rattle.trace_script.specs.declared.read.PlainRead.{PlainRead}
 use Rattle.trace_script.proofs.BareReads.{cat_said, take_said}
 
 -- the words of a line have all its bytes after its name
@@ -28,7 +25,7 @@ line_named name text rest words count is counted len words_are =
     ap (λ (n : ℕ). take n text) (sym len ∙ ap (λ (n : ℕ). n + line_len rest) counted) ∙ ap (take (length name + line_len rest)) is
     ∙ take-append-add name rest (line_len rest) ∙ ap (λ (front : List ℕ). name ++ front) (sym words_are)
 
-asked_is : (asked : Result Command ScriptFault) (read : PlainRead) → asked ≡ Ok (Read read.path.now read.limit) → (asked >>= λ command. Ok (Ask command)) ≡ read_said read
+asked_is : (asked : Result Command ScriptFault) (read : Command) → asked ≡ Ok read → (asked >>= λ command. Ok (Ask command)) ≡ Ok (Ask read)
 asked_is asked read is = ap (λ (r : Result Command ScriptFault). r >>= λ command. Ok (Ask command)) is
 
 -- ---- a `cat`
@@ -46,8 +43,8 @@ module _ (text rest words : List ℕ) (is : text ≡ codes "cat " ++ rest) (word
   cat_rank : highest_rank words ≡ 0 → highest_rank (codes "cat " ++ words) ≡ 0
   cat_rank bare = omega (arith, bare)
 
-  pub cat_first : (read : PlainRead) → highest_rank words ≡ 0 → 4 + length words ≤ 4096 → cat_in words ≡ Ok (Read read.path.now read.limit)
-      → line_of (line_in text) ≡ read_said read
+  pub cat_first : (read : Command) → highest_rank words ≡ 0 → 4 + length words ≤ 4096 → cat_in words ≡ Ok read
+      → line_of (line_in text) ≡ Ok (Ask read)
   cat_first read bare short asked =
       let long : length (line_in text) ≡ 4 + length words = ap length cat_line ∙ length-append (codes "cat ") words in
       cat_said (line_in text) words cat_line (omega (arith, long, short)) (ap highest_rank cat_line ∙ cat_rank bare) ∙ asked_is (cat_in words) read asked
@@ -67,8 +64,8 @@ module _ (text rest words : List ℕ) (is : text ≡ codes "take " ++ rest) (wor
   take_rank : highest_rank words ≡ 0 → highest_rank (codes "take " ++ words) ≡ 0
   take_rank bare = omega (arith, bare)
 
-  pub take_first : (read : PlainRead) → highest_rank words ≡ 0 → 5 + length words ≤ 4096 → take_in words ≡ Ok (Read read.path.now read.limit)
-      → line_of (line_in text) ≡ read_said read
+  pub take_first : (read : Command) → highest_rank words ≡ 0 → 5 + length words ≤ 4096 → take_in words ≡ Ok read
+      → line_of (line_in text) ≡ Ok (Ask read)
   take_first read bare short asked =
       let long : length (line_in text) ≡ 5 + length words = ap length take_line ∙ length-append (codes "take ") words in
       take_said (line_in text) words take_line (omega (arith, long, short)) (ap highest_rank take_line ∙ take_rank bare) ∙ asked_is (take_in words) read asked

@@ -5,7 +5,6 @@ pub mod Lines
 pub mod Changes
 pub mod Commands
 pub mod PlainEmissions
-pub mod PlainReads
 pub mod Faults
 pub mod Rendering
 pub mod ScriptFaultTexts

@@ -4,8 +4,9 @@
 //! neither quotes nor `>` come before it. The same look finds a short line's words by bits, in a string that goes on after it; those of a long one
 //! are found as [`plain_emission`] finds them.
 
-ghost use Rattle.std.specs.Prelude.{◌≡◌, ◌≤◌, ◌++◌, ℕ, List, [], length, take, codes, IsSome, IfOk, IfSome, IfNone, OnErr};
+ghost use Rattle.std.specs.Prelude.{◌≡◌, ◌≤◌, ◌++◌, ℕ, List, [], length, take, codes, IsSome, Ok, IfOk, IfSome, IfNone};
 ghost use Rattle.trace_script.specs.Lines.{line_of};
+ghost use Rattle.trace_script.specs.declared.line.Line.TheVariants.{Ask};
 ghost use Rattle.trace_script.specs.PlainEmissions.{emission_said, line_len, line_in, IsPlainEmission};
 ghost use Rattle.trace_script.specs.private.Bytes.{highest_rank};
 ghost use Rattle.trace_script.specs.private.Emissions.{asked_after_emit};
@@ -17,12 +18,13 @@ use crate::line::MOST_BYTES;
 use crate::marked::{Marked, marked_line, marked_pairs, marked_word};
 use crate::number::{cpu_number, process_id};
 use std::alloc::AllocError;
+use trace_command::Command;
 use trace_format::BorrowedPair;
 
-/// An emission that a string begins with.
-#[derive(Clone, Copy)]
-pub struct FirstEmission<'a> {
-    pub head: EmissionHead<'a>,
+/// A command that a string begins with, whose strings lie in its line.
+#[derive(Drop)]
+pub struct FirstCommand<'a> {
+    pub command: Command<'a>,
     /// How many bytes its line has.
     pub len: usize,
 }
@@ -83,10 +85,10 @@ pub(crate) fn bare_line_len(text: &[u8]) -> Option<usize>
 fn cut_any<'a>(
     rest: &'a [u8],
     pairs: &mut Vec<BorrowedPair<'a>>,
-) -> Result<Option<FirstEmission<'a>>, AllocError>
+) -> Result<Option<(EmissionHead<'a>, usize)>, AllocError>
     ensures read { IfOk result (λ found. IfSome found (λ first. (text : List ℕ) → text ≡ codes "emit " ++ rest.now
-        → line_of (line_in text) ≡ emission_said first.head pairs.new.items)) }
-    ensures len { IfOk result (λ found. IfSome found (λ first. (text : List ℕ) → text ≡ codes "emit " ++ rest.now → first.len ≡ line_len text)) }
+        → line_of (line_in text) ≡ emission_said first.0 pairs.new.items)) }
+    ensures len { IfOk result (λ found. IfSome found (λ first. (text : List ℕ) → text ≡ codes "emit " ++ rest.now → first.1 ≡ line_len text)) }
     ensures found { IfOk result (λ found. (text : List ℕ) → text ≡ codes "emit " ++ rest.now → IsPlainEmission (line_in text) → IsSome found) }
 {
     let Some(len) = bare_line_len(rest) else {
@@ -99,10 +101,7 @@ fn cut_any<'a>(
     let Some(head) = cut_bare(line, pairs)? else {
         return Ok(None);
     };
-    Ok(Some(FirstEmission {
-        head,
-        len: EMIT_BYTES + len,
-    }))
+    Ok(Some((head, EMIT_BYTES + len)))
 }
 
 /// As `first_emission`, but pairs may be left where there is no such emission. Most lines are short, and their words are found by bits.
@@ -111,9 +110,9 @@ fn cut_any<'a>(
 fn cut_first<'a>(
     text: &'a [u8],
     pairs: &mut Vec<BorrowedPair<'a>>,
-) -> Result<Option<FirstEmission<'a>>, AllocError>
-    ensures read { IfOk result (λ found. IfSome found (λ first. line_of (line_in text.now) ≡ emission_said first.head pairs.new.items)) }
-    ensures len { IfOk result (λ found. IfSome found (λ first. first.len ≡ line_len text.now)) }
+) -> Result<Option<(EmissionHead<'a>, usize)>, AllocError>
+    ensures read { IfOk result (λ found. IfSome found (λ first. line_of (line_in text.now) ≡ emission_said first.0 pairs.new.items)) }
+    ensures len { IfOk result (λ found. IfSome found (λ first. first.1 ≡ line_len text.now)) }
     ensures found { IfOk result (λ found. IsPlainEmission (line_in text.now) → IsSome found) }
 {
     let Some(rest) = after_emit(text) else {
@@ -121,37 +120,27 @@ fn cut_first<'a>(
     };
     if let Some(line) = marked_line(rest) {
         if let Some(head) = marked_emission(&line, pairs)? {
-            return Ok(Some(FirstEmission {
-                head,
-                len: EMIT_BYTES + line.text.len(),
-            }));
+            return Ok(Some((head, EMIT_BYTES + line.text.len())));
         }
     }
     cut_any(rest, pairs)
 }
 
 /// The emission that the first line of a string is, if that has no quotes and no `>` and one blank between each two words; found as
-/// [`plain_emission`] finds it in a line, but without a look for the line's end first. Its pairs are left in a list as there.
+/// [`plain_emission`] finds it in a line, but without a look for the line's end first. Its pairs are left in a list, which keeps its room from line to
+/// line.
 #[inline(always)]
-pub fn first_emission<'a>(
+pub fn first_emission<'a, 'p>(
     text: &'a [u8],
-    pairs: &mut Vec<BorrowedPair<'a>>,
-) -> Result<Option<FirstEmission<'a>>, AllocError>
-    ensures read { IfOk result (λ found. IfSome found (λ first. line_of (line_in text.now) ≡ emission_said first.head pairs.new.items)) }
+    pairs: &'p mut Vec<BorrowedPair<'a>>,
+) -> Result<Option<FirstCommand<'p>>, AllocError>
+    ensures read { IfOk result (λ found. IfSome found (λ first. line_of (line_in text.now) ≡ Ok (Ask first.command))) }
     ensures len { IfOk result (λ found. IfSome found (λ first. first.len ≡ line_len text.now)) }
     ensures found { IfOk result (λ found. IsPlainEmission (line_in text.now) → IsSome found) }
-    ensures none { IfOk result (λ found. IfNone found (pairs.new.items ≡ [])) }
-    ensures refused { OnErr result (pairs.new.items ≡ []) }
 {
-    match cut_first(text, pairs) {
-        Ok(Some(first)) => Ok(Some(first)),
-        Ok(None) => {
-            pairs.clear();
-            Ok(None)
-        }
-        Err(error) => {
-            pairs.clear();
-            Err(error)
-        }
-    }
+    let Some((head, len)) = cut_first(text, pairs)? else {
+        return Ok(None);
+    };
+    let command = Command::emit(head.event, head.cpu, head.pid, pairs.as_slice());
+    Ok(Some(FirstCommand { command, len }))
 }

@@ -22,10 +22,10 @@ pub use change::{Change, change_of, declared};
 pub use command::writes_are_as_written;
 pub use emission::{EmissionHead, plain_emission};
 pub use fault::{LineError, ScriptFault};
-pub use first::{FirstEmission, first_emission};
+pub use first::{FirstCommand, first_emission};
 pub use line::{
     Line, commands_are_as_written, faults_come_in_order, lines_are_as_written, may_end, prepare,
 };
 pub use outcome::{Outcome, render};
-pub use read::{FirstRead, PlainRead, first_read};
+pub use read::first_read;
 pub use token::tokens_are_as_written;

@@ -4,18 +4,18 @@
 //! between each two words, and one look finds its end. Another line is left to be read by its tokens, which would give the same for these.
 
 ghost use Rattle.std.specs.Prelude.{◌≡◌, ◌+◌, ◌≤◌, ◌++◌, length, Ok, IfSome, codes};
-ghost use Rattle.trace_command.specs.declared.command.CommandOf.TheVariants.{Read};
 ghost use Rattle.trace_script.specs.Lines.{line_of};
 ghost use Rattle.trace_script.specs.PlainEmissions.{line_len, line_in};
-ghost use Rattle.trace_script.specs.PlainReads.{read_said};
+ghost use Rattle.trace_script.specs.declared.line.Line.TheVariants.{Ask};
 ghost use Rattle.trace_script.specs.private.Bytes.{highest_rank};
 ghost use Rattle.trace_script.specs.private.Marks.{IsMarked};
 ghost use Rattle.trace_script.specs.private.Reads.{cat_in, take_in};
 
 use crate::emission::{cut_word, is_word};
-use crate::first::bare_line_len;
+use crate::first::{FirstCommand, bare_line_len};
 use crate::line::MOST_BYTES;
 use crate::marked::{Marked, is_marked_word, marked_line, marked_word};
+use trace_command::Command;
 use trace_lex::decimal_number;
 
 /// How many bytes `cat` and a space are.
@@ -23,21 +23,6 @@ const CAT_BYTES: usize = 4;
 
 /// How many bytes `take` and a space are.
 const TAKE_BYTES: usize = 5;
-
-/// A read's words, as they lie in its line.
-#[derive(Clone, Copy)]
-pub struct PlainRead<'a> {
-    pub path: &'a [u8],
-    pub limit: Option<u64>,
-}
-
-/// A read that a string begins with.
-#[derive(Clone, Copy)]
-pub struct FirstRead<'a> {
-    pub read: PlainRead<'a>,
-    /// How many bytes its line has.
-    pub len: usize,
-}
 
 /// What follows `cat` and a space at the front of a line.
 #[tactic(auto, using(crate::proofs::BareReads::after_name))]
@@ -72,23 +57,20 @@ fn after_take(line: &[u8]) -> Option<&[u8]>
 }
 
 /// The read that a `cat` of these words is.
-fn cat_of(words: &[u8]) -> Option<PlainRead<'_>>
+fn cat_of(words: &[u8]) -> Option<Command<'_>>
     requires { highest_rank words.now ≡ 0 }
-    ensures { IfSome result (λ read. cat_in words.now ≡ Ok (Read read.path.now read.limit)) }
+    ensures { IfSome result (λ read. cat_in words.now ≡ Ok read) }
 {
     if !is_word(words) {
         return None;
     }
-    Some(PlainRead {
-        path: words,
-        limit: None,
-    })
+    Some(Command::read(words))
 }
 
 /// The read that a `take` of these words is.
-fn take_of(words: &[u8]) -> Option<PlainRead<'_>>
+fn take_of(words: &[u8]) -> Option<Command<'_>>
     requires { highest_rank words.now ≡ 0 }
-    ensures { IfSome result (λ read. take_in words.now ≡ Ok (Read read.path.now read.limit)) }
+    ensures { IfSome result (λ read. take_in words.now ≡ Ok read) }
 {
     let Some((count, path)) = cut_word(words) else {
         return None;
@@ -97,32 +79,26 @@ fn take_of(words: &[u8]) -> Option<PlainRead<'_>>
     if !is_word(path) {
         return None;
     }
-    Some(PlainRead {
-        path,
-        limit: Some(limit),
-    })
+    Some(Command::take(path, limit))
 }
 
 /// As `cat_of`, of marked words.
-fn marked_cat<'a>(words: &Marked<'a>) -> Option<PlainRead<'a>>
+fn marked_cat<'a>(words: &Marked<'a>) -> Option<Command<'a>>
     requires bare { highest_rank words.now.text.now ≡ 0 }
     requires marked { IsMarked words.now }
-    ensures { IfSome result (λ read. cat_in words.now.text.now ≡ Ok (Read read.path.now read.limit)) }
+    ensures { IfSome result (λ read. cat_in words.now.text.now ≡ Ok read) }
 {
     if !is_marked_word(words) {
         return None;
     }
-    Some(PlainRead {
-        path: words.text,
-        limit: None,
-    })
+    Some(Command::read(words.text))
 }
 
 /// As `take_of`, of marked words.
-fn marked_take<'a>(words: &Marked<'a>) -> Option<PlainRead<'a>>
+fn marked_take<'a>(words: &Marked<'a>) -> Option<Command<'a>>
     requires bare { highest_rank words.now.text.now ≡ 0 }
     requires marked { IsMarked words.now }
-    ensures { IfSome result (λ read. take_in words.now.text.now ≡ Ok (Read read.path.now read.limit)) }
+    ensures { IfSome result (λ read. take_in words.now.text.now ≡ Ok read) }
 {
     let Some((count, path)) = marked_word(words) else {
         return None;
@@ -131,10 +107,7 @@ fn marked_take<'a>(words: &Marked<'a>) -> Option<PlainRead<'a>>
     if !is_marked_word(&path) {
         return None;
     }
-    Some(PlainRead {
-        path: path.text,
-        limit: Some(limit),
-    })
+    Some(Command::take(path.text, limit))
 }
 
 /// The words that a line has after a name of so many bytes, of which the string goes on after the name. Nothing, if they have quotes or a `>`, or the
@@ -156,11 +129,11 @@ fn bare_words(rest: &[u8], name: usize) -> Option<&[u8]>
 
 /// The read that a `cat` is whose words a string begins with, and those words.
 #[inline(always)]
-fn cat_in_front(rest: &[u8]) -> Option<(PlainRead<'_>, &[u8])>
+fn cat_in_front(rest: &[u8]) -> Option<(Command<'_>, &[u8])>
     ensures words { IfSome result (λ found. found.1.now ≡ line_in rest.now) }
     ensures bare { IfSome result (λ found. highest_rank found.1.now ≡ 0) }
     ensures short { IfSome result (λ found. CAT_BYTES + length found.1.now ≤ MOST_BYTES) }
-    ensures read { IfSome result (λ found. cat_in found.1.now ≡ Ok (Read found.0.path.now found.0.limit)) }
+    ensures read { IfSome result (λ found. cat_in found.1.now ≡ Ok found.0) }
 {
     if let Some(line) = marked_line(rest) {
         let read = marked_cat(&line)?;
@@ -173,11 +146,11 @@ fn cat_in_front(rest: &[u8]) -> Option<(PlainRead<'_>, &[u8])>
 
 /// Likewise for a `take`.
 #[inline(always)]
-fn take_in_front(rest: &[u8]) -> Option<(PlainRead<'_>, &[u8])>
+fn take_in_front(rest: &[u8]) -> Option<(Command<'_>, &[u8])>
     ensures words { IfSome result (λ found. found.1.now ≡ line_in rest.now) }
     ensures bare { IfSome result (λ found. highest_rank found.1.now ≡ 0) }
     ensures short { IfSome result (λ found. TAKE_BYTES + length found.1.now ≤ MOST_BYTES) }
-    ensures read { IfSome result (λ found. take_in found.1.now ≡ Ok (Read found.0.path.now found.0.limit)) }
+    ensures read { IfSome result (λ found. take_in found.1.now ≡ Ok found.0) }
 {
     if let Some(line) = marked_line(rest) {
         let read = marked_take(&line)?;
@@ -191,21 +164,21 @@ fn take_in_front(rest: &[u8]) -> Option<(PlainRead<'_>, &[u8])>
 /// The read that the first line of a string is, if that has no quotes and no `>` and one blank between each two words. Every other line, and one that
 /// has a fault, is left to [`crate::prepare`].
 #[inline(always)]
-pub fn first_read(text: &[u8]) -> Option<FirstRead<'_>>
-    ensures read { IfSome result (λ first. line_of (line_in text.now) ≡ read_said first.read) }
+pub fn first_read(text: &[u8]) -> Option<FirstCommand<'_>>
+    ensures read { IfSome result (λ first. line_of (line_in text.now) ≡ Ok (Ask first.command)) }
     ensures len { IfSome result (λ first. first.len ≡ line_len text.now) }
 {
     if let Some(rest) = after_cat(text) {
-        let (read, words) = cat_in_front(rest)?;
-        return Some(FirstRead {
-            read,
+        let (command, words) = cat_in_front(rest)?;
+        return Some(FirstCommand {
+            command,
             len: CAT_BYTES + words.len(),
         });
     }
     if let Some(rest) = after_take(text) {
-        let (read, words) = take_in_front(rest)?;
-        return Some(FirstRead {
-            read,
+        let (command, words) = take_in_front(rest)?;
+        return Some(FirstCommand {
+            command,
             len: TAKE_BYTES + words.len(),
         });
     }

@@ -16,9 +16,9 @@ use crate::device::Sink;
 use crate::environment::Environment;
 use crate::replies::Replies;
 use crate::status::Status;
-use crate::step::{EmissionItem, do_emission, do_item, do_read};
+use crate::step::{NumberedText, do_command, do_item, do_other_command};
 use script_reader::item::next_item;
-use script_reader::plain::{plain_item, read_item};
+use script_reader::plain::{emission_item, read_item};
 use script_reader::{MOST_SCRIPT_BYTES, Source, Stop, read_script};
 use shared_book::SharedBook;
 use std::alloc::Global;
@@ -77,17 +77,15 @@ fn do_items<B: SharedBook + Send, R: Threads + Wait + Sync, W: Sink, G: Gate + S
     let mut status = Status::Done;
     let mut pairs = Vec::new(env.alloc);
     while let Some(text) = rest {
-        let Ok(found) = plain_item(text, &mut pairs) else {
+        let Ok(found) = emission_item(text, &mut pairs) else {
             return Err(Stop::Memory);
         };
         if let Some(plain) = found {
-            let item = EmissionItem {
+            let line = NumberedText {
                 number,
-                line: plain.line,
-                head: plain.head,
-                pairs: pairs.as_slice(),
+                text: plain.line,
             };
-            let (back, done) = do_emission(env, pass, &item, replies, writer);
+            let (back, done) = do_command(env, pass, line, &plain.command, replies, writer);
             pass = back;
             status = with_item(status, done?);
             number += 1;
@@ -95,7 +93,11 @@ fn do_items<B: SharedBook + Send, R: Threads + Wait + Sync, W: Sink, G: Gate + S
             continue;
         }
         if let Some(read) = read_item(text) {
-            let (back, ran) = do_read(env, pass, number, &read, replies, writer);
+            let line = NumberedText {
+                number,
+                text: read.line,
+            };
+            let (back, ran) = do_other_command(env, pass, line, &read.command, replies, writer);
             pass = back;
             status = with_item(status, ran?);
             number += 1;

@@ -11,8 +11,6 @@ ghost use Rattle.script_reader.specs.PartReads.{commands_in};
 ghost use Rattle.script_reader.specs.ScriptLines.{lines_of};
 ghost use Rattle.script_reader.specs.Sources.{HasRisen};
 ghost use Rattle.trace_script.specs.Lines.{line_of};
-ghost use Rattle.trace_script.specs.PlainEmissions.{emission_said};
-ghost use Rattle.trace_script.specs.PlainReads.{read_said};
 ghost use Rattle.trace_script.specs.declared.line.Line.TheVariants.{Ask};
 ghost use Rattle.trace_session.specs.Devices.{Passes};
 ghost use Rattle.trace_session.specs.private.StepFronts.{PassesItem, GivesItem, AppendsItem};
@@ -35,31 +33,20 @@ use script_reader::Stop;
 use script_reader::item::ItemRead;
 use script_reader::part::FaultAt;
 use script_reader::part_line::PartLine;
-use script_reader::plain::ReadItem;
 use shared_book::SharedBook;
 use std::alloc::Global;
 use std::sync::Wait;
 use std::thread;
 use ticket_lock::Pass;
-use trace_command::{Bytes, Command, OwnedCommand, Refusal, Reply};
-use trace_format::BorrowedPair;
-use trace_script::{EmissionHead, Line, Outcome, ScriptFault};
+use trace_command::{Command, OwnedCommand, Refusal, Reply};
+use trace_script::{Line, Outcome, ScriptFault};
 use trace_workers::Gate;
 
 /// A line, or the lines of a part, with the number of the first.
 #[derive(Clone, Copy)]
-struct NumberedText<'a> {
-    number: usize,
-    text: &'a [u8],
-}
-
-/// An emission by itself, with the number of its line.
-#[derive(Drop)]
-pub(crate) struct EmissionItem<'a> {
+pub(crate) struct NumberedText<'a> {
     pub number: usize,
-    pub line: &'a [u8],
-    pub head: EmissionHead<'a>,
-    pub pairs: &'a [BorrowedPair<'a>],
+    pub text: &'a [u8],
 }
 
 /// Whether a command was done and has nothing to show, and the writer hears nothing.
@@ -71,70 +58,63 @@ fn is_silent<W: Sink>(answer: &Result<Reply, Refusal>, writer: &W) -> bool
     matches!(answer, Ok(Reply::Done)) && !writer.hears()
 }
 
-/// Runs an emission whose words lie in its line, and writes its output. One that is done prints nothing, so that only a writer that hears is told
-/// of it. It is inlined, so that neither its words nor its answer are moved.
+/// Runs the command that a line asks for, and writes its output. One that is done and has nothing to show prints nothing, so that only a writer that
+/// hears is told of it. It is inlined, so that neither the command nor its answer is moved.
 #[inline(always)]
 #[tactic(auto, using(crate::proofs::Stepping::done_unheard, crate::proofs::Stepping::untold_flushed))]
-pub(crate) fn do_emission<B: SharedBook, R: Wait, W: Sink, G>(
+pub(crate) fn do_command<B: SharedBook, R: Wait, W: Sink, G>(
     env: &Environment<'_, B, R, G>,
     pass: Pass<B>,
-    item: &EmissionItem<'_>,
+    line: NumberedText<'_>,
+    command: &Command<'_>,
     replies: &mut Replies,
     writer: &mut W,
 ) -> (Pass<B>, Result<Status, Stop>)
     requires of { IsOf env.now.lock.now pass }
     requires session { (g : Config) × IsSessionPass g (view_of pass) }
-    requires says { line_of item.now.line.now ≡ emission_said item.now.head item.now.pairs.now }
+    requires says { line_of line.text.now ≡ Ok (Ask command.now) }
     ensures of { IsOf env.now.lock.now result.0 }
     ensures session { (g : Config) → IsSessionPass g (view_of pass) → IsSessionPass g (view_of result.0) }
-    ensures run { IsLineRun W.wants_first item.now.number item.now.line.now
+    ensures run { IsLineRun W.wants_first line.entry.number line.entry.text.now
         (λ g. IsSessionPass g (view_of pass)) (progress_of (view_of pass)) (progress_of (view_of result.0))
         (outlet (W.contents writer.old) (W.failures writer.old) (W.heard writer.old) replies.old)
         (outlet (W.contents writer.new) (W.failures writer.new) (W.heard writer.new) replies.new) result.1 }
     ensures faultless { IfOk result.1 (λ status. status ≢ Status.Fault) }
 {
-    let EmissionHead { event, cpu, pid } = item.head;
-    let command = Command::emit(event, cpu, pid, item.pairs);
-    let (pass, answer) = ask_command(env.rt, env.lock, pass, &command);
+    let (pass, answer) = ask_command(env.rt, env.lock, pass, command);
     if is_silent(&answer, writer) {
         return (pass, Ok(Status::Done));
     }
-    let given = give_answer(env.alloc, item.number, item.line, answer, replies, writer);
+    let given = give_answer(env.alloc, line.number, line.text, answer, replies, writer);
     (pass, given)
 }
 
-/// Runs a read whose words lie in its line, and writes its output. It is kept out of line, so that emissions don't take its room.
+/// As `do_command`, of other commands than emissions that were found at once: it is kept out of line, so that these don't take its room.
 #[inline(never)]
-pub(crate) fn do_read<B: SharedBook, R: Wait, W: Sink, G>(
+pub(crate) fn do_other_command<B: SharedBook, R: Wait, W: Sink, G>(
     env: &Environment<'_, B, R, G>,
     pass: Pass<B>,
-    number: usize,
-    item: &ReadItem<'_>,
+    line: NumberedText<'_>,
+    command: &Command<'_>,
     replies: &mut Replies,
     writer: &mut W,
 ) -> (Pass<B>, Result<Status, Stop>)
     requires of { IsOf env.now.lock.now pass }
     requires session { (g : Config) × IsSessionPass g (view_of pass) }
-    requires says { read_said item.now.read ≡ line_of item.now.line.now }
+    requires says { line_of line.text.now ≡ Ok (Ask command.now) }
     ensures of { IsOf env.now.lock.now result.0 }
     ensures session { (g : Config) → IsSessionPass g (view_of pass) → IsSessionPass g (view_of result.0) }
-    ensures run { IsLineRun W.wants_first number item.now.line.now
+    ensures run { IsLineRun W.wants_first line.entry.number line.entry.text.now
         (λ g. IsSessionPass g (view_of pass)) (progress_of (view_of pass)) (progress_of (view_of result.0))
         (outlet (W.contents writer.old) (W.failures writer.old) (W.heard writer.old) replies.old)
         (outlet (W.contents writer.new) (W.failures writer.new) (W.heard writer.new) replies.new) result.1 }
     ensures faultless { IfOk result.1 (λ status. status ≢ Status.Fault) }
 {
-    let command = Command::Read {
-        path: Bytes::new(item.read.path),
-        limit: item.read.limit,
-    };
-    let (pass, answer) = ask_command(env.rt, env.lock, pass, &command);
-    let given = give_answer(env.alloc, number, item.line, answer, replies, writer);
-    (pass, given)
+    do_command(env, pass, line, command, replies, writer)
 }
 
-/// Runs a line that asks for a command, and writes its output.
-fn do_command<B: SharedBook, R: Wait, W: Sink, G>(
+/// Runs a command whose strings are its own, and writes its output.
+fn do_owned_command<B: SharedBook, R: Wait, W: Sink, G>(
     env: &Environment<'_, B, R, G>,
     pass: Pass<B>,
     line: NumberedText<'_>,
@@ -155,9 +135,8 @@ fn do_command<B: SharedBook, R: Wait, W: Sink, G>(
     let Ok(lent) = command.lend_pairs(env.alloc) else {
         return (pass, Err(Stop::Memory));
     };
-    let (pass, answer) = ask_command(env.rt, env.lock, pass, &command.lent(lent.as_slice()));
-    let given = give_answer(env.alloc, line.number, line.text, answer, replies, writer);
-    (pass, given)
+    let command = command.lent(lent.as_slice());
+    do_other_command(env, pass, line, &command, replies, writer)
 }
 
 /// Runs a single line, and writes its output.
@@ -180,7 +159,7 @@ fn do_line<B: SharedBook, R: Wait, W: Sink, G>(
         (outlet (W.contents writer.new) (W.failures writer.new) (W.heard writer.new) replies.new) result.1 }
 {
     match said {
-        Ok(Line::Ask(command)) => do_command(env, pass, line, &command, replies, writer),
+        Ok(Line::Ask(command)) => do_owned_command(env, pass, line, &command, replies, writer),
         said => {
             let outcome = unasked(said);
             (

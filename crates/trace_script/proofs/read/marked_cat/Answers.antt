@@ -1,6 +1,6 @@
-use Rattle.std.proofs.Common.{sym, rules}
+use Rattle.std.proofs.Common.{Ok, ap, sym, ◌∙◌, rules}
 use Rattle.trace_script.proofs.BareReads.{cat_read}
 use Rattle.trace_script.proofs.read.marked_cat.Goals as goal
 
 pub returns : goal.returns
-returns c = cat_read c.args.words.now.text.now (c.is_marked_word.ensures (search rules))
+returns c = cat_read c.args.words.now.text.now (c.is_marked_word.ensures (search rules)) ∙ ap Ok (sym c.read.ensures)

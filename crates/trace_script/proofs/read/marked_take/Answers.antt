@@ -1,8 +1,8 @@
-use Rattle.std.proofs.Common.{sym, rules}
+use Rattle.std.proofs.Common.{Ok, ap, sym, ◌∙◌, rules}
 use Rattle.trace_script.proofs.BareReads.{take_read}
 use Rattle.trace_script.proofs.read.marked_take.Goals as goal
 
 pub returns : goal.returns
 returns c =
     take_read c.args.words.now.text.now c.in-Some.count.now c.in-Some.path.text.now c.in_ok-limit.limit c.in-Some.ensures.word (c.is_marked_word.ensures (search rules))
-    (sym c.in_ok-limit.ensures)
+    (sym c.in_ok-limit.ensures) ∙ ap Ok (sym c.take.ensures)

@@ -24,8 +24,8 @@ loop-rest-init g c = record {
 
 -- ---- an emission
 
-pub returns-in_default-plain_item-clause-memory : goal.returns-in_default-plain_item-clause-memory
-returns-in_default-plain_item-clause-memory g c h config seat =
+pub returns-in_default-emission_item-clause-memory : goal.returns-in_default-emission_item-clause-memory
+returns-in_default-emission_item-clause-memory g c h config seat =
     let contents = g.W.Sink.contents in
     let heard = g.W.Sink.heard in
     at_stop_here config (g.G.Gate.may_answer c.args.env.now.gate.now) g.W.Sink.wants_first c.args.script.now (contents c.args.writer.now) (contents c.loop-rest.writer) c.loop-rest.replies
@@ -40,13 +40,13 @@ returns-in_err-done-clause-memory g c h config seat =
     at_stop config (g.G.Gate.may_answer c.args.env.now.gate.now) g.W.Sink.wants_first c.args.script.now (contents c.args.writer.now) (contents c.loop-rest.writer) c.loop-rest.replies
     (heard c.args.writer.now) (heard c.loop-rest.writer) (progress_of (view_of c.loop-rest.pass)) c.in-Some.text.now
     c.loop-rest.number c.loop-rest.status (rw c.in-Some.is at c.loop-rest.invariant.stands config seat)
-    (contents c.do_emission-back.new.writer) c.do_emission-back.new.replies (heard c.do_emission-back.new.writer)
-    (rw c.in_err-done.was at c.do_emission-back.ensures.run.unheard) (c.do_emission-back.ensures.run.memory (cc (h, p.1, p.2, c.in_err-done.was)))
+    (contents c.do_command-back.new.writer) c.do_command-back.new.replies (heard c.do_command-back.new.writer)
+    (rw c.in_err-done.was at c.do_command-back.ensures.run.unheard) (c.do_command-back.ensures.run.memory (cc (h, p.1, p.2, c.in_err-done.was)))
 
 pub returns-in_err-done-clause-stopped : goal.returns-in_err-done-clause-stopped
 returns-in_err-done-clause-stopped g c h config seat =
     let p = err_from_is_err_and c.from_residual.result c.from_residual.ensures.1 in
-    absurd (c.do_emission-back.ensures.run.stopped (cc (h, p.1, p.2, c.in_err-done.was)))
+    absurd (c.do_command-back.ensures.run.stopped (cc (h, p.1, p.2, c.in_err-done.was)))
 
 pub returns-in_err-done-clause-device : goal.returns-in_err-done-clause-device
 returns-in_err-done-clause-device g c h config seat =
@@ -58,15 +58,15 @@ returns-in_err-done-clause-device g c h config seat =
     c.loop-rest.number c.loop-rest.status (rw c.in-Some.is at c.loop-rest.invariant.stands config seat)
     (Single c.loop-rest.number c.in-Some-found.plain.line.now) (option_copied c.in-Some-found.plain.rest) (c.loop-rest.number + 1)
     ((rw c.in-Some-found.is at c.in-Ok.ensures.read) c.loop-rest.number)
-    (contents c.do_emission-back.new.writer) (progress_of (view_of c.do_emission-back.result.0)) (heard c.do_emission-back.new.writer)
-    (rw c.in_err-done.was at c.do_emission-back.ensures.run.unheard) tt
-    (c.do_emission-back.ensures.run.device (cc (h, p.1, p.2, c.in_err-done.was)) config (c.loop-rest.invariant.seated config seat))
+    (contents c.do_command-back.new.writer) (progress_of (view_of c.do_command-back.result.0)) (heard c.do_command-back.new.writer)
+    (rw c.in_err-done.was at c.do_command-back.ensures.run.unheard) tt
+    (c.do_command-back.ensures.run.device (cc (h, p.1, p.2, c.in_err-done.was)) config (c.loop-rest.invariant.seated config seat))
 
 pub loop-rest-preserved-in-Some-found : goal.loop-rest-preserved-in-Some-found
 loop-rest-preserved-in-Some-found g c =
     let contents = g.W.Sink.contents in
     let heard = g.W.Sink.heard in
-    let done = c.do_emission-back.ensures in
+    let done = c.do_command-back.ensures in
     let lines : lines_of c.in-Some.text.now ≡ c.in-Some-found.plain.line.now ∷ lines_left (option_copied c.in-Some-found.plain.rest) = rw c.in-Some-found.is at c.in-Ok.ensures.lines in
     record {
       of = done.of;
@@ -79,12 +79,12 @@ loop-rest-preserved-in-Some-found g c =
           c.loop-rest.number c.loop-rest.status stands
           (Single c.loop-rest.number c.in-Some-found.plain.line.now) (option_copied c.in-Some-found.plain.rest) (c.loop-rest.number + 1)
           ((rw c.in-Some-found.is at c.in-Ok.ensures.read) c.loop-rest.number)
-          (contents c.do_emission-back.new.writer) c.do_emission-back.new.replies (progress_of (view_of c.do_emission-back.result.0)) c.in_ok-done.field-0
+          (contents c.do_command-back.new.writer) c.do_command-back.new.replies (progress_of (view_of c.do_command-back.result.0)) c.in_ok-done.field-0
           gave
-          c.with_item-status.result (heard c.do_emission-back.new.writer) tt
+          c.with_item-status.result (heard c.do_command-back.new.writer) tt
           (emission_heard config c.loop-rest.number (lines_of c.args.script.now) (lines_of c.in-Some.text.now) stands.some stands.is_left
-          (progress_of (view_of c.loop-rest.pass)) (progress_of (view_of c.do_emission-back.result.0)) gave.0 (contents c.do_emission-back.new.writer)
-          (heard c.loop-rest.writer) (heard c.do_emission-back.new.writer) c.in-Some-found.plain.line.now (lines_left (option_copied c.in-Some-found.plain.rest)) lines gave.1
+          (progress_of (view_of c.loop-rest.pass)) (progress_of (view_of c.do_command-back.result.0)) gave.0 (contents c.do_command-back.new.writer)
+          (heard c.loop-rest.writer) (heard c.do_command-back.new.writer) c.in-Some-found.plain.line.now (lines_left (option_copied c.in-Some-found.plain.rest)) lines gave.1
           (rw c.in_ok-done.was at (done.run.heard config (c.loop-rest.invariant.seated config seat))))
           (rw c.in_ok-done.was at done.run.flushed)
           (omega (arith, stands.some))
@@ -104,13 +104,13 @@ returns-in_err-ran-clause-memory g c h config seat =
     at_stop config (g.G.Gate.may_answer c.args.env.now.gate.now) g.W.Sink.wants_first c.args.script.now (contents c.args.writer.now) (contents c.loop-rest.writer) c.loop-rest.replies
     (heard c.args.writer.now) (heard c.loop-rest.writer) (progress_of (view_of c.loop-rest.pass)) c.in-Some.text.now
     c.loop-rest.number c.loop-rest.status (rw c.in-Some.is at c.loop-rest.invariant.stands config seat)
-    (contents c.do_read-back.new.writer) c.do_read-back.new.replies (heard c.do_read-back.new.writer)
-    (rw c.in_err-ran.was at c.do_read-back.ensures.run.unheard) (c.do_read-back.ensures.run.memory (cc (h, p.1, p.2, c.in_err-ran.was)))
+    (contents c.do_other_command-back.new.writer) c.do_other_command-back.new.replies (heard c.do_other_command-back.new.writer)
+    (rw c.in_err-ran.was at c.do_other_command-back.ensures.run.unheard) (c.do_other_command-back.ensures.run.memory (cc (h, p.1, p.2, c.in_err-ran.was)))
 
 pub returns-in_err-ran-clause-stopped : goal.returns-in_err-ran-clause-stopped
 returns-in_err-ran-clause-stopped g c h config seat =
     let p = err_from_is_err_and c.from_residual-in_err-ran.result c.from_residual-in_err-ran.ensures.1 in
-    absurd (c.do_read-back.ensures.run.stopped (cc (h, p.1, p.2, c.in_err-ran.was)))
+    absurd (c.do_other_command-back.ensures.run.stopped (cc (h, p.1, p.2, c.in_err-ran.was)))
 
 pub returns-in_err-ran-clause-device : goal.returns-in_err-ran-clause-device
 returns-in_err-ran-clause-device g c h config seat =
@@ -122,15 +122,15 @@ returns-in_err-ran-clause-device g c h config seat =
     c.loop-rest.number c.loop-rest.status (rw c.in-Some.is at c.loop-rest.invariant.stands config seat)
     (Single c.loop-rest.number c.in-Some-read_item.read.line.now) (option_copied c.in-Some-read_item.read.rest) (c.loop-rest.number + 1)
     ((c.in-Some-read_item.ensures.read) c.loop-rest.number)
-    (contents c.do_read-back.new.writer) (progress_of (view_of c.do_read-back.result.0)) (heard c.do_read-back.new.writer)
-    (rw c.in_err-ran.was at c.do_read-back.ensures.run.unheard) tt
-    (c.do_read-back.ensures.run.device (cc (h, p.1, p.2, c.in_err-ran.was)) config (c.loop-rest.invariant.seated config seat))
+    (contents c.do_other_command-back.new.writer) (progress_of (view_of c.do_other_command-back.result.0)) (heard c.do_other_command-back.new.writer)
+    (rw c.in_err-ran.was at c.do_other_command-back.ensures.run.unheard) tt
+    (c.do_other_command-back.ensures.run.device (cc (h, p.1, p.2, c.in_err-ran.was)) config (c.loop-rest.invariant.seated config seat))
 
 pub loop-rest-preserved-in-Some-read_item : goal.loop-rest-preserved-in-Some-read_item
 loop-rest-preserved-in-Some-read_item g c =
     let contents = g.W.Sink.contents in
     let heard = g.W.Sink.heard in
-    let done = c.do_read-back.ensures in
+    let done = c.do_other_command-back.ensures in
     let lines : lines_of c.in-Some.text.now ≡ c.in-Some-read_item.read.line.now ∷ lines_left (option_copied c.in-Some-read_item.read.rest) = c.in-Some-read_item.ensures.lines in
     record {
       of = done.of;
@@ -143,12 +143,12 @@ loop-rest-preserved-in-Some-read_item g c =
           c.loop-rest.number c.loop-rest.status stands
           (Single c.loop-rest.number c.in-Some-read_item.read.line.now) (option_copied c.in-Some-read_item.read.rest) (c.loop-rest.number + 1)
           ((c.in-Some-read_item.ensures.read) c.loop-rest.number)
-          (contents c.do_read-back.new.writer) c.do_read-back.new.replies (progress_of (view_of c.do_read-back.result.0)) c.in_ok-ran.field-0
+          (contents c.do_other_command-back.new.writer) c.do_other_command-back.new.replies (progress_of (view_of c.do_other_command-back.result.0)) c.in_ok-ran.field-0
           gave
-          c.with_item-status-in-Some-read_item.result (heard c.do_read-back.new.writer) tt
+          c.with_item-status-in-Some-read_item.result (heard c.do_other_command-back.new.writer) tt
           (emission_heard config c.loop-rest.number (lines_of c.args.script.now) (lines_of c.in-Some.text.now) stands.some stands.is_left
-          (progress_of (view_of c.loop-rest.pass)) (progress_of (view_of c.do_read-back.result.0)) gave.0 (contents c.do_read-back.new.writer)
-          (heard c.loop-rest.writer) (heard c.do_read-back.new.writer) c.in-Some-read_item.read.line.now (lines_left (option_copied c.in-Some-read_item.read.rest)) lines gave.1
+          (progress_of (view_of c.loop-rest.pass)) (progress_of (view_of c.do_other_command-back.result.0)) gave.0 (contents c.do_other_command-back.new.writer)
+          (heard c.loop-rest.writer) (heard c.do_other_command-back.new.writer) c.in-Some-read_item.read.line.now (lines_left (option_copied c.in-Some-read_item.read.rest)) lines gave.1
           (rw c.in_ok-ran.was at (done.run.heard config (c.loop-rest.invariant.seated config seat))))
           (rw c.in_ok-ran.was at done.run.flushed)
           (omega (arith, stands.some))
