@@ -4,6 +4,7 @@ Run by itself it writes the page.
 """
 import re
 import sys
+import textwrap
 from pathlib import Path
 
 if __name__ == "__main__":
@@ -30,6 +31,9 @@ A name is followed by its spelling, so a definition is listed too often rather t
 - What a trait says that only bounds a type of which no clause speaks, as `SharedBook` in `run_session`. The clauses hold whatever it says.
 - How private fields make up what contracts see of a value. If a call takes or returns such values, as `Book`, the function that returns what contracts
   see of one is listed; if not, the type that they see, as `Parsed` of a `Filter`.
+- The cause of a refusal, and which limit was passed. No output of a session shows one, so what tells them can change no byte of it:
+{causes}.
+  What hears a session is told them, and a mounted tracer's `error_log` rests on them.
 - A function that reads a text, or the relation that says how such a text is written, if a theorem says that they agree: believe either. The shorter is
   listed. Where that is the relation, what the theorem says is listed in place of the function:
   {laws}. The last is of a filter of an event
@@ -102,6 +106,19 @@ READINGS = (
 )
 
 
+# What tells causes, and nothing else.
+CAUSES = {
+    ("trace_format", "fault"): ("DeclarationCause", "RowCause"),
+    ("trace_format", "Reading"): ("cause_in",),
+    ("trace_filter", "fault"): ("FilterCause",),
+    ("trace_filter", "FilterCauses"): ("cause_at",),
+    ("trace_trigger", "fault"): ("TextCause", "OperatorCause", "HistCause"),
+    ("trace_trigger", "TriggerTexts"): ("condition_cause",),
+    ("trace_trigger", "HistOffsets"): ("attribute_cause", "is_first"),
+    ("trace_command", "refusal"): ("Limit",),
+}
+
+
 def clauses_of(text, function):
     """The head of a function with its clauses."""
     start = re.search(r"pub fn %s[<(]" % function, text).start()
@@ -124,7 +141,7 @@ def without_fields(text, kept):
     return "\n".join(line for line, field in zip(lines, fields) if not field or field.group(1) in kept)
 
 
-def reached_from(places):
+def reached_from(places, left_out=CAUSES):
     """All definitions that these places rest on, each after those that it cites, and what they name that stands for nothing. Of what contracts see of
     a type, only what these clauses name."""
     library = Library()
@@ -136,6 +153,8 @@ def reached_from(places):
             return
         seen.add(definition)
         file = definition.file
+        if definition.name in left_out.get((file.crate, file.path.stem), ()):
+            return
         theorem = laws.get((file.crate, (file.path.stem, definition.name)))
         if theorem:
             for law in theorem:
@@ -186,10 +205,13 @@ def page():
     """The page as it is to be."""
     order, _ = reached_from(HEADLINE)
     listed = {(each.file.path, each.name) for each in order}
-    besides = [each for each in reached_from(MOUNT)[0] if (each.file.path, each.name) not in listed]
+    besides = [each for each in reached_from(MOUNT, {})[0] if (each.file.path, each.name) not in listed]
     laws = ", ".join("`%s`" % law for each in READINGS for law in each.laws)
     readings = "\n".join(each.row() for each in READINGS)
-    parts = [PREFACE.format(count=len(order), lines=format(lines_in(order), ","), laws=laws, readings=readings), contents(order)]
+    causes = ", ".join("`%s`" % name for names in CAUSES.values() for name in names)
+    causes = textwrap.fill(causes, 150, initial_indent="  ", subsequent_indent="  ")
+    counted = dict(count=len(order), lines=format(lines_in(order), ","), laws=laws, causes=causes, readings=readings)
+    parts = [PREFACE.format(**counted), contents(order)]
     parts.append(
         "\nWhat `serve_tracer`, the theorem of a mounted tracer, rests on besides is not printed here: %d definitions, %s lines.\n\n%s"
         % (len(besides), format(lines_in(besides), ","), contents(besides))
@@ -248,7 +270,7 @@ def believing_cases():
         return ["%s, %s: %s" % (each.file.crate, each.file.title(), each.name) for each in reached_from(HEADLINE)[0] if each.text not in text]
 
     def found(_):
-        missing = {**reached_from(HEADLINE)[1], **reached_from(MOUNT)[1]}
+        missing = {**reached_from(HEADLINE, {})[1], **reached_from(MOUNT, {})[1]}
         return ["%s, %s names %s, which stands for nothing" % (file.crate, file.title(), name) for file, name in missing]
 
     def short(_):

@@ -6,7 +6,7 @@ use Rattle.page_ring.specs.Events as ring
 use Rattle.trace_buffer.specs.Families.{cpu_stats}
 use Rattle.trace_filter.specs.Filters.{Parsed}
 use Rattle.trace_format.specs.Definitions.{Definition}
-use Rattle.trace_format.specs.Reading.{definition_of}
+use Rattle.trace_format.specs.Reading.{definition_of, cause_in}
 use Rattle.trace_trigger.specs.HistSpecs.{SpecSeen}
 use Rattle.trace_trigger.specs.TriggerTexts.{said_of}
 use Rattle.trace_trigger.specs.declared.fault.TriggerFault.{TriggerFault}
@@ -258,7 +258,7 @@ module _ (n : ℕ) (more less : List Request) (alike : AreAlike n more less) whe
   unfolding declaration_answer
   declared-same g append text = by (definition_of text)
     where
-      by : (read : Result Definition ℕ) → read_declaration_answer g more append read ≡ read_declaration_answer g less append read
+      by : (read : Result Definition ℕ) → read_declaration_answer g more append (cause_in text) read ≡ read_declaration_answer g less append (cause_in text) read
       by (Ok definition) = rw alike.events refl
       by (Err at) = refl
 

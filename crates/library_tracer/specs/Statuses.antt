@@ -33,9 +33,9 @@ reply_in _ = []
 
 -- where the string that was written is wrong
 abbrev pub offset_in : Outcome → Option ℕ
-offset_in (Refused (BadDefinition at)) = Some at
-offset_in (Refused (FilterSyntax at)) = Some at
+offset_in (Refused (BadDefinition at cause)) = Some at
+offset_in (Refused (FilterSyntax at cause)) = Some at
 offset_in (Refused (NoSuchField at)) = Some at
-offset_in (Refused (WrongOperator at)) = Some at
-offset_in (Refused (HistSyntax at)) = Some at
+offset_in (Refused (WrongOperator at cause)) = Some at
+offset_in (Refused (HistSyntax at cause)) = Some at
 offset_in _ = None

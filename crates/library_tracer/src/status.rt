@@ -53,11 +53,11 @@ pub(crate) fn offset_in(outcome: &Outcome) -> Option<usize>
 {
     match outcome {
         Outcome::Refused(
-            Refusal::BadDefinition { at }
-            | Refusal::FilterSyntax { at }
+            Refusal::BadDefinition { at, .. }
+            | Refusal::FilterSyntax { at, .. }
             | Refusal::NoSuchField { at }
-            | Refusal::WrongOperator { at }
-            | Refusal::HistSyntax { at },
+            | Refusal::WrongOperator { at, .. }
+            | Refusal::HistSyntax { at, .. },
         ) => Some(*at),
         _ => None,
     }

@@ -15,7 +15,7 @@ use Rattle.trace_command.specs.declared.refusal.Refusal.TheVariants as refusal
 use Rattle.trace_format.specs.Catalogs.{id_for, id_of}
 use Rattle.trace_format.specs.Cells.{record_size_of}
 use Rattle.trace_format.specs.Definitions.{Definition}
-use Rattle.trace_format.specs.Reading.{definition_of}
+use Rattle.trace_format.specs.Reading.{definition_of, cause_in}
 use Rattle.trace_format.specs.declared.fault.CatalogFault.TheVariants as catalog
 use Rattle.tracer_specification.proofs.LegalEvents.{asked-done}
 use Rattle.tracer_specification.specs.History.{added_answer, answer_with_room, declaration_answer, read_declaration_answer}
@@ -64,7 +64,7 @@ room-left g past event done =
     events = declared_events past
 
     by : (there many full big : Bool) → nat_le 64 (length events) ≡ full
-        → IsOk (added_answer (if there then Err catalog.EventExists else if many then Err catalog.TooMany else if full then Err catalog.TooMany else if big then Err catalog.TooBig else Ok (length events + 1)))
+        → IsOk (added_answer (if there then Err catalog.EventExists else if many then Err catalog.TooManyFields else if full then Err catalog.TooManyEvents else if big then Err catalog.TooBig else Ok (length events + 1)))
         → length events < 64
     by true many full big a d = absurd (false≢true d)
     by false true full big a d = absurd (false≢true d)
@@ -83,7 +83,7 @@ declared-room g past (WriteFile instance (Some SyntheticEvents) append text) eve
     by_busy true d = absurd (false≢true d)
     by_busy false d = room-left g past event d
 
-    by : (read : Result Definition ℕ) → IsOk (read_declaration_answer g past append read) → result_ok read ≡ Some event → length (declared_events past) < 64
+    by : (read : Result Definition ℕ) → IsOk (read_declaration_answer g past append (cause_in text) read) → result_ok read ≡ Some event → length (declared_events past) < 64
     by (Err at) d e = absurd (none-some event e)
     by (Ok found) d e =
         let same : found ≡ event = same_Some _ _ e in by_busy (not append && nat_lt 0 (length (declared_events past))) (rw same at d)

@@ -8,7 +8,7 @@ use Rattle.trace_format.proofs.Standings.{Stands, stands-start, stands-step, dec
 use Rattle.trace_format.specs.Catalogs.{id_of, id_for, IsEvent}
 use Rattle.trace_format.specs.Cells.{record_size_of}
 use Rattle.trace_format.specs.Definitions.{Definition, IsDefinition}
-use Rattle.trace_format.specs.Reading.{Standing, step, start, finish, reading, definition_of}
+use Rattle.trace_format.specs.Reading.{Standing, step, start, finish, reading, definition_of, cause_in}
 use Rattle.trace_format.specs.Words.{Spot, spots_of}
 use Rattle.trace_format.specs.declared.fault.CatalogFault.TheVariants as catalog
 use Rattle.trace_command.specs.Paths.{SyntheticEvents}
@@ -51,7 +51,7 @@ added-new g past event defined done =
     events = declared_events past
 
     by : (there many full big : Bool) → is_some (id_of events event.name) ≡ there → nat_lt 16 (length event.fields) ≡ many
-        → IsOk (added_answer (if there then Err catalog.EventExists else if many then Err catalog.TooMany else if full then Err catalog.TooMany else if big then Err catalog.TooBig else Ok (length events + 1)))
+        → IsOk (added_answer (if there then Err catalog.EventExists else if many then Err catalog.TooManyFields else if full then Err catalog.TooManyEvents else if big then Err catalog.TooBig else Ok (length events + 1)))
         → IsEvent events event
     by true many full big a b done = absurd (false≢true done)
     by false true full big a b done = absurd (false≢true done)
@@ -70,7 +70,7 @@ declared-new g past (WriteFile instance (Some SyntheticEvents) append text) even
     by_busy true defined d = absurd (false≢true d)
     by_busy false defined d = added-new g past event defined d
 
-    by : (read : Result Definition ℕ) → definition_of text ≡ read → IsOk (read_declaration_answer g past append read) → result_ok read ≡ Some event
+    by : (read : Result Definition ℕ) → definition_of text ≡ read → IsOk (read_declaration_answer g past append (cause_in text) read) → result_ok read ≡ Some event
         → IsEvent (declared_events past) event
     by (Err at) was d e = absurd (none-some event e)
     by (Ok found) was d e =

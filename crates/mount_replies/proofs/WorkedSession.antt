@@ -29,8 +29,8 @@ use Rattle.mount_replies.specs.Lines.{command_lines, stream_lines}
 use Rattle.fuse_wire.specs.Parts.{number_bytes}
 use Rattle.fuse_wire.specs.declared.request.Operation.{Operation}
 use Rattle.fuse_wire.specs.declared.request.Operation.TheVariants.{Flush, Read, Release, Write}
-use Rattle.refusal_explanations.specs.TriggerDue.{trigger_due}
-use Rattle.refusal_explanations.specs.Wording.{refusal_words, value_words}
+use Rattle.refusal_explanations.specs.TriggerStrings.{trigger_words}
+use Rattle.refusal_explanations.specs.Wording.{refusal_words}
 use Rattle.trace_command.specs.declared.file_name.EventFile.TheVariants as per_event
 use Rattle.trace_command.specs.declared.file_name.TopFile.TheVariants as top_files
 use Rattle.mount_tree.specs.Nodes.{number_of}
@@ -157,7 +157,7 @@ unfolding digits head_bytes head_of timestamp account has_waiting readings_of st
     asked_of emission_of line_of named_command named_line pair_of pairs_of process_id spoken tokens_of
     filter_holds record_bytes shown_pipe declaration_answer emission_answer switch_answer written_flag waiting limited_answer
     event_folder left_out pairs_of_line command_lines stream_lines
-    number_bytes trigger_answer said_of snapshot_said snapshot_trigger_of count_of refusal_words value_words trigger_due
+    number_bytes trigger_answer said_of snapshot_said snapshot_trigger_of count_of refusal_words trigger_words
 are_computed = record {
   sessions = record {
     events = refl;

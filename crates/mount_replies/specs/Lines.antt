@@ -197,7 +197,7 @@ written handle size files done (Some line) =
 -- a write that was refused is noted, with what is wrong, unless memory was refused
 abbrev pub noted_refusal : ErrorSeen → List ℕ → List ℕ → List ℕ → Refusal → Noting
 noted_refusal begun path text shown Memory = Keeps
-noted_refusal begun path text shown refusal = Notes (refused begun shown (write_words path text refusal) (write_offset path text refusal))
+noted_refusal begun path text shown refusal = Notes (refused begun shown (write_words path text refusal) (write_offset text refusal))
 
 abbrev pub noted_command : ErrorSeen → List ℕ → File → List ℕ → LineFault → Noting
 noted_command begun path file text (Refused refusal) = noted_refusal begun path (command_text file text) text refusal

@@ -24,7 +24,6 @@ use Rattle.error_log.specs.LogLaws.{Change, Cleared, Noted, StandsUnder, last_ei
 use Rattle.error_log.specs.Logs.{errors_of}
 use Rattle.mount_tree.specs.Children.{is_there}
 use Rattle.file_list.specs.FileKinds.{access_of_file, kind_of_file}
-use Rattle.mount_tree.specs.NodePaths.{path_of}
 use Rattle.file_list.specs.declared.file.File.{File}
 use Rattle.file_list.specs.declared.file.File.TheVariants as files
 use Rattle.file_list.specs.declared.file.FileKind.TheVariants as kinds
@@ -197,7 +196,7 @@ pub data IsBlamed (g : Terms) (s : Service) (pid : ℕ) (operation : Operation) 
   -- of a command, which is the first line that was written and is not blank, the one that its refusal says
   OfCommand : (own : List ℕ) (refusal : Refusal) → Writes operation own
       → IsFirstRefused g s.past (written_lines (scene_of g s) file.owner file.file (not file.starts_over) own) text (Refused refusal) → errno ≡ errno_of refusal
-      → offset ≡ write_offset (path_of (scene_of g s) (node_of file)) (command_text file.file text) refusal → IsBlamed g s pid operation file text offset errno
+      → offset ≡ write_offset (command_text file.file text) refusal → IsBlamed g s pid operation file text offset errno
   -- of a line of `inject`, the one that its fault says; where open files keep lines, it is the first line that was not done
   OfEvent : (event : Definition) (fault : LineFault) → EndsLines operation → event_injected s file.file ≡ Some event
       → (KeepLines s → IsFirstNotDone g s pid operation file event text fault) → errno ≡ errno_of_fault fault

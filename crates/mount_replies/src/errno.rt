@@ -19,11 +19,12 @@ pub(crate) fn errno_of(refusal: &Refusal) -> Errno
         Refusal::NotReadable | Refusal::NotWritable => Errno::EACCES,
         Refusal::EventExists | Refusal::TriggerExists | Refusal::InstanceExists => Errno::EEXIST,
         Refusal::TooBig => Errno::E2BIG,
-        Refusal::TooMany | Refusal::HistoryFull => Errno::ENOSPC,
+        Refusal::TooMany { .. } | Refusal::HistoryFull => Errno::ENOSPC,
         Refusal::Busy => Errno::EBUSY,
         Refusal::NoSuchCpu => Errno::ENXIO,
         Refusal::Memory => Errno::ENOMEM,
         Refusal::BadValue
+        | Refusal::BadTrigger { .. }
         | Refusal::BadDefinition { .. }
         | Refusal::FilterSyntax { .. }
         | Refusal::NoSuchField { .. }

@@ -47,7 +47,7 @@ fn note_refusal(errors: &mut ErrorLog, path: &[u8], text: &[u8], shown: &[u8], r
         path,
         text,
         shown,
-        write_offset(path, text, refusal),
+        write_offset(text, refusal),
         refusal,
     );
 }

@@ -14,6 +14,7 @@ use Rattle.trace_command.specs.declared.command.Config.{Config}
 use Rattle.trace_command.specs.declared.command.Reply.{Reply}
 use Rattle.trace_command.specs.declared.command.Reply.TheVariants.{Done}
 use Rattle.trace_command.specs.declared.refusal.Refusal.{Refusal}
+use Rattle.trace_command.specs.declared.refusal.Limit.TheVariants as limit
 use Rattle.trace_command.specs.declared.refusal.Refusal.TheVariants as refusal
 use Rattle.trace_format.specs.Catalogs.{AreEvents}
 use Rattle.trace_format.specs.Definitions.{Definition}
@@ -121,7 +122,7 @@ unfolding named_answer
 made-new past name done = by (is_name name) (is_there (Some name) past) refl refl done
   where
     rest : Result Reply Refusal
-    rest = cond (nat_lt (length (instance_names past)) most_instances) (Ok Done) (Err refusal.TooMany)
+    rest = cond (nat_lt (length (instance_names past)) most_instances) (Ok Done) (Err (refusal.TooMany limit.Instances))
 
     by : (good there : Bool) → is_name name ≡ good → is_there (Some name) past ≡ there
         → IsOk (cond (not good) (Err refusal.BadValue) (cond there (Err refusal.InstanceExists) rest)) → IsNewName past name

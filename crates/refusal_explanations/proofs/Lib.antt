@@ -1,4 +1,3 @@
 pub mod CaretLemmas
-pub mod HistLemmas
+pub mod AttributeLemmas
 pub mod InjectionLemmas
-pub mod OpeningLemmas

@@ -1,10 +1,7 @@
 pub mod Bytes
 pub mod Carets
-pub mod FilterDue
-pub mod Openings
-pub mod DeclarationDue
-pub mod HistDue
-pub mod TriggerDue
+pub mod CauseWords
+pub mod TriggerStrings
 pub mod Wording
 pub mod Places
 pub mod Layout

@@ -9,5 +9,5 @@ abbrev pub write_words : List ℕ → List ℕ → Refusal → List ℕ
 write_words path text refusal = refusal_words (subject_at path) path text refusal
 
 -- the offset of the byte of what is written that is to blame; 0, if none is
-abbrev pub write_offset : List ℕ → List ℕ → Refusal → ℕ
-write_offset path text refusal = unwrap_or (blamed_offset path text refusal) 0
+abbrev pub write_offset : List ℕ → Refusal → ℕ
+write_offset text refusal = unwrap_or (blamed_offset text refusal) 0

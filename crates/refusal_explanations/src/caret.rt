@@ -1,10 +1,9 @@
 //! Which byte of a line is a byte of what it writes, where its words begin, and where a quote begins that is not closed.
 
 ghost use Rattle.std.specs.Prelude.{◌≡◌, ◌-◌, ◌^◌, ◌<◌, ◌++◌, IfOk, OnOk};
-ghost use Rattle.trace_script.specs.Tokens.{is_end};
+ghost use Rattle.trace_script.specs.Tokens.{is_end, is_quote};
 ghost use Rattle.refusal_explanations.specs.Carets as carets;
 
-use crate::filter_due::is_quote;
 use std::alloc::{AllocError, Global};
 use trace_lex::is_blank;
 
@@ -20,6 +19,12 @@ pub(crate) enum Stand {
     InWord,
     /// In a part of a word within these quotes.
     InQuotes(u8),
+}
+
+pub(crate) fn is_quote(byte: u8) -> bool
+    ensures { result ≡ is_quote byte }
+{
+    byte == b'\'' || byte == b'"'
 }
 
 /// A byte at which a word ends.

@@ -1,9 +1,7 @@
 //! Strings up to an offset, from one on, and up to a byte.
 
-ghost use Rattle.std.specs.Prelude.{◌≡◌, ◌≤◌, drop, length, reverse, take};
-ghost use Rattle.std.specs.List.{list_any, prefix_len};
-ghost use Rattle.std.specs.Str.{bytes_eq};
-ghost use Rattle.trace_lex.specs.Prefixes.{is_not};
+ghost use Rattle.std.specs.Prelude.{◌≡◌, ◌≤◌, drop, length, take};
+ghost use Rattle.std.specs.List.{prefix_len};
 ghost use Rattle.trace_trigger.specs.Frames as frames;
 ghost use Rattle.trace_trigger.specs.TriggerTexts as texts;
 ghost use Rattle.refusal_explanations.specs.Bytes as bytes;
@@ -48,15 +46,14 @@ pub(crate) fn part_before(end: u8, text: &[u8]) -> &[u8]
     &word[..len_before(end, word)]
 }
 
-/// How many bytes follow the last one of this value.
-pub(crate) fn len_after_last(byte: u8, text: &[u8]) -> usize
-    ensures value { result ≡ prefix_len (is_not byte) (reverse text.now) }
-    ensures bound { result ≤ length text.now }
+/// Whether a string ends with a byte.
+pub(crate) fn ends_with(byte: u8, text: &[u8]) -> bool
+    ensures { result ≡ bytes.ends_with byte text.now }
 {
-    text.iter()
-        .rev()
-        .take_while(|other| **other != byte)
-        .count()
+    match text.last() {
+        Some(last) => *last == byte,
+        None => false,
+    }
 }
 
 /// Whether a string begins so.
@@ -64,20 +61,6 @@ pub(crate) fn begins(beginning: &[u8], text: &[u8]) -> bool
     ensures { result ≡ texts.begins beginning.now text.now }
 {
     text.starts_with(beginning)
-}
-
-/// Whether a blank is there.
-pub(crate) fn has_blank(text: &[u8]) -> bool
-    ensures { result ≡ bytes.has_blank text.now }
-{
-    word_len(text) < text.len()
-}
-
-/// Whether a string is one of these words.
-pub(crate) fn is_one_of(text: &[u8], words: &[&str]) -> bool
-    ensures { result ≡ list_any (λ word. bytes_eq text.now word.now) words.now }
-{
-    words.iter().any(|word| text == word.as_bytes())
 }
 
 /// Strings one after the other.

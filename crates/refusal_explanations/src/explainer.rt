@@ -11,7 +11,7 @@ use crate::fault::{fault_offset, fault_words, name_of};
 use crate::layout::{ScriptLine, shown};
 use crate::meant::{command_meant, line_meant};
 use crate::place::refusal_offset;
-use crate::row::row_fault;
+use crate::row::{cause_words, row_cause};
 use crate::subject::{command_of, command_subject, path_of, written_in};
 use crate::wording::refusal_words;
 use std::alloc::{AllocError, Global};
@@ -36,9 +36,9 @@ fn command_words(
     refusal: &Refusal,
 ) -> Result<Vec<u8>, AllocError> {
     if let Refusal::BadRow { field } = refusal {
-        let fault = row_fault(events, command, field.as_bytes());
+        let cause = row_cause(alloc, events, command)?;
         let mut words = joined(alloc, &[field.as_bytes(), b": "])?;
-        words.extend_from_slice(fault.0.as_bytes())?;
+        words.extend_from_slice(cause_words(cause).as_bytes())?;
         return Ok(words);
     }
     let subject = command_subject(command);

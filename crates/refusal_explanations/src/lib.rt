@@ -3,21 +3,18 @@
 #![tactic(auto)]
 
 mod caret;
+mod cause;
 mod cut;
-mod declaration_due;
 mod explainer;
 mod fault;
-mod filter_due;
-mod hist_due;
 mod injection;
 mod layout;
 mod meant;
 mod near;
-mod openings;
 mod place;
 mod row;
 mod subject;
-mod trigger_due;
+mod trigger_string;
 mod wording;
 
 pub use cut::{after, up_to};

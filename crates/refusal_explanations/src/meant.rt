@@ -1,20 +1,18 @@
 //! What was meant, if something that is near is there.
 
-use crate::cut::{after, begins, has_blank, part_before, up_to};
-use crate::declaration_due::{DeclarationDue, declaration_due};
-use crate::filter_due::FilterDue;
-use crate::hist_due::{is_attribute_name, last_part};
+use crate::cut::{after, begins, part_before, up_to};
 use crate::near::{first_near, is_near, near_path};
 use crate::subject::{
     Subject, command_subject, event_named, event_of, field_named, path_of, written_in,
 };
-use crate::trigger_due::mark_len;
-use crate::wording::filter_due_at;
+use crate::trigger_string::mark_len;
 use std::alloc::{AllocError, Global};
 use trace_command::{OwnedCommand, Refusal};
-use trace_format::EventDef;
+use trace_filter::FilterCause;
+use trace_format::{DeclarationCause, EventDef};
 use trace_lex::{is_name_byte, len_before, trim, trim_end};
 use trace_script::ScriptFault;
+use trace_trigger::HistCause;
 
 // ---- what is always there
 
@@ -31,37 +29,37 @@ fn type_meant(given: &[u8]) -> &'static str {
     }
 }
 
-/// The type that was meant in a declaration.
-fn declaration_meant(text: &[u8], at: usize) -> &'static str {
-    match declaration_due(up_to(at, text)) {
-        DeclarationDue::FieldType => type_meant(part_before(b';', after(at, text))),
+/// The type that was meant in a declaration, if one is due where these bytes follow.
+fn declaration_meant(cause: DeclarationCause, rest: &[u8]) -> &'static str {
+    match cause {
+        DeclarationCause::FieldType => type_meant(part_before(b';', rest)),
         _ => "",
     }
 }
 
-/// By what is no value for its file: an option that is given, as between blanks, or else that is near; the beginning of a trigger.
-fn value_meant(subject: Subject, text: &[u8]) -> &'static str {
-    match subject {
-        Subject::Options => match trim(text) {
-            b"nooverwrite" => "nooverwrite",
-            b"overwrite" => "overwrite",
-            given => first_near(given, &["nooverwrite", "overwrite"]),
-        },
-        Subject::Trigger => match part_before(b':', after(mark_len(text), text)) {
-            given if is_near(given, b"hist") => "hist:",
-            given => first_near(given, &["snapshot"]),
-        },
-        _ => "",
+/// The option that was meant: one that is given, as between blanks, or else that is near.
+fn option_meant(text: &[u8]) -> &'static str {
+    match trim(text) {
+        b"nooverwrite" => "nooverwrite",
+        b"overwrite" => "overwrite",
+        given => first_near(given, &["nooverwrite", "overwrite"]),
     }
 }
 
-/// The attribute that was meant in a hist trigger.
-fn attribute_meant(text: &[u8], at: usize) -> &'static str {
-    let front = up_to(at, text);
-    let part = part_before(b':', after(at, text));
-    if has_blank(front) || !last_part(front).is_empty() || is_attribute_name(part) {
+/// The beginning of a trigger that was meant.
+fn trigger_meant(text: &[u8]) -> &'static str {
+    match part_before(b':', after(mark_len(text), text)) {
+        given if is_near(given, b"hist") => "hist:",
+        given => first_near(given, &["snapshot"]),
+    }
+}
+
+/// The attribute that was meant in a hist trigger, where these bytes begin none.
+fn attribute_meant(cause: HistCause, rest: &[u8]) -> &'static str {
+    let HistCause::Unknown = cause else {
         return "";
-    }
+    };
+    let part = part_before(b':', rest);
     first_near(
         up_to(len_before(b'=', part).saturating_add(1), part),
         &[
@@ -79,9 +77,9 @@ fn ends_with_not(front: &[u8]) -> bool {
 }
 
 /// The operator that is meant in a filter between these bytes, where half of one is written, or one with its bytes exchanged, or its name.
-fn operator_meant(due: FilterDue, front: &[u8], rest: &[u8]) -> &'static str {
-    match due {
-        FilterDue::Name | FilterDue::Operator => match rest {
+fn operator_meant(cause: FilterCause, front: &[u8], rest: &[u8]) -> &'static str {
+    match cause {
+        FilterCause::Operator => match rest {
             [b'=', b'>', ..] => ">=",
             [b'=', b'<', ..] => "<=",
             [b'=', b'!', ..] => "!=",
@@ -90,8 +88,8 @@ fn operator_meant(due: FilterDue, front: &[u8], rest: &[u8]) -> &'static str {
             _ if ends_with_not(trim_end(front)) => "!(..)",
             _ => "",
         },
-        FilterDue::Bare | FilterDue::Joint if begins(b"&", rest) || begins(b"and ", rest) => "&&",
-        FilterDue::Bare | FilterDue::Joint if begins(b"|", rest) || begins(b"or ", rest) => "||",
+        FilterCause::Joint if begins(b"&", rest) || begins(b"and ", rest) => "&&",
+        FilterCause::Joint if begins(b"|", rest) || begins(b"or ", rest) => "||",
         _ => "",
     }
 }
@@ -146,14 +144,16 @@ pub(crate) fn command_meant(
             return near_path(alloc, events, path_of(command));
         }
         Refusal::NoSuchEvent => event_meant(events, event),
-        Refusal::BadValue => value_meant(subject, text).as_bytes(),
-        Refusal::BadDefinition { at } => declaration_meant(text, *at).as_bytes(),
-        Refusal::HistSyntax { at } => attribute_meant(text, *at).as_bytes(),
+        Refusal::BadValue if matches!(subject, Subject::Options) => option_meant(text).as_bytes(),
+        Refusal::BadTrigger { .. } => trigger_meant(text).as_bytes(),
+        Refusal::BadDefinition { at, cause } => {
+            declaration_meant(*cause, after(*at, text)).as_bytes()
+        }
+        Refusal::HistSyntax { at, cause } => attribute_meant(*cause, after(*at, text)).as_bytes(),
         Refusal::NoSuchField { at } => operand_meant(events, event, after(*at, text)),
         Refusal::BadRow { field } => field_meant(events, event, field.as_bytes()),
-        Refusal::FilterSyntax { at } => {
-            let due = filter_due_at(subject, text, *at);
-            operator_meant(due, up_to(*at, text), after(*at, text)).as_bytes()
+        Refusal::FilterSyntax { at, cause } => {
+            operator_meant(*cause, up_to(*at, text), after(*at, text)).as_bytes()
         }
         _ => b"",
     };

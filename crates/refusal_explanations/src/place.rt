@@ -7,13 +7,11 @@ ghost use Rattle.refusal_explanations.specs.Writes as writes;
 
 use crate::caret::{starts, written_offset};
 use crate::cut::first_word;
-use crate::hist_due::attribute_at;
-use crate::row::row_fault;
-use crate::subject::{Subject, written_subject};
-use crate::trigger_due::trigger_offset;
+use crate::row::{blamed_pair, row_cause};
+use crate::trigger_string::{attribute_at, trigger_offset};
 use std::alloc::{AllocError, Global};
 use trace_command::{OwnedCommand, Refusal};
-use trace_format::EventDef;
+use trace_format::{EventDef, RowCause};
 use trace_lex::blanks_len;
 
 /// The offset that a refusal names in what is written, if it names one.
@@ -21,56 +19,54 @@ fn named_offset(refusal: &Refusal) -> Option<usize>
     ensures { result ≡ places.named_offset refusal.now }
 {
     match refusal {
-        Refusal::BadDefinition { at }
-        | Refusal::FilterSyntax { at }
+        Refusal::BadDefinition { at, .. }
+        | Refusal::FilterSyntax { at, .. }
         | Refusal::NoSuchField { at }
-        | Refusal::WrongOperator { at }
-        | Refusal::HistSyntax { at } => Some(*at),
+        | Refusal::WrongOperator { at, .. }
+        | Refusal::HistSyntax { at, .. } => Some(*at),
         _ => None,
     }
 }
 
 /// The byte of what is written that is to blame, if one is, though the refusal names none.
-fn other_offset(subject: Subject, text: &[u8], refusal: &Refusal) -> Option<usize>
-    ensures { result ≡ places.other_offset subject text.now refusal.now }
+fn other_offset(text: &[u8], refusal: &Refusal) -> Option<usize>
+    ensures { result ≡ places.other_offset text.now refusal.now }
 {
     match refusal {
         Refusal::BadSize => match attribute_at(b":size=", first_word(text)) {
             Some(at) => Some(at + 1),
             None => None,
         },
-        Refusal::BadValue => match subject {
-            Subject::Trigger => Some(trigger_offset(text)),
-            _ => Some(blanks_len(text)),
-        },
-        Refusal::EventExists
+        Refusal::BadTrigger { cause } => Some(trigger_offset(*cause, text)),
+        Refusal::BadValue
+        | Refusal::EventExists
         | Refusal::TooBig
         | Refusal::TriggerExists
         | Refusal::NoSuchTrigger
-        | Refusal::TooMany
+        | Refusal::TooMany { .. }
         | Refusal::Busy => Some(blanks_len(text)),
         _ => None,
     }
 }
 
-/// The offset of the byte of a text that is to blame for the refusal of its write to the file of this path; 0, if none is.
-pub fn write_offset(path: &[u8], text: &[u8], refusal: &Refusal) -> usize
-    ensures { result ≡ writes.write_offset path.now text.now refusal.now }
+/// The offset of the byte of a text that is to blame for the refusal of its write; 0, if none is.
+pub fn write_offset(text: &[u8], refusal: &Refusal) -> usize
+    ensures { result ≡ writes.write_offset text.now refusal.now }
 {
-    let other = other_offset(written_subject(path), text, refusal);
+    let other = other_offset(text, refusal);
     named_offset(refusal).or(other).unwrap_or(0)
 }
 
 /// Where the word of a line begins that is to blame, if one is: of a row the pair, or else the event; of other commands the path, which comes last.
 fn blamed_word(
-    events: &[EventDef],
     command: &OwnedCommand,
+    cause: Option<RowCause>,
     refusal: &Refusal,
     starts: &[usize],
 ) -> Option<usize> {
     let index = match (command, refusal) {
         (_, Refusal::HistoryFull | Refusal::Memory | Refusal::Worn) => return None,
-        (_, Refusal::BadRow { field }) => match row_fault(events, command, field.as_bytes()).1 {
+        (_, Refusal::BadRow { field }) => match blamed_pair(command, field.as_bytes(), cause) {
             Some(index) => index.saturating_add(4),
             None => 3,
         },
@@ -89,14 +85,14 @@ fn other_place(
     command: &OwnedCommand,
     refusal: &Refusal,
 ) -> Result<Option<usize>, AllocError> {
-    if let OwnedCommand::Write { path, text, .. } = command {
-        let subject = written_subject(path.as_bytes());
-        if let Some(at) = other_offset(subject, text.as_bytes(), refusal) {
+    if let OwnedCommand::Write { text, .. } = command {
+        if let Some(at) = other_offset(text.as_bytes(), refusal) {
             return written_offset(alloc, line, at);
         }
     }
     let starts = starts(alloc, line)?;
-    Ok(blamed_word(events, command, refusal, &starts))
+    let cause = row_cause(alloc, events, command)?;
+    Ok(blamed_word(command, cause, refusal, &starts))
 }
 
 /// The offset in a line of the byte that is to blame for a refusal of its command.

@@ -14,12 +14,8 @@ use trace_script::{Line, LineError, prepare};
 pub(crate) enum Subject {
     /// A declaration is written.
     Declaration,
-    /// An event's filter is written.
-    Filter,
     /// The filter of all events is written.
     AllFilters,
-    /// A trigger is written.
-    Trigger,
     /// A file that takes any number is written.
     Number,
     /// A file that takes `0` and `1` is written.
@@ -43,8 +39,6 @@ pub(crate) fn written_subject(path: &[u8]) -> Subject
     match address_of(path).file {
         Some(FileName::SyntheticEvents) => Subject::Declaration,
         Some(FileName::OfEvent(_, EventFile::Enable)) => Subject::Switch,
-        Some(FileName::OfEvent(_, EventFile::Filter)) => Subject::Filter,
-        Some(FileName::OfEvent(_, EventFile::Trigger)) => Subject::Trigger,
         Some(FileName::OfInstance(TopFile::Overwrite | TopFile::EventsEnable)) => Subject::Switch,
         Some(FileName::OfInstance(TopFile::TraceOptions)) => Subject::Options,
         Some(FileName::OfInstance(TopFile::TracingOn | TopFile::Snapshot)) => Subject::Number,

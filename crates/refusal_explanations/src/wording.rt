@@ -4,15 +4,11 @@ ghost use Rattle.std.specs.Prelude.{◌≡◌};
 ghost use Rattle.refusal_explanations.specs.Wording as wording;
 ghost use Rattle.refusal_explanations.specs.Writes as writes;
 
-use crate::cut::{after, begins, first_word, has_blank, up_to};
-use crate::declaration_due::declaration_words;
-use crate::filter_due::{FilterDue, filter_due, filter_due_words};
-use crate::hist_due::{attribute_at, ends_with, hist_due_words, hist_field_words, others_of};
-use crate::openings::is_deep;
+use crate::cause::{declaration_words, filter_words, hist_words, limit_words, operator_words};
+use crate::cut::{after, begins, first_word};
 use crate::subject::{Subject, written_subject};
-use crate::trigger_due::{condition_start, trigger_due_words};
+use crate::trigger_string::{attribute_at, trigger_words};
 use trace_command::Refusal;
-use trace_lex::{trim, trim_end};
 
 fn unknown_words(subject: Subject) -> &'static str
     ensures { result.now ≡ wording.unknown_words subject }
@@ -34,8 +30,8 @@ fn path_words(subject: Subject, path: &[u8]) -> &'static str
 }
 
 #[tactic(auto, unfolding(crate::specs::Wording::value_words))]
-fn value_words(subject: Subject, text: &[u8]) -> &'static str
-    ensures { result.now ≡ wording.value_words subject text.now }
+fn value_words(subject: Subject) -> &'static str
+    ensures { result.now ≡ wording.value_words subject }
 {
     match subject {
         Subject::Instance => "an instance can't have this name",
@@ -43,36 +39,7 @@ fn value_words(subject: Subject, text: &[u8]) -> &'static str
         Subject::Switch => "expected `0` or `1`",
         Subject::Options => "expected `overwrite` or `nooverwrite`",
         Subject::Number => "expected a decimal number below 2^64",
-        Subject::Trigger => trigger_due_words(text),
         _ => "the file doesn't take what is written",
-    }
-}
-
-/// Where a filter begins in what is written.
-fn filter_start(subject: Subject, text: &[u8]) -> usize
-    ensures { result ≡ wording.filter_start subject text.now }
-{
-    match subject {
-        Subject::Trigger => condition_start(text),
-        _ => 0,
-    }
-}
-
-/// What a filter may go on with at an offset of what is written.
-pub(crate) fn filter_due_at(subject: Subject, text: &[u8], at: usize) -> FilterDue
-    ensures { result ≡ wording.filter_due_at subject text.now at }
-{
-    filter_due(after(filter_start(subject, text), up_to(at, text)))
-}
-
-/// What is wrong with an operator, or, before the first blank of a trigger, with a field that is a string.
-fn operator_words(subject: Subject, text: &[u8], at: usize) -> &'static str
-    ensures { result.now ≡ wording.operator_words subject text.now at }
-{
-    match subject {
-        Subject::Trigger if !has_blank(up_to(at, text)) => hist_field_words(up_to(at, text)),
-        _ if begins(b"~", after(at, text)) => "a number doesn't take `~`",
-        _ => "a string takes no operator but `==`, `!=` and `~`",
     }
 }
 
@@ -88,70 +55,6 @@ fn exists_words(text: &[u8]) -> &'static str
     }
 }
 
-// ---- what there are too many of
-
-/// Whether a declaration has over 16 fields.
-fn has_many_fields(text: &[u8]) -> bool
-    ensures { result ≡ wording.has_many_fields text.now }
-{
-    let most = if ends_with(b';', text) { 16 } else { 15 };
-    text.iter().filter(|byte| **byte == b';').count() > most
-}
-
-/// What there is too much of in a filter, which is that of a trigger or not.
-fn filter_most_words(is_of_trigger: bool, filter: &[u8]) -> &'static str
-    ensures { result.now ≡ wording.filter_most_words is_of_trigger filter.now }
-{
-    if trim(filter).len() > 1024 {
-        "a filter has at most 1,024 bytes"
-    } else if is_of_trigger && !is_deep(filter) {
-        "the event has four triggers already"
-    } else {
-        "at most 16 `!` and `(` may be open"
-    }
-}
-
-/// Whether an attribute has over so many items other than this one; no item is a comma.
-fn has_over(most: usize, attribute: &[u8], item: &[u8], text: &[u8]) -> bool
-    ensures { result ≡ wording.has_over most attribute.now item.now text.now }
-{
-    others_of(attribute, item, text) > most
-}
-
-#[tactic(auto, unfolding(crate::specs::Wording::trigger_most_words))]
-fn trigger_most_words(text: &[u8]) -> &'static str
-    ensures { result.now ≡ wording.trigger_most_words text.now }
-{
-    let word = first_word(text);
-    if has_over(3, b":keys=", b",", word) || has_over(3, b":key=", b",", word) {
-        "a hist trigger has at most three keys"
-    } else if has_over(3, b":values=", b"hitcount", word)
-        || has_over(3, b":vals=", b"hitcount", word)
-        || has_over(3, b":val=", b"hitcount", word)
-    {
-        "a hist trigger has at most three values"
-    } else if has_over(2, b":sort=", b",", word) {
-        "a hist trigger is sorted by at most two names"
-    } else {
-        filter_most_words(true, after(condition_start(text), text))
-    }
-}
-
-#[tactic(auto, unfolding(crate::specs::Wording::most_words))]
-fn most_words(subject: Subject, text: &[u8]) -> &'static str
-    ensures { result.now ≡ wording.most_words subject text.now }
-{
-    match subject {
-        Subject::Declaration if has_many_fields(trim_end(text)) => "an event has at most 16 fields",
-        Subject::Declaration => "there are 64 events already",
-        Subject::Instance => "there are eight instances already",
-        Subject::Trigger => trigger_most_words(text),
-        _ => filter_most_words(false, text),
-    }
-}
-
-// ---- all refusals
-
 /// What is wrong with a command about this that names this path and writes this.
 #[tactic(auto, unfolding(crate::specs::Wording::refusal_words))]
 pub(crate) fn refusal_words(
@@ -166,24 +69,23 @@ pub(crate) fn refusal_words(
         (Refusal::NoSuchFile, _) => path_words(subject, path),
         (Refusal::NotReadable, _) => "the file can't be read",
         (Refusal::NotWritable, _) => "the file can't be written",
-        (Refusal::BadValue, _) => value_words(subject, text),
+        (Refusal::BadValue, _) => value_words(subject),
+        (Refusal::BadTrigger { cause }, _) => trigger_words(*cause, text),
         (Refusal::NoSuchEvent, Subject::AllFilters) => "no event is declared",
         (Refusal::NoSuchEvent, _) => "no event of this name is declared",
         (Refusal::EventExists, _) => "an event of this name is declared already",
-        (Refusal::BadDefinition { at }, _) => declaration_words(text, *at),
+        (Refusal::BadDefinition { at, cause }, _) => declaration_words(*cause, after(*at, text)),
         (Refusal::TooBig, _) => "a record of the event would be longer than a page",
-        (Refusal::FilterSyntax { at }, _) => {
-            filter_due_words(filter_due_at(subject, text, *at), after(*at, text))
-        }
+        (Refusal::FilterSyntax { at, cause }, _) => filter_words(*cause, after(*at, text)),
         (Refusal::NoSuchField { .. }, Subject::AllFilters) => "an event has no field of this name",
         (Refusal::NoSuchField { .. }, _) => "the event has no field of this name",
-        (Refusal::WrongOperator { at }, _) => operator_words(subject, text, *at),
-        (Refusal::HistSyntax { at }, _) => hist_due_words(up_to(*at, text), after(*at, text)),
+        (Refusal::WrongOperator { at, cause }, _) => operator_words(*cause, after(*at, text)),
+        (Refusal::HistSyntax { cause, .. }, _) => hist_words(*cause),
         (Refusal::BadSize, _) => "expected a size from 65 to 131072",
         (Refusal::TriggerExists, _) => exists_words(text),
         (Refusal::NoSuchTrigger, _) if begins(b"!", text) => "the event has no such trigger",
         (Refusal::NoSuchTrigger, _) => "expected `>>` and a trigger that the event has",
-        (Refusal::TooMany, _) => most_words(subject, text),
+        (Refusal::TooMany { limit }, _) => limit_words(*limit),
         (Refusal::InstanceExists, _) => "there is an instance of this name already",
         (Refusal::NoSuchInstance, _) => "there is no instance of this name",
         (Refusal::Busy, Subject::Declaration) => {

@@ -8,6 +8,9 @@ use Rattle.script_reader.specs.Items.{Item, Single, Threads, Faulty}
 use Rattle.script_reader.specs.PartReads.{commands_in, IsLineAt}
 use Rattle.script_reader.specs.declared.item.ItemRead.TheVariants as reads
 use Rattle.script_reader.specs.declared.item.ItemRead.{ItemRead}
+use Rattle.script_reader.specs.declared.item.NextItem.TheVariants as nexts
+use Rattle.script_reader.specs.declared.item.NextItem.{NextItem}
+use Rattle.script_reader.specs.declared.item.PlainItem.{PlainItem}
 
 -- the item that was read, whose first line has this number
 abbrev pub item_read : ℕ → ItemRead → Item
@@ -34,3 +37,14 @@ HasItsText script _ = Unit {0}
 abbrev pub begins_with : Result Line ScriptFault → Bool
 begins_with (Ok Parallel) = true
 begins_with _ = false
+
+-- this holds of the command that was read where it lies, if one was
+abbrev pub IfPlain : NextItem → (PlainItem → Type 0) → Type 0
+IfPlain (nexts.Emission plain) Holds = Holds plain
+IfPlain (nexts.Read plain) Holds = Holds plain
+IfPlain nexts.Other Holds = Unit {0}
+
+-- an emission was read where it lies
+abbrev pub IsEmission : NextItem → Type 0
+IsEmission (nexts.Emission plain) = Unit {0}
+IsEmission _ = ⊥

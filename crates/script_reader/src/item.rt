@@ -1,22 +1,26 @@
-//! The items of a script, read one after the other: a line by itself, or a whole part.
+//! The items of a script, read one after the other: a line by itself, or a whole part. Most items of most scripts are emissions or reads, which are
+//! read at once where they lie; any other is read out of line.
 
 ghost use Rattle.std.specs.Prelude.{◌≡◌, ℕ, List, ◌+◌, ◌-◌, ◌<◌, ◌≤◌, ◌^◌, ◌∷◌, drop, length, IfOk, Ok};
 ghost use Rattle.std.specs.Option.{option_copied};
 ghost use Rattle.trace_script.specs.Lines.{line_of};
-ghost use Rattle.trace_script.specs.declared.line.Line.TheVariants.{Parallel};
-ghost use Rattle.script_reader.specs.Items.{items_from};
-ghost use Rattle.script_reader.specs.NextItems.{item_read, begins_with, IsSaid, HasFaultLine, HasItsText};
+ghost use Rattle.trace_script.specs.PlainEmissions.{IsPlainEmission};
+ghost use Rattle.trace_script.specs.declared.line.Line.TheVariants.{Ask, Parallel};
+ghost use Rattle.script_reader.specs.Items.{Single, items_from};
+ghost use Rattle.script_reader.specs.NextItems.{item_read, begins_with, IfPlain, IsEmission, IsSaid, HasFaultLine, HasItsText};
 ghost use Rattle.script_reader.specs.PartReads.{item_of, HasItsLine};
 ghost use Rattle.script_reader.specs.private.NextReads.{IsNextRead};
 ghost use Rattle.script_reader.specs.ScriptLines.{lines_of, lines_left, bytes_left};
 
 use crate::part::{FaultAt, Part, read_line, read_part};
 use crate::part_line::PartLine;
-use crate::script::first_line;
+use crate::script::{first_line, line_of_len};
 use std::alloc::{AllocError, Global};
-use trace_script::{Line, ScriptFault};
+use trace_command::Command;
+use trace_format::BorrowedPair;
+use trace_script::{FirstCommand, Line, ScriptFault, first_emission, first_read};
 
-/// An item that was read.
+/// An item that was read out of line.
 #[derive(Drop)]
 pub enum ItemRead<'a> {
     /// A line by itself, and what it asks for or its fault.
@@ -36,9 +40,9 @@ pub enum ItemRead<'a> {
     },
 }
 
-/// The next item of a script, and what follows it.
+/// An item that is no command read where it lies, and what follows it.
 #[derive(Drop)]
-pub struct NextItem<'a> {
+pub struct OtherItem<'a> {
     pub item: ItemRead<'a>,
     /// The number of the first line after it.
     pub number: usize,
@@ -67,7 +71,7 @@ fn begins(said: &Result<Line, ScriptFault>) -> bool
 }
 
 /// Reads on at a line `parallel`: the part that it begins, if a line `end` follows it; else that line by itself. It is kept out of line, so
-/// that other lines don't take the room of a part. The text is that which begins with the line. The clauses of [`next_item`] are here in one word.
+/// that other lines don't take the room of a part. The text is that which begins with the line. The clauses of [`other_item`] are here in one word.
 #[inline(never)]
 fn part_or_line<'a>(
     alloc: Global,
@@ -75,7 +79,7 @@ fn part_or_line<'a>(
     text: &'a [u8],
     line: &'a [u8],
     after: Option<&'a [u8]>,
-) -> Result<NextItem<'a>, AllocError>
+) -> Result<OtherItem<'a>, AllocError>
     requires room { number + length text.now < 2 ^ 63 - 1 }
     requires lines { lines_of text.now ≡ line.now ∷ lines_left (option_copied after) }
     requires shorter { bytes_left (option_copied after) ≤ length text.now }
@@ -83,12 +87,12 @@ fn part_or_line<'a>(
     ensures { IsNextRead number text.now result }
 {
     match read_part(alloc, number + 1, after)? {
-        Some(read) => Ok(NextItem {
+        Some(read) => Ok(OtherItem {
             item: part_item(text, read.part),
             number: number + 1 + read.lines + 1,
             rest: read.rest,
         }),
-        None => Ok(NextItem {
+        None => Ok(OtherItem {
             item: ItemRead::Line {
                 line,
                 said: Ok(Line::Parallel),
@@ -100,34 +104,88 @@ fn part_or_line<'a>(
 }
 
 /// Reads the item that a string begins with, whose first line has this number: a part, where that line is `parallel` and a line `end` follows
-/// it; else one line. It fails only if memory is refused. It is kept out of line, so that emissions, for which [`crate::plain::plain_item`] is
-/// asked first, don't take its room.
+/// it; else one line. It fails only if memory is refused. It is kept out of line, so that the commands that [`next_item`] reads don't take its room.
 #[inline(never)]
 #[tactic(auto, using(crate::proofs::ItemReading::line_next, crate::proofs::ItemReading::line_left))]
-pub fn next_item<'a>(
+pub fn other_item<'a>(
     alloc: Global,
     number: usize,
     text: &'a [u8],
-) -> Result<NextItem<'a>, AllocError>
+) -> Result<OtherItem<'a>, AllocError>
     requires room { number + length text.now < 2 ^ 63 - 1 }
-    ensures read { IfOk result (λ next. items_from number 0 (lines_of text.now)
-        ≡ item_read number next.item ∷ items_from next.number 0 (lines_left (option_copied next.rest))) }
-    ensures lines { IfOk result (λ next. lines_left (option_copied next.rest) ≡ drop (next.number - number) (lines_of text.now)) }
-    ensures number { IfOk result (λ next. number < next.number) }
-    ensures said { IfOk result (λ next. IsSaid next.item) }
-    ensures line { IfOk result (λ next. HasFaultLine number (lines_of text.now) next.item) }
-    ensures text { IfOk result (λ next. HasItsText text.now next.item) }
-    ensures shorter { IfOk result (λ next. bytes_left (option_copied next.rest) ≤ length text.now) }
-    ensures room { IfOk result (λ next. next.number + bytes_left (option_copied next.rest) ≤ number + length text.now + 1) }
+    ensures read { IfOk result (λ other. items_from number 0 (lines_of text.now)
+        ≡ item_read number other.item ∷ items_from other.number 0 (lines_left (option_copied other.rest))) }
+    ensures lines { IfOk result (λ other. lines_left (option_copied other.rest) ≡ drop (other.number - number) (lines_of text.now)) }
+    ensures number { IfOk result (λ other. number < other.number) }
+    ensures said { IfOk result (λ other. IsSaid other.item) }
+    ensures line { IfOk result (λ other. HasFaultLine number (lines_of text.now) other.item) }
+    ensures text { IfOk result (λ other. HasItsText text.now other.item) }
+    ensures shorter { IfOk result (λ other. bytes_left (option_copied other.rest) ≤ length text.now) }
+    ensures room { IfOk result (λ other. other.number + bytes_left (option_copied other.rest) ≤ number + length text.now + 1) }
 {
     let (line, after) = first_line(text);
     let said = read_line(alloc, line)?;
     if begins(&said) {
         return part_or_line(alloc, number, text, line, after);
     }
-    Ok(NextItem {
+    Ok(OtherItem {
         item: ItemRead::Line { line, said },
         number: number + 1,
         rest: after,
     })
+}
+
+/// A command by itself, whose strings lie in its line.
+#[derive(Drop)]
+pub struct PlainItem<'a, 'p> {
+    pub line: &'a [u8],
+    pub command: Command<'p>,
+    /// What follows the line, if anything does.
+    pub rest: Option<&'a [u8]>,
+}
+
+/// The item that a string begins with.
+#[derive(Drop)]
+pub enum NextItem<'a, 'p> {
+    /// An emission, whose pairs lie in a list.
+    Emission(PlainItem<'a, 'p>),
+    /// A read.
+    Read(PlainItem<'a, 'a>),
+    /// Another item, which [`other_item`] reads.
+    Other,
+}
+
+/// Reads the item that a string begins with, if it is a line that [`first_emission`] or [`first_read`] reads. The pairs are left in the list, which
+/// keeps its room from item to item. It fails only if memory is refused.
+#[inline(always)]
+#[tactic(auto, using(crate::proofs::ItemReading::plain_next))]
+pub fn next_item<'a, 'p>(
+    text: &'a [u8],
+    pairs: &'p mut Vec<BorrowedPair<'a>>,
+) -> Result<NextItem<'a, 'p>, AllocError>
+    ensures read { IfOk result (λ next. IfPlain next (λ plain. (number : ℕ) → items_from number 0 (lines_of text.now)
+        ≡ Single number plain.line.now ∷ items_from (number + 1) 0 (lines_left (option_copied plain.rest)))) }
+    ensures lines { IfOk result (λ next. IfPlain next (λ plain. lines_of text.now ≡ plain.line.now ∷ lines_left (option_copied plain.rest))) }
+    ensures said { IfOk result (λ next. IfPlain next (λ plain. line_of plain.line.now ≡ Ok (Ask plain.command))) }
+    ensures shorter { IfOk result (λ next. IfPlain next (λ plain. bytes_left (option_copied plain.rest) ≤ length text.now)) }
+    ensures found { IfOk result (λ next. (line : List ℕ) (lines : List (List ℕ)) → lines_of text.now ≡ line ∷ lines
+        → IsPlainEmission line → IsEmission next) }
+{
+    if let Some(FirstCommand { command, len }) = first_emission(text, pairs)? {
+        let (line, rest) = line_of_len(text, len);
+        return Ok(NextItem::Emission(PlainItem {
+            line,
+            command,
+            rest,
+        }));
+    }
+    let Some(FirstCommand { command, len }) = first_read(text) else {
+        return Ok(NextItem::Other);
+    };
+    let (line, rest) = line_of_len(text, len);
+    Ok(NextItem::Read(PlainItem {
+        line,
+        command,
+        rest,
+    }))
 }

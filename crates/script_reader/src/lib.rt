@@ -7,7 +7,6 @@ pub mod laws;
 mod lines_from;
 pub mod part;
 pub mod part_line;
-pub mod plain;
 mod script;
 mod source;
 mod stop;

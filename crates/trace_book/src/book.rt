@@ -71,9 +71,9 @@ impl Book {
     /// Runs a command, or refuses it. The answer is the one that the history gives. A command that is done becomes the history's next entry, under
     /// this ticket and caller's number; a refused one changes nothing. The history stays legal.
     ///
-    /// If an allocation is refused, `Memory` may replace the answer, but never `NoSuchFile`, `NotReadable`, `NotWritable`, `BadValue`, `NoSuchEvent`,
-    /// `InstanceExists`, `NoSuchInstance` or `NoSuchCpu`, and never a refusal of a command that allocates late (`TakesMemoryLate`): `rmdir`, or a
-    /// write of anything but a declaration, a filter that doesn't clear, a trigger with a filter, or a hist trigger.
+    /// If an allocation is refused, `Memory` may replace the answer, but never `NoSuchFile`, `NotReadable`, `NotWritable`, `BadValue`, `BadTrigger`,
+    /// `NoSuchEvent`, `InstanceExists`, `NoSuchInstance` or `NoSuchCpu`, and never a refusal of a command that allocates late (`TakesMemoryLate`): `rmdir`,
+    /// or a write of anything but a declaration, a filter that doesn't clear, a trigger with a filter, or a hist trigger.
     #[inline(always)]
     pub fn ask(&mut self, ticket: u64, by: u32, command: &Command<'_>) -> Result<Reply, Refusal>
         requires { All (λ entry. entry.ticket < ticket) self.old.entries }

@@ -4,7 +4,7 @@ use Rattle.std.proofs.lemmas.Bool.{false≢true}
 use Rattle.std.specs.Bool.{Decides}
 use Rattle.std.specs.Cmp.Lexicographic.{bytes_decides}
 use Rattle.trace_command.specs.declared.refusal.Refusal.{Refusal}
-use Rattle.trace_command.specs.declared.refusal.Refusal.TheVariants.{NoSuchFile, NotReadable, NotWritable, BadValue, NoSuchEvent, EventExists, BadDefinition, TooBig, FilterSyntax, NoSuchField, WrongOperator, HistSyntax, BadSize, TriggerExists, NoSuchTrigger, TooMany, InstanceExists, NoSuchInstance, Busy, NoSuchCpu, BadRow, HistoryFull, Memory, Worn}
+use Rattle.trace_command.specs.declared.refusal.Refusal.TheVariants.{NoSuchFile, NotReadable, NotWritable, BadValue, BadTrigger, NoSuchEvent, EventExists, BadDefinition, TooBig, FilterSyntax, NoSuchField, WrongOperator, HistSyntax, BadSize, TriggerExists, NoSuchTrigger, TooMany, InstanceExists, NoSuchInstance, Busy, NoSuchCpu, BadRow, HistoryFull, Memory, Worn}
 use Rattle.trace_command.specs.contracts.refusal.RefusalPartialEq.TheImpl.{eq-value as refusal_eq}
 
 one_refusal : (a b : Refusal) → refusal_eq.it a b ≡ true → a ≡ b
@@ -12,18 +12,19 @@ one_refusal NoSuchFile NoSuchFile e = refl
 one_refusal NotReadable NotReadable e = refl
 one_refusal NotWritable NotWritable e = refl
 one_refusal BadValue BadValue e = refl
+one_refusal (BadTrigger x) (BadTrigger y) e = search rules
 one_refusal NoSuchEvent NoSuchEvent e = refl
 one_refusal EventExists EventExists e = refl
-one_refusal (BadDefinition x) (BadDefinition y) e = search rules
+one_refusal (BadDefinition x c) (BadDefinition y d) e = search rules
 one_refusal TooBig TooBig e = refl
-one_refusal (FilterSyntax x) (FilterSyntax y) e = search rules
+one_refusal (FilterSyntax x c) (FilterSyntax y d) e = search rules
 one_refusal (NoSuchField x) (NoSuchField y) e = search rules
-one_refusal (WrongOperator x) (WrongOperator y) e = search rules
-one_refusal (HistSyntax x) (HistSyntax y) e = search rules
+one_refusal (WrongOperator x c) (WrongOperator y d) e = search rules
+one_refusal (HistSyntax x c) (HistSyntax y d) e = search rules
 one_refusal BadSize BadSize e = refl
 one_refusal TriggerExists TriggerExists e = refl
 one_refusal NoSuchTrigger NoSuchTrigger e = refl
-one_refusal TooMany TooMany e = refl
+one_refusal (TooMany x) (TooMany y) e = search rules
 one_refusal InstanceExists InstanceExists e = refl
 one_refusal NoSuchInstance NoSuchInstance e = refl
 one_refusal Busy Busy e = refl
@@ -39,18 +40,19 @@ equals_itself NoSuchFile = refl
 equals_itself NotReadable = refl
 equals_itself NotWritable = refl
 equals_itself BadValue = refl
+equals_itself (BadTrigger x) = search rules
 equals_itself NoSuchEvent = refl
 equals_itself EventExists = refl
-equals_itself (BadDefinition x) = search rules
+equals_itself (BadDefinition x c) = search rules
 equals_itself TooBig = refl
-equals_itself (FilterSyntax x) = search rules
+equals_itself (FilterSyntax x c) = search rules
 equals_itself (NoSuchField x) = search rules
-equals_itself (WrongOperator x) = search rules
-equals_itself (HistSyntax x) = search rules
+equals_itself (WrongOperator x c) = search rules
+equals_itself (HistSyntax x c) = search rules
 equals_itself BadSize = refl
 equals_itself TriggerExists = refl
 equals_itself NoSuchTrigger = refl
-equals_itself TooMany = refl
+equals_itself (TooMany x) = search rules
 equals_itself InstanceExists = refl
 equals_itself NoSuchInstance = refl
 equals_itself Busy = refl

@@ -10,98 +10,86 @@ use Rattle.trace_format.specs.declared.fault.CatalogFault.{CatalogFault}
 use Rattle.trace_format.specs.declared.fault.CatalogFault.TheVariants as catalog
 use Rattle.trace_format.specs.declared.fault.RowFault.{RowFault}
 use Rattle.trace_format.specs.declared.fault.RowFault.TheVariants as row
+use Rattle.trace_trigger.specs.declared.fault.OperatorCause.TheVariants.{Compared}
 use Rattle.trace_trigger.specs.declared.fault.TriggerFault.{TriggerFault}
 use Rattle.trace_trigger.specs.declared.fault.TriggerFault.TheVariants as trigger
+use Rattle.trace_command.specs.declared.refusal.Limit.TheVariants as limit
 use Rattle.trace_command.specs.declared.refusal.Refusal.{Refusal}
-use Rattle.trace_command.specs.declared.refusal.Refusal.TheVariants.{NoSuchFile, NotReadable, NotWritable, BadValue, NoSuchEvent, EventExists, BadDefinition, TooBig, FilterSyntax, NoSuchField, WrongOperator, HistSyntax, BadSize, TriggerExists, NoSuchTrigger, TooMany, InstanceExists, NoSuchInstance, Busy, NoSuchCpu, BadRow, HistoryFull, Memory, Worn}
+use Rattle.trace_command.specs.declared.refusal.Refusal.TheVariants.{NoSuchFile, NotReadable, NotWritable, BadValue, BadTrigger, NoSuchEvent, EventExists, BadDefinition, TooBig, FilterSyntax, NoSuchField, WrongOperator, HistSyntax, BadSize, TriggerExists, NoSuchTrigger, TooMany, InstanceExists, NoSuchInstance, Busy, NoSuchCpu, BadRow, HistoryFull, Memory, Worn}
 
--- the number that is printed for a refusal
-abbrev pub number_of : Refusal → ℕ
-number_of NoSuchFile = 1
-number_of NotReadable = 2
-number_of NotWritable = 3
-number_of BadValue = 4
-number_of NoSuchEvent = 5
-number_of EventExists = 6
-number_of (BadDefinition at) = 7
-number_of TooBig = 8
-number_of (FilterSyntax at) = 9
-number_of (NoSuchField at) = 10
-number_of (WrongOperator at) = 11
-number_of (HistSyntax at) = 12
-number_of BadSize = 13
-number_of TriggerExists = 14
-number_of NoSuchTrigger = 15
-number_of TooMany = 16
-number_of InstanceExists = 17
-number_of NoSuchInstance = 18
-number_of Busy = 19
-number_of NoSuchCpu = 20
-number_of (BadRow field) = 21
-number_of HistoryFull = 22
-number_of Memory = 23
-number_of Worn = 24
+-- the number and the name that are printed for a refusal
+abbrev pub printed_as : Refusal → ℕ × List ℕ
+printed_as NoSuchFile = (1, codes "NoSuchFile")
+printed_as NotReadable = (2, codes "NotReadable")
+printed_as NotWritable = (3, codes "NotWritable")
+printed_as BadValue = (4, codes "BadValue")
+printed_as (BadTrigger cause) = (4, codes "BadValue")
+printed_as NoSuchEvent = (5, codes "NoSuchEvent")
+printed_as EventExists = (6, codes "EventExists")
+printed_as (BadDefinition at cause) = (7, codes "BadDefinition")
+printed_as TooBig = (8, codes "TooBig")
+printed_as (FilterSyntax at cause) = (9, codes "FilterSyntax")
+printed_as (NoSuchField at) = (10, codes "NoSuchField")
+printed_as (WrongOperator at cause) = (11, codes "WrongOperator")
+printed_as (HistSyntax at cause) = (12, codes "HistSyntax")
+printed_as BadSize = (13, codes "BadSize")
+printed_as TriggerExists = (14, codes "TriggerExists")
+printed_as NoSuchTrigger = (15, codes "NoSuchTrigger")
+printed_as (TooMany limit) = (16, codes "TooMany")
+printed_as InstanceExists = (17, codes "InstanceExists")
+printed_as NoSuchInstance = (18, codes "NoSuchInstance")
+printed_as Busy = (19, codes "Busy")
+printed_as NoSuchCpu = (20, codes "NoSuchCpu")
+printed_as (BadRow field) = (21, codes "BadRow")
+printed_as HistoryFull = (22, codes "HistoryFull")
+printed_as Memory = (23, codes "Memory")
+printed_as Worn = (24, codes "Worn")
+
+unfoldable pub number_of : Refusal → ℕ
+number_of refusal = (printed_as refusal).0
+
+unfoldable pub name_of : Refusal → List ℕ
+name_of refusal = (printed_as refusal).1
 
 -- ---- the refusals that the faults of formats, filters and triggers become
 
 abbrev pub refusal_of_definition : DefinitionFault → Refusal
-refusal_of_definition (definition.BadDefinition at) = BadDefinition at
+refusal_of_definition (definition.BadDefinition at cause) = BadDefinition at cause
 refusal_of_definition definition.Memory = Memory
 
 abbrev pub refusal_of_catalog : CatalogFault → Refusal
 refusal_of_catalog catalog.EventExists = EventExists
-refusal_of_catalog catalog.TooMany = TooMany
+refusal_of_catalog catalog.TooManyFields = TooMany limit.Fields
+refusal_of_catalog catalog.TooManyEvents = TooMany limit.Events
 refusal_of_catalog catalog.TooBig = TooBig
 refusal_of_catalog catalog.Memory = Memory
 
 abbrev pub refusal_of_row : RowFault → Refusal
-refusal_of_row (row.BadRow field) = BadRow field
+refusal_of_row (row.BadRow field cause) = BadRow field
 refusal_of_row row.Memory = Memory
 
 abbrev pub refusal_of_filter : FilterFault → Refusal
-refusal_of_filter filter.TooMany = TooMany
-refusal_of_filter (filter.FilterSyntax at) = FilterSyntax at
+refusal_of_filter filter.TooLong = TooMany limit.FilterBytes
+refusal_of_filter filter.TooDeep = TooMany limit.Openings
+refusal_of_filter (filter.FilterSyntax at cause) = FilterSyntax at cause
 refusal_of_filter (filter.NoSuchField at) = NoSuchField at
-refusal_of_filter (filter.WrongOperator at) = WrongOperator at
+refusal_of_filter (filter.WrongOperator at) = WrongOperator at Compared
 refusal_of_filter filter.Memory = Memory
 
 -- a text that is written as no trigger is no value of its file
 abbrev pub refusal_of_trigger : TriggerFault → Refusal
-refusal_of_trigger trigger.BadText = BadValue
-refusal_of_trigger trigger.TooMany = TooMany
-refusal_of_trigger (trigger.FilterSyntax at) = FilterSyntax at
+refusal_of_trigger (trigger.BadText cause) = BadTrigger cause
+refusal_of_trigger trigger.FilterTooLong = TooMany limit.FilterBytes
+refusal_of_trigger trigger.FilterTooDeep = TooMany limit.Openings
+refusal_of_trigger trigger.TooManyKeys = TooMany limit.Keys
+refusal_of_trigger trigger.TooManyValues = TooMany limit.Values
+refusal_of_trigger trigger.TooManySortKeys = TooMany limit.SortKeys
+refusal_of_trigger (trigger.FilterSyntax at cause) = FilterSyntax at cause
 refusal_of_trigger (trigger.NoSuchField at) = NoSuchField at
-refusal_of_trigger (trigger.WrongOperator at) = WrongOperator at
-refusal_of_trigger (trigger.HistSyntax at) = HistSyntax at
+refusal_of_trigger (trigger.WrongOperator at cause) = WrongOperator at cause
+refusal_of_trigger (trigger.HistSyntax at cause) = HistSyntax at cause
 refusal_of_trigger trigger.BadSize = BadSize
 refusal_of_trigger trigger.Memory = Memory
-
--- the name that is printed for a refusal
-unfoldable pub name_of : Refusal → List ℕ
-name_of NoSuchFile = codes "NoSuchFile"
-name_of NotReadable = codes "NotReadable"
-name_of NotWritable = codes "NotWritable"
-name_of BadValue = codes "BadValue"
-name_of NoSuchEvent = codes "NoSuchEvent"
-name_of EventExists = codes "EventExists"
-name_of (BadDefinition at) = codes "BadDefinition"
-name_of TooBig = codes "TooBig"
-name_of (FilterSyntax at) = codes "FilterSyntax"
-name_of (NoSuchField at) = codes "NoSuchField"
-name_of (WrongOperator at) = codes "WrongOperator"
-name_of (HistSyntax at) = codes "HistSyntax"
-name_of BadSize = codes "BadSize"
-name_of TriggerExists = codes "TriggerExists"
-name_of NoSuchTrigger = codes "NoSuchTrigger"
-name_of TooMany = codes "TooMany"
-name_of InstanceExists = codes "InstanceExists"
-name_of NoSuchInstance = codes "NoSuchInstance"
-name_of Busy = codes "Busy"
-name_of NoSuchCpu = codes "NoSuchCpu"
-name_of (BadRow field) = codes "BadRow"
-name_of HistoryFull = codes "HistoryFull"
-name_of Memory = codes "Memory"
-name_of Worn = codes "Worn"
 
 -- a field's name as text: U+FFFD, of which these are the bytes, for one that is not UTF-8
 unfoldable pub shown_name : List ℕ → List ℕ
@@ -109,11 +97,11 @@ shown_name name = if is_utf8 name then name else 239 ∷ 191 ∷ 189 ∷ []
 
 -- what is shown after a refusal's name: a place in the written text, or a field
 unfoldable pub shown_detail : Refusal → List ℕ
-shown_detail (BadDefinition at) = codes " at " ++ decimal at
-shown_detail (FilterSyntax at) = codes " at " ++ decimal at
+shown_detail (BadDefinition at cause) = codes " at " ++ decimal at
+shown_detail (FilterSyntax at cause) = codes " at " ++ decimal at
 shown_detail (NoSuchField at) = codes " at " ++ decimal at
-shown_detail (WrongOperator at) = codes " at " ++ decimal at
-shown_detail (HistSyntax at) = codes " at " ++ decimal at
+shown_detail (WrongOperator at cause) = codes " at " ++ decimal at
+shown_detail (HistSyntax at cause) = codes " at " ++ decimal at
 shown_detail (BadRow field) = codes " " ++ shown_name field
 shown_detail _ = []
 
@@ -135,6 +123,7 @@ is_found_early NoSuchEvent = true
 is_found_early NotReadable = true
 is_found_early NotWritable = true
 is_found_early BadValue = true
+is_found_early (BadTrigger cause) = true
 is_found_early _ = false
 
 -- the answer is such a refusal

@@ -14,4 +14,4 @@ pub use borrowed::{BorrowedPairs, Bytes};
 pub use command::{Command, CommandOf, Config, Entry, OwnedCommand, Reply};
 pub use file_name::{CpuFile, EventFile, FileName, TopFile};
 pub use pairs::{LentPairs, Pairs};
-pub use refusal::Refusal;
+pub use refusal::{Limit, Refusal};

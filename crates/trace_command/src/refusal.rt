@@ -8,13 +8,37 @@ use std::alloc::{AllocError, AllocFailed};
 use std::error::Error;
 use std::fmt::{Display, Formatter, Write};
 use std::{fmt, str};
-use trace_filter::FilterFault;
-use trace_format::{CatalogFault, DefinitionFault, RowFault};
+use trace_filter::{FilterCause, FilterFault};
+use trace_format::{CatalogFault, DeclarationCause, DefinitionFault, RowFault};
 use trace_lex::Text;
-use trace_trigger::TriggerFault;
+use trace_trigger::{HistCause, OperatorCause, TextCause, TriggerFault};
+
+/// What there would be too many of.
+#[derive(Clone, Copy, Debug, PartialEq, Eq)]
+pub enum Limit {
+    /// An event has at most 16 fields.
+    Fields,
+    /// There are at most 64 events.
+    Events,
+    /// There are at most eight instances, the top one among them.
+    Instances,
+    /// An event has at most four triggers in an instance.
+    Triggers,
+    /// A hist trigger has at most three keys.
+    Keys,
+    /// A hist trigger has at most three values besides `hitcount`.
+    Values,
+    /// A hist trigger is sorted by at most two names.
+    SortKeys,
+    /// A filter has at most 1,024 bytes.
+    FilterBytes,
+    /// At most 16 `!` and `(` of a filter are open at once.
+    Openings,
+}
 
 /// Why a command was refused. A refused command changes nothing and is not in the history.
-/// `at` is a place in the text as it was written: how many bytes stand before it.
+/// `at` is a place in the text as it was written: how many bytes stand before it. The cause beside it, which no reply shows, is what its parser found
+/// wrong there.
 #[derive(Clone, Debug, PartialEq, Eq, Drop)]
 pub enum Refusal {
     /// No file of the tracing tree has this path.
@@ -26,32 +50,33 @@ pub enum Refusal {
     /// What was written is no value of the file, a limit was given for a file that is no pipe, or a number of
     /// the configuration is out of range.
     BadValue,
+    /// Likewise, of what was written to a `trigger` file, with its cause. It has the number and the name of `BadValue`.
+    BadTrigger { cause: TextCause },
     /// No event of this name was declared; or none at all, where a filter is written for all.
     NoSuchEvent,
     /// An event of this name was declared before.
     EventExists,
     /// The text is no declaration of an event: with what begins at this byte none goes on, or more was to come at the text's end.
-    BadDefinition { at: usize },
+    BadDefinition { at: usize, cause: DeclarationCause },
     /// A record of the event would not fit a page.
     TooBig,
     /// The text is no filter: with what begins at this byte none goes on, or it is no number though its field needs one, or more was to come at
     /// the text's end.
-    FilterSyntax { at: usize },
+    FilterSyntax { at: usize, cause: FilterCause },
     /// The event has no field of the name at this byte.
     NoSuchField { at: usize },
     /// The field does not take the operator at this byte, or it is a string that a hist trigger is to sum.
-    WrongOperator { at: usize },
+    WrongOperator { at: usize, cause: OperatorCause },
     /// The text is no hist trigger: with what begins at this byte none goes on.
-    HistSyntax { at: usize },
+    HistSyntax { at: usize, cause: HistCause },
     /// The size of a hist trigger is out of range: it may have 65 to 131,072 entries, rounded up to a power of two.
     BadSize,
     /// Such a trigger is attached already.
     TriggerExists,
     /// No such trigger is attached.
     NoSuchTrigger,
-    /// There would be too many: over 16 fields of an event, over 64 events, over four triggers of an event, a hist trigger of over three keys,
-    /// three values or two sort keys, or a filter of over 1,024 bytes or of over 16 open `!` and `(`.
-    TooMany,
+    /// There would be too many of these.
+    TooMany { limit: Limit },
     /// An instance of this name is there already.
     InstanceExists,
     /// No instance of this name is there.
@@ -60,7 +85,8 @@ pub enum Refusal {
     Busy,
     /// The CPU's number is not below the number of CPUs.
     NoSuchCpu,
-    /// The row of an emission is wrong at this field.
+    /// The row of an emission is wrong at this field. The cause that the fault has is not kept: it would make all answers larger, and each emission
+    /// slower.
     BadRow { field: Text },
     /// The history has as many entries as it may have.
     HistoryFull,
@@ -91,7 +117,7 @@ impl From<DefinitionFault> for Refusal {
 
     fn from(fault: DefinitionFault) -> Refusal {
         match fault {
-            DefinitionFault::BadDefinition { at } => Refusal::BadDefinition { at },
+            DefinitionFault::BadDefinition { at, cause } => Refusal::BadDefinition { at, cause },
             DefinitionFault::Memory => Refusal::Memory,
         }
     }
@@ -103,7 +129,12 @@ impl From<CatalogFault> for Refusal {
     fn from(fault: CatalogFault) -> Refusal {
         match fault {
             CatalogFault::EventExists => Refusal::EventExists,
-            CatalogFault::TooMany => Refusal::TooMany,
+            CatalogFault::TooManyFields => Refusal::TooMany {
+                limit: Limit::Fields,
+            },
+            CatalogFault::TooManyEvents => Refusal::TooMany {
+                limit: Limit::Events,
+            },
             CatalogFault::TooBig => Refusal::TooBig,
             CatalogFault::Memory => Refusal::Memory,
         }
@@ -115,10 +146,18 @@ impl From<FilterFault> for Refusal {
 
     fn from(fault: FilterFault) -> Refusal {
         match fault {
-            FilterFault::TooMany => Refusal::TooMany,
-            FilterFault::FilterSyntax { at } => Refusal::FilterSyntax { at },
+            FilterFault::TooLong => Refusal::TooMany {
+                limit: Limit::FilterBytes,
+            },
+            FilterFault::TooDeep => Refusal::TooMany {
+                limit: Limit::Openings,
+            },
+            FilterFault::FilterSyntax { at, cause } => Refusal::FilterSyntax { at, cause },
             FilterFault::NoSuchField { at } => Refusal::NoSuchField { at },
-            FilterFault::WrongOperator { at } => Refusal::WrongOperator { at },
+            FilterFault::WrongOperator { at } => Refusal::WrongOperator {
+                at,
+                cause: OperatorCause::Compared,
+            },
             FilterFault::Memory => Refusal::Memory,
         }
     }
@@ -129,12 +168,24 @@ impl From<TriggerFault> for Refusal {
 
     fn from(fault: TriggerFault) -> Refusal {
         match fault {
-            TriggerFault::BadText => Refusal::BadValue,
-            TriggerFault::TooMany => Refusal::TooMany,
-            TriggerFault::FilterSyntax { at } => Refusal::FilterSyntax { at },
+            TriggerFault::BadText { cause } => Refusal::BadTrigger { cause },
+            TriggerFault::FilterTooLong => Refusal::TooMany {
+                limit: Limit::FilterBytes,
+            },
+            TriggerFault::FilterTooDeep => Refusal::TooMany {
+                limit: Limit::Openings,
+            },
+            TriggerFault::TooManyKeys => Refusal::TooMany { limit: Limit::Keys },
+            TriggerFault::TooManyValues => Refusal::TooMany {
+                limit: Limit::Values,
+            },
+            TriggerFault::TooManySortKeys => Refusal::TooMany {
+                limit: Limit::SortKeys,
+            },
+            TriggerFault::FilterSyntax { at, cause } => Refusal::FilterSyntax { at, cause },
             TriggerFault::NoSuchField { at } => Refusal::NoSuchField { at },
-            TriggerFault::WrongOperator { at } => Refusal::WrongOperator { at },
-            TriggerFault::HistSyntax { at } => Refusal::HistSyntax { at },
+            TriggerFault::WrongOperator { at, cause } => Refusal::WrongOperator { at, cause },
+            TriggerFault::HistSyntax { at, cause } => Refusal::HistSyntax { at, cause },
             TriggerFault::BadSize => Refusal::BadSize,
             TriggerFault::Memory => Refusal::Memory,
         }
@@ -146,7 +197,7 @@ impl From<RowFault> for Refusal {
 
     fn from(fault: RowFault) -> Refusal {
         match fault {
-            RowFault::BadRow { field } => Refusal::BadRow { field },
+            RowFault::BadRow { field, .. } => Refusal::BadRow { field },
             RowFault::Memory => Refusal::Memory,
         }
     }
@@ -156,6 +207,7 @@ impl Refusal {
     ghost use Rattle.trace_command.specs.Refusals.{number_of, name_of};
 
     /// The refusal's number, from 1 to 24, as it is printed after the letter N.
+    #[tactic(auto, unfolding(crate::specs::Refusals::number_of))]
     pub fn number(&self) -> u8
         ensures { result ≡ number_of self.now }
     {
@@ -163,7 +215,7 @@ impl Refusal {
             Refusal::NoSuchFile => 1,
             Refusal::NotReadable => 2,
             Refusal::NotWritable => 3,
-            Refusal::BadValue => 4,
+            Refusal::BadValue | Refusal::BadTrigger { .. } => 4,
             Refusal::NoSuchEvent => 5,
             Refusal::EventExists => 6,
             Refusal::BadDefinition { .. } => 7,
@@ -175,7 +227,7 @@ impl Refusal {
             Refusal::BadSize => 13,
             Refusal::TriggerExists => 14,
             Refusal::NoSuchTrigger => 15,
-            Refusal::TooMany => 16,
+            Refusal::TooMany { .. } => 16,
             Refusal::InstanceExists => 17,
             Refusal::NoSuchInstance => 18,
             Refusal::Busy => 19,
@@ -196,7 +248,7 @@ impl Refusal {
             Refusal::NoSuchFile => "NoSuchFile",
             Refusal::NotReadable => "NotReadable",
             Refusal::NotWritable => "NotWritable",
-            Refusal::BadValue => "BadValue",
+            Refusal::BadValue | Refusal::BadTrigger { .. } => "BadValue",
             Refusal::NoSuchEvent => "NoSuchEvent",
             Refusal::EventExists => "EventExists",
             Refusal::BadDefinition { .. } => "BadDefinition",
@@ -208,7 +260,7 @@ impl Refusal {
             Refusal::BadSize => "BadSize",
             Refusal::TriggerExists => "TriggerExists",
             Refusal::NoSuchTrigger => "NoSuchTrigger",
-            Refusal::TooMany => "TooMany",
+            Refusal::TooMany { .. } => "TooMany",
             Refusal::InstanceExists => "InstanceExists",
             Refusal::NoSuchInstance => "NoSuchInstance",
             Refusal::Busy => "Busy",
@@ -243,11 +295,11 @@ impl Display for Refusal {
         let number = self.number();
         let name = self.name();
         match self {
-            Refusal::BadDefinition { at }
-            | Refusal::FilterSyntax { at }
+            Refusal::BadDefinition { at, .. }
+            | Refusal::FilterSyntax { at, .. }
             | Refusal::NoSuchField { at }
-            | Refusal::WrongOperator { at }
-            | Refusal::HistSyntax { at } => write!(f, "N{number} {name} at {at}"),
+            | Refusal::WrongOperator { at, .. }
+            | Refusal::HistSyntax { at, .. } => write!(f, "N{number} {name} at {at}"),
             Refusal::BadRow { field } => {
                 let field = shown_name(field.as_bytes());
                 write!(f, "N{number} {name} {field}")

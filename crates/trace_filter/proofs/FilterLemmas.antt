@@ -5,14 +5,18 @@ use Rattle.trace_format.specs.declared.event.Field.{Field}
 use Rattle.trace_format.specs.Cells.{Cells, IsRowOf}
 use Rattle.trace_format.specs.Definitions.{Definition, IsDefinition}
 use Rattle.trace_filter.specs.declared.fault.FilterFault.{FilterFault}
-use Rattle.trace_filter.specs.declared.fault.FilterFault.TheVariants.{TooMany, FilterSyntax, NoSuchField, WrongOperator, Memory}
+use Rattle.trace_filter.specs.declared.fault.FilterFault.TheVariants.{TooLong, TooDeep, FilterSyntax, NoSuchField, WrongOperator, Memory}
+use Rattle.trace_filter.specs.declared.fault.FilterCause.{FilterCause}
+use Rattle.trace_filter.specs.declared.fault.FilterCause.TheVariants as cause
 use Rattle.trace_filter.specs.declared.syntax.Verdict.{Verdict}
-use Rattle.trace_filter.specs.declared.syntax.Verdict.TheVariants.{Fine, TooDeep, WrongAt}
+use Rattle.trace_filter.specs.declared.syntax.Verdict.TheVariants.{Fine, WrongAt}
+use Rattle.trace_filter.specs.declared.syntax.Verdict.TheVariants as verdicts
 use Rattle.trace_format.specs.declared.operand.Operand.TheVariants as operands
 use Rattle.trace_filter.specs.declared.token.Comparison.TheVariants as comparisons
 use Rattle.trace_lex.specs.Blanks.{trimmed}
 use Rattle.trace_filter.specs.Tokens.{Token, Compare, Name, Value, Spot, spots_of, tokens_of}
 use Rattle.trace_filter.specs.Grammar.{Expr, Spells, expr_tokens, depth_of}
+use Rattle.trace_filter.specs.FilterCauses.{cause_at}
 use Rattle.trace_filter.specs.Syntax.{start, reading}
 use Rattle.trace_filter.specs.Fields.{is_text_named, takes_at, fits_at, unless, or_later, operator_fault, value_fault, test_fault, fault_of_test, first_misfit}
 use Rattle.trace_filter.specs.Subjects.{subjects_in, first_fault, IsToldAs}
@@ -31,7 +35,7 @@ use Rattle.trace_filter.proofs.TestedMoves.{InTests, tree_in_tests, tested_is, a
 
 -- a test is refused as syntax, for its field or for its operator alone
 record NoTestFault (fault : FilterFault) : Type 0 where
-  syntax : (at : ℕ) → FilterSyntax at ≡ fault → ⊥
+  syntax : (at : ℕ) (why : FilterCause) → FilterSyntax at why ≡ fault → ⊥
   field : (at : ℕ) → NoSuchField at ≡ fault → ⊥
   operator : (at : ℕ) → WrongOperator at ≡ fault → ⊥
 
@@ -47,9 +51,9 @@ never_told fault none fields (spot ∷ spots) h = by (fault_of_test fields spot.
     operator true at h = cc
     operator false at h = none.operator at (some_is h)
 
-    syntax : (b : Bool) (at : ℕ) → unless b (FilterSyntax at) ≡ Some fault → ⊥
+    syntax : (b : Bool) (at : ℕ) → unless b (FilterSyntax at cause.Value) ≡ Some fault → ⊥
     syntax true at h = cc
-    syntax false at h = none.syntax at (some_is h)
+    syntax false at h = none.syntax at cause.Value (some_is h)
 
     wrong_operator : (text : Bool) (token : Token) (at : ℕ) → operator_fault text token at ≡ Some fault → ⊥
     wrong_operator text (Compare by) at h = operator (takes_at text by) at h
@@ -68,11 +72,14 @@ never_told fault none fields (spot ∷ spots) h = by (fault_of_test fields spot.
     here (Name name) at (op ∷ value ∷ rest) h = wrong_test (is_text_named fields name) at op value h
     here _ at rest h = cc
 
-no_too_many : NoTestFault TooMany
-no_too_many = record { syntax = λ at h. cc; field = λ at h. cc; operator = λ at h. cc }
+no_too_long : NoTestFault TooLong
+no_too_long = record { syntax = λ at why h. cc; field = λ at h. cc; operator = λ at h. cc }
+
+no_too_deep : NoTestFault TooDeep
+no_too_deep = record { syntax = λ at why h. cc; field = λ at h. cc; operator = λ at h. cc }
 
 no_memory : NoTestFault Memory
-no_memory = record { syntax = λ at h. cc; field = λ at h. cc; operator = λ at h. cc }
+no_memory = record { syntax = λ at why h. cc; field = λ at h. cc; operator = λ at h. cc }
 
 module _ (definition : Definition) (text : List ℕ) where
   -- the cases of an answer
@@ -82,10 +89,10 @@ module _ (definition : Definition) (text : List ℕ) where
     fits : misfit ≡ None
     same : filter ≡ found
 
-  read_from : (long : Bool) (verdict : Verdict) (misfit : Option FilterFault) (filter found : Parsed) → answer_from long verdict misfit filter ≡ Ok found → WasRead long verdict misfit filter found
+  read_from : (long : Bool) (verdict : Verdict) (misfit : Option FilterFault) (filter found : Parsed) → answer_from (spots_of text) long verdict misfit filter ≡ Ok found → WasRead long verdict misfit filter found
   read_from false Fine None filter found h = record { short = refl; fine = refl; fits = refl; same = cc }
   read_from false Fine (Some fault) filter found h = absurd (cc)
-  read_from false TooDeep misfit filter found h = absurd (cc)
+  read_from false verdicts.TooDeep misfit filter found h = absurd (cc)
   read_from false (WrongAt at) misfit filter found h = absurd (cc)
   read_from true verdict misfit filter found h = absurd (cc)
 
@@ -107,45 +114,46 @@ module _ (definition : Definition) (text : List ℕ) where
       record { defined = defined; is_filter = is_filter found h; text = ap (λ (f : Parsed). f.text) (sym was.same); subjects = ap (λ (f : Parsed). f.subjects) (sym was.same) }
 
   fault_told : (fault : FilterFault) → length (trimmed text) ≤ 1024 → ComesTo text Fine → misfit_of definition text ≡ Some fault → IsTold definition text fault
-  fault_told TooMany short fine h = absurd (never_told TooMany no_too_many definition.fields (spots_of text) h)
-  fault_told (FilterSyntax at) short fine h = inr (short, fine, h)
+  fault_told TooLong short fine h = absurd (never_told TooLong no_too_long definition.fields (spots_of text) h)
+  fault_told TooDeep short fine h = absurd (never_told TooDeep no_too_deep definition.fields (spots_of text) h)
+  fault_told (FilterSyntax at why) short fine h = inr (short, fine, h)
   fault_told (NoSuchField at) short fine h = (short, fine, h)
   fault_told (WrongOperator at) short fine h = (short, fine, h)
   fault_told Memory short fine h = tt
 
-  told_from : (b : Bool) (v : Verdict) (m : Option FilterFault) (filter : Parsed) (fault : FilterFault) → nat_lt 1024 (length (trimmed text)) ≡ b → ComesTo text v → misfit_of definition text ≡ m → answer_from b v m filter ≡ Err fault → IsTold definition text fault
+  told_from : (b : Bool) (v : Verdict) (m : Option FilterFault) (filter : Parsed) (fault : FilterFault) → nat_lt 1024 (length (trimmed text)) ≡ b → ComesTo text v → misfit_of definition text ≡ m → answer_from (spots_of text) b v m filter ≡ Err fault → IsTold definition text fault
   told_from true v m filter fault b_is comes m_is h =
-      let same : TooMany ≡ fault = cc in
-      subst (IsTold definition text) same (inl (ltb-true 1024 (length (trimmed text)) b_is))
+      let same : TooLong ≡ fault = cc in
+      subst (IsTold definition text) same (ltb-true 1024 (length (trimmed text)) b_is)
   told_from false Fine None filter fault b_is comes m_is h = absurd (cc)
   told_from false Fine (Some f) filter fault b_is comes m_is h =
       let same : f ≡ fault = cc in
       fault_told fault (ltb-false 1024 (length (trimmed text)) b_is) comes (m_is ∙ ap (λ g. Some g) same)
-  told_from false TooDeep m filter fault b_is comes m_is h =
-      let same : TooMany ≡ fault = cc in
-      subst (IsTold definition text) same (inr (ltb-false 1024 (length (trimmed text)) b_is, comes))
+  told_from false verdicts.TooDeep m filter fault b_is comes m_is h =
+      let same : TooDeep ≡ fault = cc in
+      subst (IsTold definition text) same (ltb-false 1024 (length (trimmed text)) b_is, comes)
   told_from false (WrongAt at) m filter fault b_is comes m_is h =
-      let same : FilterSyntax at ≡ fault = cc in
-      subst (IsTold definition text) same (inl (ltb-false 1024 (length (trimmed text)) b_is, comes))
+      let same : FilterSyntax at (cause_at (spots_of text) at) ≡ fault = cc in
+      subst (IsTold definition text) same (inl (ltb-false 1024 (length (trimmed text)) b_is, comes, refl))
 
   told : (fault : FilterFault) → answer_of definition text ≡ Err fault → IsTold definition text fault
   unfolding answer_of
   told fault h = told_from (nat_lt 1024 (length (trimmed text))) (reading start (spots_of text) (length text)) (misfit_of definition text) (parsed_of definition text) fault refl verdict_is refl h
 
   -- and back
-  short_answer : (v : Verdict) (m : Option FilterFault) → length (trimmed text) ≤ 1024 → ComesTo text v → misfit_of definition text ≡ m → answer_of definition text ≡ answer_from false v m (parsed_of definition text)
+  short_answer : (v : Verdict) (m : Option FilterFault) → length (trimmed text) ≤ 1024 → ComesTo text v → misfit_of definition text ≡ m → answer_of definition text ≡ answer_from (spots_of text) false v m (parsed_of definition text)
   unfolding answer_of
-  short_answer v m short comes fits = λ i. answer_from (le-ltb 1024 (length (trimmed text)) short i) (only (length text) (spots_of text) v comes i) (fits i) (parsed_of definition text)
+  short_answer v m short comes fits = λ i. answer_from (spots_of text) (le-ltb 1024 (length (trimmed text)) short i) (only (length text) (spots_of text) v comes i) (fits i) (parsed_of definition text)
 
   filter_answer : IsFilter definition text → answer_of definition text ≡ Ok (parsed_of definition text)
   filter_answer is = short_answer Fine None is.short is.syntax is.fits
 
   refused_answer : (fault : FilterFault) → IsRefused definition text fault → answer_of definition text ≡ Err fault
   unfolding answer_of
-  refused_answer TooMany (inl more) = ap (λ b. answer_from b (reading start (spots_of text) (length text)) (misfit_of definition text) (parsed_of definition text)) (lt-ltb 1024 (length (trimmed text)) more)
-  refused_answer TooMany (inr h) = short_answer TooDeep (misfit_of definition text) h.0 h.1 refl
-  refused_answer (FilterSyntax at) (inl h) = short_answer (WrongAt at) (misfit_of definition text) h.0 h.1 refl
-  refused_answer (FilterSyntax at) (inr h) = short_answer Fine (Some (FilterSyntax at)) h.0 h.1 h.2
+  refused_answer TooLong more = ap (λ b. answer_from (spots_of text) b (reading start (spots_of text) (length text)) (misfit_of definition text) (parsed_of definition text)) (lt-ltb 1024 (length (trimmed text)) more)
+  refused_answer TooDeep h = short_answer verdicts.TooDeep (misfit_of definition text) h.0 h.1 refl
+  refused_answer (FilterSyntax at why) (inl h) = short_answer (WrongAt at) (misfit_of definition text) h.0 h.1 refl ∙ ap (λ w. Err (FilterSyntax at w)) (sym h.2)
+  refused_answer (FilterSyntax at why) (inr h) = short_answer Fine (Some (FilterSyntax at why)) h.0 h.1 h.2
   refused_answer (NoSuchField at) h = short_answer Fine (Some (NoSuchField at)) h.0 h.1 h.2
   refused_answer (WrongOperator at) h = short_answer Fine (Some (WrongOperator at)) h.0 h.1 h.2
   refused_answer Memory h = absurd h
@@ -154,11 +162,11 @@ module _ (definition : Definition) (text : List ℕ) where
   unfolding answer_of
   never_memory h = from (nat_lt 1024 (length (trimmed text))) (reading start (spots_of text) (length text)) (misfit_of definition text) (parsed_of definition text) (never_told Memory no_memory definition.fields (spots_of text)) h
     where
-      from : (b : Bool) (v : Verdict) (m : Option FilterFault) (filter : Parsed) → (m ≡ Some Memory → ⊥) → answer_from b v m filter ≡ Err Memory → ⊥
+      from : (b : Bool) (v : Verdict) (m : Option FilterFault) (filter : Parsed) → (m ≡ Some Memory → ⊥) → answer_from (spots_of text) b v m filter ≡ Err Memory → ⊥
       from true v m filter never h = cc
       from false Fine None filter never h = cc
       from false Fine (Some f) filter never h = let same : f ≡ Memory = cc in never (ap (λ g. Some g) same)
-      from false TooDeep m filter never h = cc
+      from false verdicts.TooDeep m filter never h = cc
       from false (WrongAt at) m filter never h = cc
 
   -- ---- the laws
@@ -166,9 +174,10 @@ module _ (definition : Definition) (text : List ℕ) where
   err_is : {f g : FilterFault} → answer_of definition text ≡ Err f → answer_of definition text ≡ Err g → f ≡ g
   err_is a b = cc
 
-  refused_of : (fault : FilterFault) → answer_of definition text ≡ Err fault → IsRefused definition text fault
-  refused_of TooMany h = told TooMany h
-  refused_of (FilterSyntax at) h = told (FilterSyntax at) h
+  pub refused_of : (fault : FilterFault) → answer_of definition text ≡ Err fault → IsRefused definition text fault
+  refused_of TooLong h = told TooLong h
+  refused_of TooDeep h = told TooDeep h
+  refused_of (FilterSyntax at why) h = told (FilterSyntax at why) h
   refused_of (NoSuchField at) h = told (NoSuchField at) h
   refused_of (WrongOperator at) h = told (WrongOperator at) h
   refused_of Memory h = never_memory h
@@ -227,7 +236,7 @@ module _ (definition : Definition) (text : List ℕ) where
         let comes = subst (ComesTo text) fine verdict_is in
         let fits : misfit_of definition text ≡ None = sym (misfit_found comes) ∙ found in
         let tested : subjects_tested moves ≡ subjects_in definition.fields (tokens_of (spots_of text)) = ap subjects_tested moves_is ∙ tested_subjects comes fits in
-        (λ i. answer_from (le-ltb 1024 (length (trimmed text)) short i) (fine i) (fits i) (parsed_of definition text))
+        (λ i. answer_from (spots_of text) (le-ltb 1024 (length (trimmed text)) short i) (fine i) (fits i) (parsed_of definition text))
         ∙ (λ i. Ok (record { text = sym items_is i; subjects = sym tested i }))
 
   -- ---- what `read` tells
@@ -239,8 +248,9 @@ module _ (definition : Definition) (text : List ℕ) where
       answer f h = let comes = subst (ComesTo text) fine verdict_is in short_answer Fine (Some f) short comes (sym (misfit_found comes) ∙ h)
 
       by : (f : FilterFault) → IsToldAs (first_fault definition.fields operands.Pid (spots_of text)) f → IsAnswered (Err f) (answer_of definition text)
-      by TooMany h = answer TooMany h
-      by (FilterSyntax at) h = answer (FilterSyntax at) h
+      by TooLong h = answer TooLong h
+      by TooDeep h = answer TooDeep h
+      by (FilterSyntax at why) h = answer (FilterSyntax at why) h
       by (NoSuchField at) h = answer (NoSuchField at) h
       by (WrongOperator at) h = answer (WrongOperator at) h
       by Memory h = tt
@@ -253,24 +263,27 @@ module _ (definition : Definition) (text : List ℕ) where
 
   pub parse_refused : (r : Result Parsed FilterFault) → IsAnswered r (answer_of definition text) → IfErr r (IsTold definition text)
   parse_refused (Ok found) e = tt
-  parse_refused (Err TooMany) e = told TooMany e
-  parse_refused (Err (FilterSyntax at)) e = told (FilterSyntax at) e
+  parse_refused (Err TooLong) e = told TooLong e
+  parse_refused (Err TooDeep) e = told TooDeep e
+  parse_refused (Err (FilterSyntax at why)) e = told (FilterSyntax at why) e
   parse_refused (Err (NoSuchField at)) e = told (NoSuchField at) e
   parse_refused (Err (WrongOperator at)) e = told (WrongOperator at) e
   parse_refused (Err Memory) e = tt
 
   pub parse_only : (r : Result Parsed FilterFault) → IsAnswered r (answer_of definition text) → IsFilter definition text → IsOkUnlessMemory r
   parse_only (Ok found) e is = tt
-  parse_only (Err TooMany) e is = let h : Ok (parsed_of definition text) ≡ Err TooMany = sym (filter_answer is) ∙ e in cc
-  parse_only (Err (FilterSyntax at)) e is = let h : Ok (parsed_of definition text) ≡ Err (FilterSyntax at) = sym (filter_answer is) ∙ e in cc
+  parse_only (Err TooLong) e is = let h : Ok (parsed_of definition text) ≡ Err TooLong = sym (filter_answer is) ∙ e in cc
+  parse_only (Err TooDeep) e is = let h : Ok (parsed_of definition text) ≡ Err TooDeep = sym (filter_answer is) ∙ e in cc
+  parse_only (Err (FilterSyntax at why)) e is = let h : Ok (parsed_of definition text) ≡ Err (FilterSyntax at why) = sym (filter_answer is) ∙ e in cc
   parse_only (Err (NoSuchField at)) e is = let h : Ok (parsed_of definition text) ≡ Err (NoSuchField at) = sym (filter_answer is) ∙ e in cc
   parse_only (Err (WrongOperator at)) e is = let h : Ok (parsed_of definition text) ≡ Err (WrongOperator at) = sym (filter_answer is) ∙ e in cc
   parse_only (Err Memory) e is = tt
 
   pub parse_told : (r : Result Parsed FilterFault) → IsAnswered r (answer_of definition text) → (fault : FilterFault) → IsRefused definition text fault → IsAsTold r fault
   parse_told (Ok found) e fault is = let h : Ok found ≡ Err fault = sym e ∙ refused_answer fault is in cc
-  parse_told (Err TooMany) e fault is = err_is e (refused_answer fault is)
-  parse_told (Err (FilterSyntax at)) e fault is = err_is e (refused_answer fault is)
+  parse_told (Err TooLong) e fault is = err_is e (refused_answer fault is)
+  parse_told (Err TooDeep) e fault is = err_is e (refused_answer fault is)
+  parse_told (Err (FilterSyntax at why)) e fault is = err_is e (refused_answer fault is)
   parse_told (Err (NoSuchField at)) e fault is = err_is e (refused_answer fault is)
   parse_told (Err (WrongOperator at)) e fault is = err_is e (refused_answer fault is)
   parse_told (Err Memory) e fault is = tt

@@ -19,6 +19,7 @@ pub mod TestedMoves
 pub mod Misfits
 pub mod TrimmedFilters
 pub mod FilterLemmas
+pub mod CauseLemmas
 pub mod ClassLemmas
 pub mod TreeDepths
 pub mod TreeFits

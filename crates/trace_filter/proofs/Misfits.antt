@@ -5,6 +5,7 @@ use Rattle.trace_format.specs.declared.operand.Operand.{Operand}
 use Rattle.trace_format.specs.Operands.{operand_named, is_text}
 use Rattle.trace_filter.specs.declared.token.Comparison.{Comparison}
 use Rattle.trace_filter.specs.declared.fault.FilterFault.TheVariants.{FilterSyntax, NoSuchField, WrongOperator}
+use Rattle.trace_filter.specs.declared.fault.FilterCause.TheVariants as cause
 use Rattle.trace_filter.specs.Tokens.{Literal, Token, Open, Close, Bang, AndAnd, OrOr, Compare, Name, Value, Illegible, Spot, tokens_of}
 use Rattle.trace_filter.specs.Fields.{takes_at, fits_at, unless, or_later, test_fault, first_misfit}
 use Rattle.trace_filter.specs.Subjects.{unless_named, named_or, first_fault}
@@ -23,15 +24,15 @@ module _ (fields : List Field) where
       named (operand_named fields name)
     where
       fits : (s : Operand) (takes fit : Bool)
-          → or_later (unless takes (WrongOperator by_at)) (or_later (unless fit (FilterSyntax value_at)) (first_fault fields s rest))
-          ≡ or_later (or_later (unless takes (WrongOperator by_at)) (unless fit (FilterSyntax value_at))) (first_misfit fields rest)
+          → or_later (unless takes (WrongOperator by_at)) (or_later (unless fit (FilterSyntax value_at cause.Value)) (first_fault fields s rest))
+          ≡ or_later (or_later (unless takes (WrongOperator by_at)) (unless fit (FilterSyntax value_at cause.Value))) (first_misfit fields rest)
       fits s true true = agree s h
       fits s true false = refl
       fits s false fit = refl
 
       named : (o : Option Operand)
           → or_later (unless_named o (NoSuchField at))
-          (or_later (unless (takes_at (is_text (named_or o subject)) by) (WrongOperator by_at)) (or_later (unless (fits_at (is_text (named_or o subject)) literal) (FilterSyntax value_at)) (first_fault fields (named_or o subject) rest)))
+          (or_later (unless (takes_at (is_text (named_or o subject)) by) (WrongOperator by_at)) (or_later (unless (fits_at (is_text (named_or o subject)) literal) (FilterSyntax value_at cause.Value)) (first_fault fields (named_or o subject) rest)))
           ≡ or_later (test_fault (option_map is_text o) at (record { at = by_at; token = Compare by }) (record { at = value_at; token = Value literal })) (first_misfit fields rest)
       named None = refl
       named (Some s) = fits s (takes_at (is_text s) by) (fits_at (is_text s) literal)

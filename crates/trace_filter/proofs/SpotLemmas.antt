@@ -62,6 +62,7 @@ module _ (text : List ℕ) (value_due : Bool) (start n : ℕ) (n_is : n ≡ pref
       record {
         spots = from_token ∙ ap (spots_from value_due 0 at) rest ∙ cond-false (is_blank b) _ _ first_unblank ∙ both at is.token others;
         within = omega (arith, is.within, more_is, left);
+        after = omega arith;
         forward = omega arith;
       }
     where

@@ -5,7 +5,8 @@ use Rattle.std.proofs.lemmas.List.Elements.{All-nil, All-cons, All-head, All-tai
 use Rattle.trace_format.specs.declared.event.Field.{Field}
 use Rattle.trace_filter.specs.declared.token.Comparison.{Comparison}
 use Rattle.trace_filter.specs.declared.fault.FilterFault.{FilterFault}
-use Rattle.trace_filter.specs.declared.fault.FilterFault.TheVariants.{TooMany, FilterSyntax, NoSuchField, WrongOperator, Memory}
+use Rattle.trace_filter.specs.declared.fault.FilterFault.TheVariants.{TooLong, TooDeep, FilterSyntax, NoSuchField, WrongOperator, Memory}
+use Rattle.trace_filter.specs.declared.fault.FilterCause.TheVariants as cause
 use Rattle.trace_filter.specs.Tokens.{Literal, Token, Open, Close, Bang, AndAnd, OrOr, Compare, Name, Value, Illegible, Spot, tokens_of}
 use Rattle.trace_filter.specs.Grammar.{Expr, AllOf, Or, Conj, Only, And, Unary, Not, Group, Test, expr_tokens, conj_tokens, unary_tokens, Spells}
 use Rattle.trace_filter.specs.Fields.{is_text_named, takes_at, fits_at, unless, or_later, test_fault, first_misfit}
@@ -153,7 +154,7 @@ module _ (fields : List Field) where
   fits_none : (p : Located) → TestFits fields p.test → fault_of p ≡ None
   fits_none p fit =
       ap (fault_by p) fit.named
-      ∙ (λ i. or_later (unless (fit.takes i) (WrongOperator p.operator_at)) (unless (fit.fits i) (FilterSyntax p.value_at)))
+      ∙ (λ i. or_later (unless (fit.takes i) (WrongOperator p.operator_at)) (unless (fit.fits i) (FilterSyntax p.value_at cause.Value)))
 
   none_fits : (p : Located) → fault_of p ≡ None → TestFits fields p.test
   none_fits p h = by (is_text_named fields p.test.name) refl h
@@ -161,12 +162,12 @@ module _ (fields : List Field) where
       by : (o : Option Bool) → is_text_named fields p.test.name ≡ o → fault_by p o ≡ None → TestFits fields p.test
       by None e h = absurd (cc)
       by (Some text) e h =
-          let parts = both_none (unless (takes_at text p.test.comparison) (WrongOperator p.operator_at)) (unless (fits_at text p.test.literal) (FilterSyntax p.value_at)) h in
+          let parts = both_none (unless (takes_at text p.test.comparison) (WrongOperator p.operator_at)) (unless (fits_at text p.test.literal) (FilterSyntax p.value_at cause.Value)) h in
           record {
             has_text = text;
             named = e;
             takes = unless_true (takes_at text p.test.comparison) (WrongOperator p.operator_at) parts.0;
-            fits = unless_true (fits_at text p.test.literal) (FilterSyntax p.value_at) parts.1;
+            fits = unless_true (fits_at text p.test.literal) (FilterSyntax p.value_at cause.Value) parts.1;
           }
 
   abbrev WrongFirst : Located → List Located → FilterFault → Type 0
@@ -176,9 +177,9 @@ module _ (fields : List Field) where
   fault_wrong p located fault h = by (is_text_named fields p.test.name) refl h
     where
       by_test : (text takes fits : Bool) → is_text_named fields p.test.name ≡ Some text → takes_at text p.test.comparison ≡ takes → fits_at text p.test.literal ≡ fits
-          → or_later (unless takes (WrongOperator p.operator_at)) (unless fits (FilterSyntax p.value_at)) ≡ Some fault → WrongFirst p located fault
+          → or_later (unless takes (WrongOperator p.operator_at)) (unless fits (FilterSyntax p.value_at cause.Value)) ≡ Some fault → WrongFirst p located fault
       by_test text true true e t f h = absurd (cc)
-      by_test text true false e t f h = subst (WrongFirst p located) (some_is h) (record { has_text = text; named = e; takes = t; refused = f }, refl)
+      by_test text true false e t f h = subst (WrongFirst p located) (some_is h) ((record { has_text = text; named = e; takes = t; refused = f }, refl), refl)
       by_test text false fits e t f h = subst (WrongFirst p located) (some_is h) (record { has_text = text; named = e; refused = t }, refl)
 
       by : (o : Option Bool) → is_text_named fields p.test.name ≡ o → fault_by p o ≡ Some fault → WrongFirst p located fault
@@ -186,16 +187,17 @@ module _ (fields : List Field) where
       by (Some text) e h = by_test text (takes_at text p.test.comparison) (fits_at text p.test.literal) e refl refl h
 
   wrong_fault : (p : Located) (located : List Located) (fault : FilterFault) → HasFault fields p.test fault → IsAt (offsets_at (p ∷ located)) 0 fault → fault_of p ≡ Some fault
-  wrong_fault p located TooMany w at = absurd w
+  wrong_fault p located TooLong w at = absurd w
+  wrong_fault p located TooDeep w at = absurd w
   wrong_fault p located Memory w at = absurd w
   wrong_fault p located (NoSuchField offset) w at =
       ap (fault_by p) w ∙ ap (λ x. Some (NoSuchField x)) (some_is at)
   wrong_fault p located (WrongOperator offset) w at =
       ap (fault_by p) w.named
-      ∙ ap (λ b. or_later (unless b (WrongOperator p.operator_at)) (unless (fits_at w.has_text p.test.literal) (FilterSyntax p.value_at))) w.refused ∙ ap (λ x. Some (WrongOperator x)) (some_is at)
-  wrong_fault p located (FilterSyntax offset) w at =
-      ap (fault_by p) w.named
-      ∙ (λ i. or_later (unless (w.takes i) (WrongOperator p.operator_at)) (unless (w.refused i) (FilterSyntax p.value_at))) ∙ ap (λ x. Some (FilterSyntax x)) (some_is at)
+      ∙ ap (λ b. or_later (unless b (WrongOperator p.operator_at)) (unless (fits_at w.has_text p.test.literal) (FilterSyntax p.value_at cause.Value))) w.refused ∙ ap (λ x. Some (WrongOperator x)) (some_is at)
+  wrong_fault p located (FilterSyntax offset why) w at =
+      ap (fault_by p) w.0.named
+      ∙ (λ i. or_later (unless (w.0.takes i) (WrongOperator p.operator_at)) (unless (w.0.refused i) (FilterSyntax p.value_at cause.Value))) ∙ (λ i. Some (FilterSyntax (some_is at i) (sym w.1 i)))
 
   -- ---- all tests
 
@@ -211,15 +213,17 @@ module _ (fields : List Field) where
       ap (λ o. or_later o (first_of located)) (fits_none p (All-head (TestFits fields) p.test (tests_at located) h)) ∙ all_fit_none located (All-tail (TestFits fields) p.test (tests_at located) h)
 
   one_later : (p : Located) (located : List Located) (before : ℕ) (fault : FilterFault) → IsAt (offsets_at located) before fault → IsAt (offsets_at (p ∷ located)) (suc before) fault
-  one_later p located before TooMany h = h
-  one_later p located before (FilterSyntax at) h = h
+  one_later p located before TooLong h = h
+  one_later p located before TooDeep h = h
+  one_later p located before (FilterSyntax at why) h = h
   one_later p located before (NoSuchField at) h = h
   one_later p located before (WrongOperator at) h = h
   one_later p located before Memory h = h
 
   one_earlier : (p : Located) (located : List Located) (before : ℕ) (fault : FilterFault) → IsAt (offsets_at (p ∷ located)) (suc before) fault → IsAt (offsets_at located) before fault
-  one_earlier p located before TooMany h = h
-  one_earlier p located before (FilterSyntax at) h = h
+  one_earlier p located before TooLong h = h
+  one_earlier p located before TooDeep h = h
+  one_earlier p located before (FilterSyntax at why) h = h
   one_earlier p located before (NoSuchField at) h = h
   one_earlier p located before (WrongOperator at) h = h
   one_earlier p located before Memory h = h

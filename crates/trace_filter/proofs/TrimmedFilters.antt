@@ -4,7 +4,8 @@ use Rattle.std.specs.List.{prefix_len}
 use Rattle.trace_format.specs.declared.event.Field.{Field}
 use Rattle.trace_format.specs.Definitions.{Definition}
 use Rattle.trace_filter.specs.declared.fault.FilterFault.{FilterFault}
-use Rattle.trace_filter.specs.declared.fault.FilterFault.TheVariants.{TooMany, FilterSyntax, NoSuchField, WrongOperator, Memory}
+use Rattle.trace_filter.specs.declared.fault.FilterFault.TheVariants.{TooLong, TooDeep, FilterSyntax, NoSuchField, WrongOperator, Memory}
+use Rattle.trace_filter.specs.declared.fault.FilterCause.TheVariants as cause
 use Rattle.trace_lex.specs.Blanks.{is_blank, without_end, trimmed}
 use Rattle.trace_filter.specs.Tokens.{Token, Compare, Name, Value, Spot, spots_of, tokens_of, shifted_by}
 use Rattle.trace_filter.specs.Grammar.{IsFine, IsWhole, depth_of}
@@ -15,8 +16,9 @@ use Rattle.trace_filter.proofs.TrimLemmas.{trimmed_spots, trimmed_tokens, trimme
 
 -- a fault so many bytes later
 abbrev later_by : ℕ → FilterFault → FilterFault
-later_by more TooMany = TooMany
-later_by more (FilterSyntax at) = FilterSyntax (more + at)
+later_by more TooLong = TooLong
+later_by more TooDeep = TooDeep
+later_by more (FilterSyntax at why) = FilterSyntax (more + at) why
 later_by more (NoSuchField at) = NoSuchField (more + at)
 later_by more (WrongOperator at) = WrongOperator (more + at)
 later_by more Memory = Memory
@@ -40,7 +42,7 @@ module _ (more : ℕ) (fields : List Field) where
   value : (text : Bool) (token : Token) (at : ℕ) → Later (value_fault text token (more + at)) (value_fault text token at)
   value text (Value literal) at = fault (fits_at text literal)
     where
-      fault : (b : Bool) → Later (unless b (FilterSyntax (more + at))) (unless b (FilterSyntax at))
+      fault : (b : Bool) → Later (unless b (FilterSyntax (more + at) cause.Value)) (unless b (FilterSyntax at cause.Value))
       fault true = refl
       fault false = refl
   value text _ at = refl

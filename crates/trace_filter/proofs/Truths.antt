@@ -8,6 +8,7 @@ use Rattle.trace_filter.specs.declared.token.Comparison.{Comparison}
 use Rattle.trace_filter.specs.declared.frames.Frame.{Frame}
 use Rattle.trace_filter.specs.declared.fault.FilterFault.{FilterFault}
 use Rattle.trace_filter.specs.declared.fault.FilterFault.TheVariants.{FilterSyntax, NoSuchField, WrongOperator}
+use Rattle.trace_filter.specs.declared.fault.FilterCause.TheVariants as cause
 use Rattle.trace_filter.specs.Tokens.{Literal, Token, Open, Close, Bang, AndAnd, OrOr, Compare, Name, Value, Illegible, Spot, tokens_of}
 use Rattle.trace_filter.specs.Grammar.{Expr, AllOf, Or, Conj, Only, And, Unary, Not, Group, Test, expr_tokens, conj_tokens, unary_tokens, deepest}
 use Rattle.trace_filter.specs.Fields.{takes_at, fits_at, unless, or_later}
@@ -94,7 +95,7 @@ no_fault fields subject AndAnd at offset h = refl
 no_fault fields subject OrOr at offset h = refl
 no_fault fields subject Illegible at offset h = refl
 no_fault fields subject (Compare by) at offset h = ap (λ b. unless b (WrongOperator offset)) (unless_true (takes_at (is_text subject) by) (WrongOperator at) h)
-no_fault fields subject (Value literal) at offset h = ap (λ b. unless b (FilterSyntax offset)) (unless_true (fits_at (is_text subject) literal) (FilterSyntax at) h)
+no_fault fields subject (Value literal) at offset h = ap (λ b. unless b (FilterSyntax offset cause.Value)) (unless_true (fits_at (is_text subject) literal) (FilterSyntax at cause.Value) h)
 no_fault fields subject (Name name) at offset h = ap (λ o. unless_named o (NoSuchField offset)) (unless_some (operand_named fields name) (NoSuchField at) h).is
 
 pub all_fit : (fields : List Field) (subject : Operand) (spots : List Spot) → first_fault fields subject spots ≡ None → AllFit fields subject (tokens_of spots)
@@ -240,7 +241,7 @@ module _ (fields : List Field) (emission : Emission) where
           let found = unless_some (operand_named fields name) (NoSuchField 0) fit.0 in
           let same : named_or (operand_named fields name) subject ≡ found.subject = ap (λ o. named_or o subject) found.is in
           let takes : takes_at (is_text found.subject) c ≡ true = ap (λ s. takes_at (is_text s) c) (sym same) ∙ unless_true (takes_at (is_text (named_or (operand_named fields name) subject)) c) (WrongOperator 0) fit.1.0 in
-          let fits : fits_at (is_text found.subject) literal ≡ true = ap (λ s. fits_at (is_text s) literal) (sym same) ∙ unless_true (fits_at (is_text (named_or (operand_named fields name) subject)) literal) (FilterSyntax 0) fit.1.1.0 in
+          let fits : fits_at (is_text found.subject) literal ≡ true = ap (λ s. fits_at (is_text s) literal) (sym same) ∙ unless_true (fits_at (is_text (named_or (operand_named fields name) subject)) literal) (FilterSyntax 0 cause.Value) fit.1.1.0 in
           let decided = tests name found.subject c literal found.is takes fits in
           record {
             holds = test_of c (operand_value emission found.subject) (datum_at (is_text found.subject) literal);

@@ -7,6 +7,7 @@ use Rattle.trace_filter.specs.declared.token.Comparison.{Comparison}
 use Rattle.trace_filter.specs.declared.token.Comparison.TheVariants as comparison
 use Rattle.trace_filter.specs.declared.fault.FilterFault.{FilterFault}
 use Rattle.trace_filter.specs.declared.fault.FilterFault.TheVariants.{FilterSyntax, NoSuchField, WrongOperator}
+use Rattle.trace_filter.specs.declared.fault.FilterCause.TheVariants as cause
 use Rattle.trace_filter.specs.Tokens.{Literal, Word, Quoted, Token, Compare, Name, Value, Spot}
 
 -- whether what a name means in the event is a text, if it means something
@@ -53,7 +54,7 @@ operator_fault text _ at = None
 
 -- a value that does not fit: it is no NUMBER, and the field needs one
 abbrev pub value_fault : Bool → Token → ℕ → Option FilterFault
-value_fault text (Value literal) at = unless (fits_at text literal) (FilterSyntax at)
+value_fault text (Value literal) at = unless (fits_at text literal) (FilterSyntax at cause.Value)
 value_fault text _ at = None
 
 -- what is wrong with a test: its field, then its operator, then its value

@@ -3,7 +3,8 @@ use Rattle.std.specs.Prelude.{◌≡◌, ℕ, Bool, true, false, IsTrue, List, [
 use Rattle.trace_format.specs.declared.event.Field.{Field}
 use Rattle.trace_filter.specs.declared.token.Comparison.{Comparison}
 use Rattle.trace_filter.specs.declared.fault.FilterFault.{FilterFault}
-use Rattle.trace_filter.specs.declared.fault.FilterFault.TheVariants.{TooMany, FilterSyntax, NoSuchField, WrongOperator, Memory}
+use Rattle.trace_filter.specs.declared.fault.FilterFault.TheVariants.{TooLong, TooDeep, FilterSyntax, NoSuchField, WrongOperator, Memory}
+use Rattle.trace_filter.specs.declared.fault.FilterCause.TheVariants as cause
 use Rattle.trace_filter.specs.Tokens.{Literal, Token, Name, Value, is_comparison, Spot}
 use Rattle.trace_filter.specs.Grammar.{Expr, AllOf, Or, Conj, Only, And, Unary, Not, Group, Test}
 use Rattle.trace_filter.specs.Fields.{is_text_named, takes_at, fits_at}
@@ -58,8 +59,9 @@ pub record IsWronglyValued (fields : List Field) (test : OneTest) : Type 0 where
 
 -- the test has the fault: its name means nothing in the event, or else its operator or its value is wrong
 abbrev pub HasFault : List Field → OneTest → FilterFault → Type 0
-HasFault fields test TooMany = ⊥
-HasFault fields test (FilterSyntax at) = IsWronglyValued fields test
+HasFault fields test TooLong = ⊥
+HasFault fields test TooDeep = ⊥
+HasFault fields test (FilterSyntax at why) = IsWronglyValued fields test × (why ≡ cause.Value)
 HasFault fields test (NoSuchField at) = is_text_named fields test.name ≡ None
 HasFault fields test (WrongOperator at) = IsWronglyCompared fields test
 HasFault fields test Memory = ⊥
@@ -90,8 +92,9 @@ test_offsets spots = record { names = offsets_of is_name_token spots; operators 
 
 -- the fault is told at the name, the operator or the value of the test that has so many before it
 abbrev pub IsAt : TestOffsets → ℕ → FilterFault → Type 0
-IsAt offsets before TooMany = ⊥
-IsAt offsets before (FilterSyntax at) = slice_get offsets.values before ≡ Some at
+IsAt offsets before TooLong = ⊥
+IsAt offsets before TooDeep = ⊥
+IsAt offsets before (FilterSyntax at why) = slice_get offsets.values before ≡ Some at
 IsAt offsets before (NoSuchField at) = slice_get offsets.names before ≡ Some at
 IsAt offsets before (WrongOperator at) = slice_get offsets.operators before ≡ Some at
 IsAt offsets before Memory = ⊥

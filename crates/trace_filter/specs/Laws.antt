@@ -1,19 +1,25 @@
 -- What `Filters` says, as laws without a program.
-use Rattle.std.specs.Prelude.{◌≡◌, ◌⊎◌, ◌↔◌, ◌≤◌, ℕ, List, map, IsTrue, None, Some, Ok, Err}
+use Rattle.std.specs.Prelude.{◌≡◌, ◌⊎◌, ◌↔◌, ◌≤◌, ℕ, List, map, IsTrue, None, Some, option_map, Ok, Err}
 use Rattle.std.specs.List.{prefix_len}
 use Rattle.trace_format.specs.Cells.{Cells, IsRowOf}
 use Rattle.trace_format.specs.Definitions.{Definition, IsDefinition}
 use Rattle.trace_filter.specs.declared.fault.FilterFault.{FilterFault}
+use Rattle.trace_filter.specs.declared.fault.FilterFault.TheVariants.{FilterSyntax}
+use Rattle.trace_filter.specs.declared.fault.FilterCause.{FilterCause}
+use Rattle.trace_filter.specs.declared.fault.FilterCause.TheVariants.{JointAfterSigns}
+use Rattle.trace_filter.specs.declared.syntax.Verdict.TheVariants.{WrongAt}
 use Rattle.trace_lex.specs.Blanks.{is_blank, without_end, trimmed}
 use Rattle.trace_filter.specs.Tokens.{Token, Spot, spots_of, tokens_of, shifted_by}
 use Rattle.trace_filter.specs.TokenGrammar.{IsWrittenText}
 use Rattle.trace_filter.specs.Grammar.{Expr, Spells, depth_of, depth}
+use Rattle.trace_filter.specs.Syntax.{Standing, start}
+use Rattle.trace_filter.specs.FilterCauses.{cause_at, due_at, standing_before, IsAfterSigns}
 use Rattle.trace_filter.specs.Fits.{tests_of, EachTestFits, test_offsets, IsFirstMisfit}
 use Rattle.trace_filter.specs.Globs.{Class, is_in_class, Element, parts_of}
 use Rattle.trace_filter.specs.GlobGrammar.{IsWrittenGlob}
 use Rattle.trace_filter.specs.ClassGrammar.{Member, AreWrittenOf, ClassHolds}
 use Rattle.trace_format.specs.Operands.{Emission}
-use Rattle.trace_filter.specs.Filters.{IsShort, misfit_of, IsFilter, IsRefused, Passes, parsed_of, answer_of}
+use Rattle.trace_filter.specs.Filters.{IsShort, ComesTo, misfit_of, IsFilter, IsRefused, Passes, parsed_of, answer_of}
 use Rattle.trace_filter.specs.Values.{holds_of}
 
 -- what the function of the text gives is a filter for just the texts that are one by the grammar and the fields
@@ -35,6 +41,20 @@ NeverBoth = (definition : Definition) → (text : List ℕ) → (fault : FilterF
 -- and none is refused for two faults
 abbrev pub OneRefusal : Type 0
 OneRefusal = (definition : Definition) → (text : List ℕ) → (one other : FilterFault) → IsRefused definition text one → IsRefused definition text other → one ≡ other
+
+-- the cause of each fault of syntax is the one at its offset, also where a value does not fit its field
+abbrev pub CauseIsThere : Type 0
+CauseIsThere = (definition : Definition) → (text : List ℕ) → (at : ℕ) → (cause : FilterCause)
+    → answer_of definition text ≡ Err (FilterSyntax at cause) → cause ≡ cause_at (spots_of text) at
+
+-- where the tokens are wrong, those before the offset can be taken, and lead to where what the cause names is due
+abbrev pub CauseIsDue : Type 0
+CauseIsDue = (text : List ℕ) → (at : ℕ) → ComesTo text (WrongAt at)
+    → option_map (λ (standing : Standing). standing.due) (standing_before start (spots_of text) at) ≡ Some (due_at (cause_at (spots_of text) at))
+
+-- and it is `JointAfterSigns` exactly where the last token before the offset is a bare word that has bytes of operators alone
+abbrev pub SignsAreTold : Type 0
+SignsAreTold = (spots : List Spot) → (at : ℕ) → (cause_at spots at ≡ JointAfterSigns) ↔ IsAfterSigns spots at
 
 -- the tokens of a text spell a tree that is at most 16 deep and whose tests each fit the event
 pub record SpellsFittingTree (definition : Definition) (text : List ℕ) : Type 0 where

@@ -1,6 +1,7 @@
 pub mod Tokens
 pub mod Grammar
 pub mod Syntax
+pub mod FilterCauses
 pub mod Globs
 pub mod GlobGrammar
 pub mod ClassGrammar
@@ -17,3 +18,4 @@ pub mod Values
 pub mod Laws
 pub mod FilterFaultTexts
 pub mod private
+pub mod FilterExamples

@@ -6,7 +6,8 @@ use Rattle.trace_format.specs.declared.event.Field.{Field}
 use Rattle.trace_format.specs.declared.operand.Operand.{Operand}
 use Rattle.trace_format.specs.Operands.{operand_named, is_text}
 use Rattle.trace_filter.specs.declared.fault.FilterFault.{FilterFault}
-use Rattle.trace_filter.specs.declared.fault.FilterFault.TheVariants.{TooMany, FilterSyntax, NoSuchField, WrongOperator, Memory}
+use Rattle.trace_filter.specs.declared.fault.FilterFault.TheVariants.{TooLong, TooDeep, FilterSyntax, NoSuchField, WrongOperator, Memory}
+use Rattle.trace_filter.specs.declared.fault.FilterCause.TheVariants as cause
 use Rattle.trace_filter.specs.Tokens.{Token, Open, Close, Bang, AndAnd, OrOr, Compare, Name, Value, Illegible, Spot}
 use Rattle.trace_filter.specs.Fields.{takes_at, fits_at, unless, or_later}
 
@@ -36,7 +37,7 @@ fault_at fields subject AndAnd at = None
 fault_at fields subject OrOr at = None
 fault_at fields subject (Compare by) at = unless (takes_at (is_text subject) by) (WrongOperator at)
 fault_at fields subject (Name name) at = unless_named (operand_named fields name) (NoSuchField at)
-fault_at fields subject (Value literal) at = unless (fits_at (is_text subject) literal) (FilterSyntax at)
+fault_at fields subject (Value literal) at = unless (fits_at (is_text subject) literal) (FilterSyntax at cause.Value)
 fault_at fields subject Illegible at = None
 
 abbrev pub named_or : Option Operand → Operand → Operand
@@ -62,8 +63,9 @@ first_fault fields subject (spot ∷ spots) = or_later (fault_at fields subject 
 
 -- the fault is the one that is there, or memory was refused
 abbrev pub IsToldAs : Option FilterFault → FilterFault → Type 0
-IsToldAs there TooMany = there ≡ Some TooMany
-IsToldAs there (FilterSyntax at) = there ≡ Some (FilterSyntax at)
+IsToldAs there TooLong = there ≡ Some TooLong
+IsToldAs there TooDeep = there ≡ Some TooDeep
+IsToldAs there (FilterSyntax at why) = there ≡ Some (FilterSyntax at why)
 IsToldAs there (NoSuchField at) = there ≡ Some (NoSuchField at)
 IsToldAs there (WrongOperator at) = there ≡ Some (WrongOperator at)
 IsToldAs there Memory = Unit {0}

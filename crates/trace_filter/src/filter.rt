@@ -70,12 +70,13 @@ impl Filter {
         let body = trim_end(text);
         let trimmed = trim(text);
         if trimmed.len() > LONGEST {
-            return Err(FilterFault::TooMany);
+            return Err(FilterFault::TooLong);
         }
-        match read_syntax(body, text.len()) {
+        let (verdict, cause) = read_syntax(body, text.len());
+        match verdict {
             Verdict::Fine => {}
-            Verdict::TooDeep => return Err(FilterFault::TooMany),
-            Verdict::WrongAt(at) => return Err(FilterFault::FilterSyntax { at }),
+            Verdict::TooDeep => return Err(FilterFault::TooDeep),
+            Verdict::WrongAt(at) => return Err(FilterFault::FilterSyntax { at, cause }),
         }
         let steps = compile(alloc, body, def.fields())?;
         Ok(Filter {

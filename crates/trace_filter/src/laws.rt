@@ -1,6 +1,7 @@
 //! What the definitions of the contracts mean. Each function does nothing: its contract is a theorem.
 
-ghost use Rattle.trace_filter.specs.Laws.{FilterIsAnswered, RefusalIsAnswered, FilterOrRefused, NeverBoth, OneRefusal, FilterIsItsTree, TokensAreAsWritten, GlobsAreAsWritten, ClassIsWritten, OneListOfMembers, ClassHoldsAsWritten, TrimmedHasTheTokens, TrimmedIsTheFilter, TrimmedPassesTheSame, NothingIsLeftToTrim, HoldsAsItsTree, DepthIsOfTheTree, OneTree, FitsAsItsTree, MisfitIsTheFirst};
+ghost use Rattle.trace_filter.specs.FilterExamples.{CausesAreTold};
+ghost use Rattle.trace_filter.specs.Laws.{FilterIsAnswered, RefusalIsAnswered, FilterOrRefused, NeverBoth, OneRefusal, CauseIsThere, CauseIsDue, SignsAreTold, FilterIsItsTree, TokensAreAsWritten, GlobsAreAsWritten, ClassIsWritten, OneListOfMembers, ClassHoldsAsWritten, TrimmedHasTheTokens, TrimmedIsTheFilter, TrimmedPassesTheSame, NothingIsLeftToTrim, HoldsAsItsTree, DepthIsOfTheTree, OneTree, FitsAsItsTree, MisfitIsTheFirst};
 
 /// What the function `answer_of` gives is a filter for just the texts that are one, and a fault for just those that are refused for it. Each
 /// text is one or the other, not both, and is refused for one fault at most. A text is a filter exactly where it is short and its tokens spell a
@@ -12,6 +13,20 @@ pub fn filters_are_as_written()
     ensures not_both { NeverBoth }
     ensures unique { OneRefusal }
     ensures tree { FilterIsItsTree }
+{}
+
+/// The cause that a fault of syntax tells is the one at its offset, by the last token before it. Where the syntax is wrong, the grammar takes the
+/// tokens before the offset one by one, and just what the cause names is due after them. It is `JointAfterSigns` exactly if the last of them is a
+/// value without quotes that has only bytes of operators.
+pub fn causes_are_of_the_grammar()
+    ensures told { CauseIsThere }
+    ensures due { CauseIsDue }
+    ensures signs { SignsAreTold }
+{}
+
+/// The worked examples, computed: strings that are no filter for their syntax, with the offset and the cause told.
+pub fn examples_are_told()
+    ensures { CausesAreTold }
 {}
 
 /// Each text can be written of blanks, tokens and bytes where no token begins, and however it is, its tokens and their offsets are those that

@@ -11,5 +11,6 @@ mod syntax;
 mod test;
 mod token;
 
-pub use fault::FilterFault;
+pub use fault::{FilterCause, FilterFault};
 pub use filter::{Filter, applies_to};
+pub use token::is_sign;

@@ -29,7 +29,7 @@ ghost use Rattle.trace_filter.specs.Tokens.{spots_from, tokens_of};
 ghost use Rattle.trace_filter.specs.Subjects.{first_fault, IsToldAs};
 ghost use Rattle.trace_filter.specs.Steps.{move_of, moves_from, evaluated, at_start, fresh, with_operand};
 
-use crate::fault::FilterFault;
+use crate::fault::{FilterCause, FilterFault};
 use crate::frames::Frames;
 use crate::test::{compare_values, read_literal, takes};
 use crate::token::{Comparison, Token, next_token};
@@ -161,7 +161,8 @@ impl Compiler {
             }
             Token::Value(literal) => {
                 let Some(value) = read_literal(alloc, self.subject, literal)? else {
-                    return Err(FilterFault::FilterSyntax { at });
+                    let cause = FilterCause::Value;
+                    return Err(FilterFault::FilterSyntax { at, cause });
                 };
                 Step::Test(Test {
                     subject: self.subject,

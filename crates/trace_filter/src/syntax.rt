@@ -4,7 +4,9 @@ ghost use Rattle.std.specs.Prelude.{◌≡◌, ◌≤◌, ◌<◌, ◌+◌, ◌�
 ghost use Rattle.trace_filter.specs.Grammar.{open_count};
 ghost use Rattle.trace_filter.specs.Tokens.{spots_from};
 ghost use Rattle.trace_filter.specs.Syntax.{start, reading};
+ghost use Rattle.trace_filter.specs.private.Seen.{IsCauseOf};
 
+use crate::fault::FilterCause;
 use crate::token::{Token, next_token};
 use arrayvec::ArrayVec;
 use std::marker::Model;
@@ -125,26 +127,29 @@ fn total(counts: &[usize]) -> usize
     counts.iter().sum()
 }
 
-/// What the tokens of a text come to, which is the front of one of so many bytes.
-pub(crate) fn read_syntax(text: &[u8], len: usize) -> Verdict
-    ensures { result ≡ reading start (spots_from false 0 0 text.now) len }
+/// What the tokens of a text come to, which is the front of one of so many bytes, and what could go on after the last of them that was taken.
+pub(crate) fn read_syntax(text: &[u8], len: usize) -> (Verdict, FilterCause)
+    ensures verdict { result.0 ≡ reading start (spots_from false 0 0 text.now) len }
+    ensures cause { length text.now ≤ len → IsCauseOf (spots_from false 0 0 text.now) result.0 result.1 }
 {
     let mut reader = Reader::new();
+    let mut cause = FilterCause::Operand;
     let mut from = 0;
     let mut value_due = false;
     while let Some(spot) = next_token(text, from, value_due) {
         if !reader.take(spot.token) {
-            return Verdict::WrongAt(spot.at);
+            return (Verdict::WrongAt(spot.at), cause);
         }
         if reader.depth() > DEEPEST {
-            return Verdict::TooDeep;
+            return (Verdict::TooDeep, cause);
         }
+        cause = spot.token.cause_after();
         from = spot.end;
         value_due = spot.token.is_comparison();
     }
     if reader.may_end() {
-        Verdict::Fine
+        (Verdict::Fine, cause)
     } else {
-        Verdict::WrongAt(len)
+        (Verdict::WrongAt(len), cause)
     }
 }

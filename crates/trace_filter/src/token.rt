@@ -1,11 +1,13 @@
 //! The tokens of a filter.
 
 ghost use Rattle.std.specs.Prelude.{◌≡◌, ◌≤◌, ◌<◌, [], ◌∷◌, length, drop, nat_lt, if◌then◌else◌, IfNone, IfSome};
-ghost use Rattle.std.specs.List.{prefix_len};
+ghost use Rattle.std.specs.List.{prefix_len, list_all};
 ghost use Rattle.trace_lex.specs.Names.{is_name as spec_is_name, is_name_byte as spec_name_byte};
 ghost use Rattle.trace_filter.specs.Tokens.{Name, Illegible, is_quote as spec_quote, is_word_byte as spec_word_byte, begins_with as spec_begins_with, quoted_piece as spec_quoted_piece, word_piece as spec_word_piece, name_piece as spec_name_piece, longest as spec_longest, symbol_piece as spec_symbol_piece, piece_of, is_comparison as spec_comparison, spots_from};
+ghost use Rattle.trace_filter.specs.FilterCauses.{is_sign as spec_sign, cause_after as spec_cause_after};
 ghost use Rattle.trace_filter.specs.private.Seen.{token_of, IsPiece, IsNextToken};
 
+use crate::fault::FilterCause;
 use trace_lex::{blanks_len, is_blank, is_name, is_name_byte, len_before, rest_of};
 
 /// How a test compares a field's value with a written one.
@@ -52,6 +54,27 @@ impl Token<'_> {
     {
         matches!(self, Token::Compare(_))
     }
+
+    /// What could go on after the token.
+    pub(crate) fn cause_after(&self) -> FilterCause
+        ensures { result ≡ spec_cause_after (token_of self.now) }
+    {
+        match self {
+            Token::Open | Token::Bang | Token::AndAnd | Token::OrOr | Token::Illegible => {
+                FilterCause::Operand
+            }
+            Token::Name(_) => FilterCause::Operator,
+            Token::Compare(_) => FilterCause::Value,
+            Token::Close | Token::Value(Literal::Quoted(_)) => FilterCause::Joint,
+            Token::Value(Literal::Word(word)) => {
+                if is_signs(word) {
+                    FilterCause::JointAfterSigns
+                } else {
+                    FilterCause::Joint
+                }
+            }
+        }
+    }
 }
 
 /// A token with its offset in the text.
@@ -83,6 +106,19 @@ fn is_word_byte(byte: u8) -> bool
     let is_parenthesis = byte == b'(' || byte == b')';
     let is_joint = byte == b'&' || byte == b'|';
     !(is_blank(byte) || ((is_parenthesis || is_joint) || is_quote(byte)))
+}
+
+/// Whether operators other than `&` have this byte.
+pub fn is_sign(byte: u8) -> bool
+    ensures { result ≡ spec_sign byte }
+{
+    matches!(byte, b'=' | b'!' | b'<' | b'>' | b'~')
+}
+
+fn is_signs(word: &[u8]) -> bool
+    ensures { result ≡ list_all spec_sign word.now }
+{
+    word.iter().all(|byte| is_sign(*byte))
 }
 
 /// How many bytes of a bare word a text begins with.

@@ -61,9 +61,9 @@ module _ (definition : Definition) (pairs : List Pair) where
   row_missing name right h = (λ i. row_unless (right i) (h i) (record { kinds = kinds_of definition; values = filter_map (given pairs) definition.fields }))
 
   pub refused_wrong : (fault : RowFault) (name : List ℕ) → IsBadRow fault name → first_wrong definition.fields [] pairs ≡ Some name → IsBuilt (Err fault) (row_of definition pairs)
-  refused_wrong (BadRow field) name is h = row_wrong name h ∙ ap Err (sym is)
+  refused_wrong (BadRow field cause) name is h = row_wrong name h ∙ ap Err (sym is)
   refused_wrong Memory name is h = tt
 
   pub refused_missing : (fault : RowFault) (name : List ℕ) → IsBadRow fault name → first_wrong definition.fields [] pairs ≡ None → first_missing definition.fields pairs ≡ Some name → IsBuilt (Err fault) (row_of definition pairs)
-  refused_missing (BadRow field) name is right h = row_missing name right h ∙ ap Err (sym is)
+  refused_missing (BadRow field cause) name is right h = row_missing name right h ∙ ap Err (sym is)
   refused_missing Memory name is right h = tt

@@ -10,7 +10,7 @@ use Rattle.indexmap.specs.IndexMap.{insert_entry}
 use Rattle.indexmap.proofs.MapLemmas.{some_index}
 use Rattle.trace_format.specs.Definitions.{Definition, IsDefinition}
 use Rattle.trace_format.specs.declared.fault.CatalogFault.{CatalogFault}
-use Rattle.trace_format.specs.declared.fault.CatalogFault.TheVariants.{EventExists, TooBig, TooMany}
+use Rattle.trace_format.specs.declared.fault.CatalogFault.TheVariants.{EventExists, TooBig, TooManyFields, TooManyEvents}
 use Rattle.trace_format.specs.Cells.{record_size_of}
 use Rattle.trace_format.specs.Catalogs.{id_of, event_of, id_for, IsCatalog, IsEvent, AreEvents}
 use Rattle.trace_lex.proofs.Lists.{AllByRecursion-push}
@@ -96,8 +96,8 @@ pub record IsNext (events : List Definition) (definition : Definition) : Type 0 
 pub id_for_next : (events : List Definition) (definition : Definition) (page_bytes id : ℕ) → id_for events definition page_bytes ≡ Ok id → IsNext events definition
 id_for_next events definition page_bytes id h =
     let named = no_fault (is_some (id_of events definition.name)) _ EventExists id h in
-    let wide = no_fault (nat_lt 16 (length definition.fields)) _ TooMany id named.1 in
-    let full = no_fault (nat_le 64 (length events)) _ TooMany id wide.1 in
+    let wide = no_fault (nat_lt 16 (length definition.fields)) _ TooManyFields id named.1 in
+    let full = no_fault (nat_le 64 (length events)) _ TooManyEvents id wide.1 in
     record {
       new = named.0;
       few = let no = wide.0 in grind (arith, nat_tests);
@@ -108,8 +108,8 @@ id_for_next events definition page_bytes id h =
 pub id_for_fits : (events : List Definition) (definition : Definition) (page_bytes id : ℕ) → id_for events definition page_bytes ≡ Ok id → record_size_of definition ≤ page_bytes
 id_for_fits events definition page_bytes id h =
     let named = no_fault (is_some (id_of events definition.name)) _ EventExists id h in
-    let wide = no_fault (nat_lt 16 (length definition.fields)) _ TooMany id named.1 in
-    let full = no_fault (nat_le 64 (length events)) _ TooMany id wide.1 in
+    let wide = no_fault (nat_lt 16 (length definition.fields)) _ TooManyFields id named.1 in
+    let full = no_fault (nat_le 64 (length events)) _ TooManyEvents id wide.1 in
     ltb-false _ _ (no_fault (nat_lt page_bytes (record_size_of definition)) _ TooBig id full.1).0
 
 -- an entry whose key is new goes last

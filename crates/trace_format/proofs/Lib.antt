@@ -1,5 +1,6 @@
 pub mod BuildLemmas
 pub mod CatalogLemmas
+pub mod DeclarationCauseLemmas
 pub mod FieldNames
 pub mod FreshNames
 pub mod GivenLemmas
@@ -17,6 +18,7 @@ mod Complements
 pub mod Payloads
 pub mod ReadingLemmas
 pub mod RefusalLemmas
+pub mod RowCauseLemmas
 pub mod RowLemmas
 pub mod SizeLemmas
 pub mod Standings

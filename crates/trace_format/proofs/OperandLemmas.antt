@@ -2,7 +2,6 @@
 use Rattle.std.proofs.Common.{◌≡◌, ℕ, suc, ◌+◌, Bool, true, false, if◌then◌else◌, bytes_eq, List, [], ◌∷◌, Option, None, Some, option_and_then, refl, sym, ap, ◌∙◌, arith, add-zero}
 use Rattle.std.specs.Prelude.{slice_get}
 use Rattle.trace_format.specs.declared.event.Field.{Field}
-use Rattle.trace_format.specs.declared.operand.Operand.{Operand}
 use Rattle.trace_format.specs.declared.operand.Operand.TheVariants as operands
 use Rattle.trace_format.specs.Kinds.{is_text_kind}
 use Rattle.trace_format.specs.Cells.{Datum, value_at}

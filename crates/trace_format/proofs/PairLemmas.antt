@@ -1,16 +1,15 @@
 -- What pairs give as functions is what they give as a map, and they are refused where the first wrong pair or missing field is.
-use Rattle.std.proofs.Common.{◌≡◌, ℕ, Bool, true, false, not, ◌||◌, if◌then◌else◌, List, [], ◌∷◌, ◌++◌, bytes_eq, filter_map, Option, None, Some, is_some, option_and_then, IsTrue, Result, Ok, Err, IfOk, IfErr, inl, inr, ◌⊎◌, refl, sym, ap, ◌∙◌, subst, append_assoc, append-nil, true≢false}
+use Rattle.std.proofs.Common.{◌≡◌, ℕ, Bool, true, false, not, ◌||◌, if◌then◌else◌, List, [], ◌∷◌, ◌++◌, bytes_eq, filter_map, Option, None, Some, is_some, option_and_then, IsTrue, Result, Ok, Err, IfOk, inl, inr, refl, sym, ap, ◌∙◌, subst, append_assoc, append-nil, true≢false}
 use Rattle.std.specs.List.{AllByRecursion, AllZip, cons_option}
 use Rattle.std.proofs.lemmas.Bool.{and_parts, and_from, not-true, cond-true, false_from_ne_true}
 use Rattle.std.proofs.lemmas.Slice.Eq.{bytes_eq-Decides}
 use Rattle.trace_format.specs.declared.event.Field.{Field}
 use Rattle.trace_format.specs.declared.pair.Pair.{Pair}
 use Rattle.trace_format.specs.declared.fault.RowFault.{RowFault}
-use Rattle.trace_format.specs.declared.fault.RowFault.TheVariants.{BadRow, Memory}
 use Rattle.trace_format.specs.Definitions.{Definition, IsDefinition, has_field}
 use Rattle.trace_format.specs.Cells.{Datum, Cells, IsRowOf, StandByName, kinds_of, value_at}
 use Rattle.trace_format.specs.Rows.{value_of, field_named, pair_value, pair_named, is_right, first_wrong, first_missing, given, row_unless, row_of, IsBuilt}
-use Rattle.trace_format.specs.Pairs.{has_pair, HasPair, AreOnce, Give, IsRight, AreRight, IsWrong, IsWrongPair, IsMissingField, IsRefusedRow}
+use Rattle.trace_format.specs.Pairs.{has_pair, HasPair, AreOnce, Give, IsRight, AreRight, IsWrong, IsMissingField}
 use Rattle.trace_lex.proofs.Lists.{AllByRecursion-push}
 use Rattle.trace_lex.proofs.Options.{some_is, and_then_some}
 use Rattle.trace_format.proofs.BuildLemmas.{row_ok}
@@ -55,7 +54,7 @@ found_pair P (pair ∷ pairs) name h all = by (bytes_eq pair.name name) (bytes_e
 -- ---- right and wrong pairs
 
 module _ (fields : List Field) (before : List Pair) (pair : Pair) where
-  right_is : is_right fields before pair ≡ true → IsRight fields before pair
+  pub right_is : is_right fields before pair ≡ true → IsRight fields before pair
   right_is h =
       let parts = and_parts (is_some (pair_value fields pair)) (not (is_some (pair_named before pair.name))) h in
       let value = is_value (pair_value fields pair) parts.0 in
@@ -69,7 +68,7 @@ module _ (fields : List Field) (before : List Pair) (pair : Pair) where
   pub right_from : (field : Field) (value : Datum) → field_named fields pair.name ≡ Some field → value_of field.kind pair.value ≡ Some value → has_pair before pair.name ≡ false → is_right fields before pair ≡ true
   right_from field value named written new = and_from _ _ (ap is_some (value_is field value named written)) (ap not (pair_found before pair.name ∙ new))
 
-  wrong_is : is_right fields before pair ≡ false → IsWrong fields before pair
+  pub wrong_is : is_right fields before pair ≡ false → IsWrong fields before pair
   wrong_is h = by_field (field_named fields pair.name) refl
     where
       by_value : (field : Field) → field_named fields pair.name ≡ Some field → (value : Option Datum) → value_of field.kind pair.value ≡ value → (new : Bool) → has_pair before pair.name ≡ new → IsWrong fields before pair
@@ -82,27 +81,16 @@ module _ (fields : List Field) (before : List Pair) (pair : Pair) where
       by_field (Some field) named = by_value field named (value_of field.kind pair.value) refl (has_pair before pair.name) refl
 
 module _ (fields : List Field) where
-  AreRight-push : (earlier before : List Pair) (pair : Pair) → AreRight fields earlier before → IsRight fields (earlier ++ before) pair → AreRight fields earlier (before ++ pair ∷ [])
+  pub AreRight-push : (earlier before : List Pair) (pair : Pair) → AreRight fields earlier before → IsRight fields (earlier ++ before) pair → AreRight fields earlier (before ++ pair ∷ [])
   AreRight-push earlier [] pair are is = (subst (λ (ps : List Pair). IsRight fields ps pair) (append-nil earlier) is, tt)
   AreRight-push earlier (first ∷ before) pair are is =
       (are.0, AreRight-push (earlier ++ first ∷ []) before pair are.1 (subst (λ (ps : List Pair). IsRight fields ps pair) (sym (append_assoc earlier (first ∷ []) before)) is))
 
-  all_right : (before pairs : List Pair) → first_wrong fields before pairs ≡ None → AreRight fields before pairs
+  pub all_right : (before pairs : List Pair) → first_wrong fields before pairs ≡ None → AreRight fields before pairs
   all_right before [] h = tt
   all_right before (pair ∷ pairs) h =
       let test = no_fault (is_right fields before pair) _ _ h in
       (right_is fields before pair test.0, all_right (before ++ pair ∷ []) pairs test.1)
-
-  wrong_pair : (before pairs : List Pair) (name : List ℕ) → AreRight fields [] before → first_wrong fields before pairs ≡ Some name → IsWrongPair fields (before ++ pairs) name
-  wrong_pair before [] name are h = absurd (cc)
-  wrong_pair before (pair ∷ pairs) name are h = by (is_right fields before pair) refl h (wrong_pair (before ++ pair ∷ []) pairs name)
-    where
-      by : (right : Bool) → is_right fields before pair ≡ right → (if right then first_wrong fields (before ++ pair ∷ []) pairs else Some pair.name) ≡ Some name
-          → (AreRight fields [] (before ++ pair ∷ []) → first_wrong fields (before ++ pair ∷ []) pairs ≡ Some name → IsWrongPair fields ((before ++ pair ∷ []) ++ pairs) name)
-          → IsWrongPair fields (before ++ pair ∷ pairs) name
-      by true is h' others =
-          subst (λ (ps : List Pair). IsWrongPair fields ps name) (append_assoc before (pair ∷ []) pairs) (others (AreRight-push [] before pair are (right_is fields before pair is)) h')
-      by false is h' others = record { front = before; pair = pair; back = pairs; cut = refl; right = are; wrong = wrong_is fields before pair is; at = some_is h' }
 
   -- where no pair is wrong, none has the name of one before it
   once : (before pairs : List Pair) → AreRight fields before pairs → AreOnce before pairs
@@ -156,7 +144,7 @@ all_named (field ∷ fields) pairs h =
     (named_there fields pairs field test.0, all_named fields pairs test.1)
 
 module _ (whole : List Field) (pairs : List Pair) (name : List ℕ) (right : AreRight whole [] pairs) where
-  missing_field : (front fields : List Field) → whole ≡ front ++ fields → AllByRecursion (λ (f : Field). IsTrue (has_pair pairs f.name)) front → AllByRecursion (λ (f : Field). field_named whole f.name ≡ Some f) fields
+  pub missing_field : (front fields : List Field) → whole ≡ front ++ fields → AllByRecursion (λ (f : Field). IsTrue (has_pair pairs f.name)) front → AllByRecursion (λ (f : Field). field_named whole f.name ≡ Some f) fields
       → first_missing fields pairs ≡ Some name → IsMissingField whole pairs name
   missing_field front [] cut named own h = absurd (cc)
   missing_field front (field ∷ fields) cut named own h =
@@ -220,16 +208,6 @@ module _ (definition : Definition) (pairs : List Pair) where
         all = all_named definition.fields pairs m;
       })
 
-  pub refused_is : (wrong missing : Option (List ℕ)) (name : List ℕ) → IsDefinition definition → first_wrong definition.fields [] pairs ≡ wrong → first_missing definition.fields pairs ≡ missing → row_unless wrong missing given_row ≡ Err name
-      → IsWrongPair definition.fields pairs name ⊎ IsMissingField definition.fields pairs name
-  refused_is (Some first) missing name is w m h =
-      let same : first ≡ name = cc in
-      inl (wrong_pair definition.fields [] pairs name tt (w ∙ ap Some same))
-  refused_is None (Some first) name is w m h =
-      let same : first ≡ name = cc in
-      inr (missing_field definition.fields pairs name (all_right definition.fields [] pairs w) [] definition.fields refl tt (fields_named definition is) (m ∙ ap Some same))
-  refused_is None None name is w m h = absurd (cc)
-
   pub build_map : (r : Result Cells RowFault) → IsBuilt r (row_of definition pairs) → IfOk r (Give definition.fields pairs)
   unfolding row_of
   build_map (Ok row) e = give_is (first_wrong definition.fields [] pairs) (first_missing definition.fields pairs) row refl refl e
@@ -241,9 +219,3 @@ module _ (definition : Definition) (pairs : List Pair) where
 
   pub build_only : (r : Result Cells RowFault) → IsBuilt r (row_of definition pairs) → IsDefinition definition → (row : Cells) → IsRowOf definition row → Give definition.fields pairs row → IsBuilt r (Ok row)
   build_only r e is row of give = subst (IsBuilt r) (row_is row is of give) e
-
-  pub build_refused : (r : Result Cells RowFault) → IsBuilt r (row_of definition pairs) → IsDefinition definition → IfErr r (IsRefusedRow definition pairs)
-  unfolding row_of
-  build_refused (Ok row) e is = tt
-  build_refused (Err (BadRow name)) e is = refused_is (first_wrong definition.fields [] pairs) (first_missing definition.fields pairs) name is refl refl e
-  build_refused (Err Memory) e is = tt

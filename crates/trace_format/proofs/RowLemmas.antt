@@ -11,7 +11,8 @@ use Rattle.trace_format.specs.Pairs.{has_pair, Give, AreRight, IsWrong, IsWrongP
 use Rattle.trace_lex.proofs.Options.{none_is}
 use Rattle.trace_format.proofs.BuildLemmas.{row_held, row_wrong, row_missing}
 use Rattle.trace_format.proofs.FieldNames.{fields_named}
-use Rattle.trace_format.proofs.PairLemmas.{pair_found, field_found, right_from, HasValue, have_values, given_there, given_row, row_is, give_is, refused_is}
+use Rattle.trace_format.proofs.PairLemmas.{pair_found, field_found, right_from, HasValue, have_values, given_there, given_row, row_is, give_is}
+use Rattle.trace_format.proofs.RowCauseLemmas.{refused_is}
 
 -- ---- the first wrong pair
 
@@ -82,8 +83,7 @@ module _ (definition : Definition) (is : IsDefinition definition) (pairs : List 
       (of_event wrong missing row refl h, give_is definition pairs wrong missing row refl refl h)
 
   refusal_given : (name : List ℕ) → row_of definition pairs ≡ Err name → IsWrongPair definition.fields pairs name ⊎ IsMissingField definition.fields pairs name
-  unfolding row_of
-  refusal_given name h = refused_is definition pairs (first_wrong definition.fields [] pairs) (first_missing definition.fields pairs) name is refl refl h
+  refusal_given name h = refused_is definition is pairs name h
 
   refusal_read : (name : List ℕ) → IsWrongPair definition.fields pairs name ⊎ IsMissingField definition.fields pairs name → row_of definition pairs ≡ Err name
   refusal_read name (inl w) = row_wrong definition pairs name (wrong_first definition.fields pairs name w)

@@ -16,16 +16,12 @@ use Rattle.trace_format.specs.Words.{Spot, semicolon, more_of, spots_from, spots
 use Rattle.trace_format.specs.Kinds.{type_words}
 use Rattle.trace_format.specs.Definitions.{Definition, IsField, AreFields, IsDefinition, field_words, closed_words, Declares, IsWrongAt, EndsEarly}
 use Rattle.trace_format.specs.Reading.{Standing, step, step_at, with_field, finish, start, ◌>>=◌, reading, definition_of, IsRead, IsRefusal}
+use Rattle.trace_format.specs.DeclarationCauses.{standing_after as run}
 use Rattle.trace_lex.proofs.Options.{some_is, and_then_some}
 use Rattle.trace_format.proofs.TextFields.{text_field-spelled}
 use Rattle.trace_format.proofs.Standings.{Stands, stands-start, stands-step, declares, begins}
 
--- where words lead
-abbrev run : Standing → List (List ℕ) → Option Standing
-run standing [] = Some standing
-run standing (word ∷ words) = option_and_then (λ next. run next words) (step standing word)
-
-run-append : (standing : Standing) (front back : List (List ℕ)) → run standing (front ++ back) ≡ option_and_then (λ next. run next back) (run standing front)
+pub run-append : (standing : Standing) (front back : List (List ℕ)) → run standing (front ++ back) ≡ option_and_then (λ next. run next back) (run standing front)
 run-append standing [] back = refl
 run-append standing (word ∷ front) back = by (step standing word) (λ next. run-append next front back)
   where
@@ -144,7 +140,7 @@ abbrev pub IsVerdict : List Spot → ℕ → Result Definition ℕ → Type 0
 IsVerdict spots len (Ok definition) = Declares (words_of spots) definition
 IsVerdict spots len (Err offset) = IsWrongAt spots offset ⊎ (EndsEarly spots × (offset ≡ len))
 
-words-push : (front : List Spot) (spot : Spot) → words_of (front ++ spot ∷ []) ≡ words_of front ++ spot.word ∷ []
+pub words-push : (front : List Spot) (spot : Spot) → words_of (front ++ spot ∷ []) ≡ words_of front ++ spot.word ∷ []
 words-push front spot = map-append (λ (s : Spot). s.word) front (spot ∷ [])
 
 module _ (len : ℕ) where
@@ -238,5 +234,5 @@ module _ (text : List ℕ) (small : length text < 2 ^ 64) where
 
   pub read_refused : (r : Result Definition DefinitionFault) → IsRead r (definition_of text) → IfErr r (IsRefusal text)
   read_refused (Ok definition) e = tt
-  read_refused (Err (BadDefinition offset)) e = subst (IsVerdict (spots_of text) (length text)) e (law text small)
+  read_refused (Err (BadDefinition offset cause)) e = subst (IsVerdict (spots_of text) (length text)) e (law text small)
   read_refused (Err Memory) e = tt

@@ -1,14 +1,11 @@
 -- Steps of the loops that write values into bytes.
-use Rattle.std.proofs.Common.{◌≡◌, ℕ, ◌+◌, ◌-◌, ◌<◌, ◌≤◌, Bool, true, false, if◌then◌else◌, List, [], ◌∷◌, ◌++◌, length, get_or, take, drop, map, Option, None, Some, option_map, option_and_then, sym, ap, ◌∙◌, subst, append_assoc, arith, length-append, length-drop, length-take-le, refl}
+use Rattle.std.proofs.Common.{◌≡◌, ℕ, ◌+◌, ◌≤◌, List, ◌∷◌, ◌++◌, length, take, drop, map, sym, ap, ◌∙◌, subst, append_assoc, arith, length-append, length-take-le}
 use Rattle.std.proofs.lemmas.List.{take_at}
 use Rattle.std.specs.List.{AllZip}
 use Rattle.trace_format.specs.declared.kind.Kind.{Kind}
 use Rattle.trace_format.specs.declared.value.Value.{Value}
-use Rattle.trace_format.specs.declared.event.Field.{Field}
-use Rattle.trace_format.specs.declared.pair.Pair.{Pair}
 use Rattle.trace_format.specs.Kinds.{size_of}
-use Rattle.trace_format.specs.Cells.{datum_of, Holds, field_bytes, bytes_of, size_of_all}
-use Rattle.trace_format.proofs.LoopLemmas.{left}
+use Rattle.trace_format.specs.Cells.{datum_of, Holds, field_bytes, bytes_of}
 use Rattle.trace_format.proofs.Payloads.{length-field_bytes}
 
 -- ---- one more value is written

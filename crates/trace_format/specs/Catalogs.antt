@@ -3,7 +3,7 @@ use Rattle.std.specs.Prelude.{◌≡◌, ◌≤◌, Vec, ℕ, zero, suc, ◌+◌
 use Rattle.std.specs.List.{AllByRecursion}
 use Rattle.std.specs.declared.alloc.Global.{Global}
 use Rattle.trace_format.specs.declared.fault.CatalogFault.{CatalogFault}
-use Rattle.trace_format.specs.declared.fault.CatalogFault.TheVariants.{EventExists, TooMany, TooBig, Memory}
+use Rattle.trace_format.specs.declared.fault.CatalogFault.TheVariants.{EventExists, TooManyFields, TooManyEvents, TooBig, Memory}
 use Rattle.trace_format.specs.Definitions.{Definition, IsDefinition}
 use Rattle.trace_format.specs.Cells.{record_size_of}
 
@@ -20,8 +20,8 @@ event_of events (suc index) = slice_get events index
 -- than a page
 abbrev pub id_for : List Definition → Definition → ℕ → Result ℕ CatalogFault
 id_for events definition page_bytes = if is_some (id_of events definition.name) then Err EventExists
-    else if nat_lt 16 (length definition.fields) then Err TooMany
-    else if nat_le 64 (length events) then Err TooMany
+    else if nat_lt 16 (length definition.fields) then Err TooManyFields
+    else if nat_le 64 (length events) then Err TooManyEvents
     else if nat_lt page_bytes (record_size_of definition) then Err TooBig
     else Ok (length events + 1)
 
@@ -29,7 +29,8 @@ id_for events definition page_bytes = if is_some (id_of events definition.name) 
 abbrev pub IsAdded : Result ℕ CatalogFault → Result ℕ CatalogFault → Type 0
 IsAdded (Ok id) added = added ≡ Ok id
 IsAdded (Err EventExists) added = added ≡ Err EventExists
-IsAdded (Err TooMany) added = added ≡ Err TooMany
+IsAdded (Err TooManyFields) added = added ≡ Err TooManyFields
+IsAdded (Err TooManyEvents) added = added ≡ Err TooManyEvents
 IsAdded (Err TooBig) added = added ≡ Err TooBig
 IsAdded (Err Memory) added = Unit {0}
 

@@ -5,11 +5,13 @@ use Rattle.trace_format.specs.declared.pair.Pair.{Pair}
 use Rattle.trace_format.specs.Words.{Spot, spots_of, words_of}
 use Rattle.trace_format.specs.WordParts.{IsWritten}
 use Rattle.trace_format.specs.Definitions.{Definition, IsDefinition, Declares, IsRefusedAt}
-use Rattle.trace_format.specs.Reading.{definition_of}
+use Rattle.trace_format.specs.Reading.{definition_of, cause_in}
+use Rattle.trace_format.specs.DeclarationCauses.{IsRefusedFor}
 use Rattle.trace_format.specs.Cells.{Cells, IsRowOf, value_at, payload_of, payload_size_of}
 use Rattle.trace_format.specs.Operands.{Emission, operand_from, operand_value}
-use Rattle.trace_format.specs.Rows.{row_of}
+use Rattle.trace_format.specs.Rows.{row_of, row_cause}
 use Rattle.trace_format.specs.Pairs.{Give, IsWrongPair, IsMissingField}
+use Rattle.trace_format.specs.RowCauses.{IsRowCause}
 use Rattle.trace_format.specs.Decoding.{row_from}
 
 -- ---- words
@@ -44,6 +46,10 @@ OneDefinition = (text : List ℕ) → (one other : Definition) → Declares (wor
 abbrev pub OneRefusal : Type 0
 OneRefusal = (text : List ℕ) → (one other : ℕ) → IsRefusedAt text one → IsRefusedAt text other → one ≡ other
 
+-- the cause is that of the offset at which the text is refused
+abbrev pub CauseIsAtTheOffset : Type 0
+CauseIsAtTheOffset = (text : List ℕ) → (offset : ℕ) → definition_of text ≡ Err offset → IsRefusedFor text offset (cause_in text)
+
 -- ---- rows; an event is a definition (`IsDefinition`), as each that was parsed is
 
 -- pairs give a row, as a function, exactly where it is a row of the event that they give as a map from names
@@ -54,6 +60,11 @@ RowIsGiven = (definition : Definition) → IsDefinition definition → (pairs : 
 abbrev pub RefusalIsGiven : Type 0
 RefusalIsGiven = (definition : Definition) → IsDefinition definition → (pairs : List Pair) → (name : List ℕ)
     → (row_of definition pairs ≡ Err name) ↔ (IsWrongPair definition.fields pairs name ⊎ IsMissingField definition.fields pairs name)
+
+-- the cause is that of the name at which the pairs are refused
+abbrev pub CauseIsOfTheName : Type 0
+CauseIsOfTheName = (definition : Definition) → IsDefinition definition → (pairs : List Pair) → (name : List ℕ) → row_of definition pairs ≡ Err name
+    → IsRowCause definition.fields pairs name (row_cause definition.fields pairs)
 
 -- ---- operands
 

@@ -3,13 +3,16 @@ pub mod Words
 pub mod WordParts
 pub mod Definitions
 pub mod Reading
+pub mod DeclarationCauses
 pub mod Cells
 pub mod Rows
 pub mod Pairs
+pub mod RowCauses
 pub mod Values
 pub mod Decoding
 pub mod Catalogs
 pub mod Operands
 pub mod Modifiers
 pub mod Laws
+pub mod CauseExamples
 pub mod private

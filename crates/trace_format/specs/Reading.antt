@@ -1,10 +1,13 @@
--- A declaration read word by word: the definition that a text declares, or the offset at which it is refused.
--- That this reading is what `Definitions` says of words and offsets is stated in `Laws`, as `DefinitionIsRead` and `RefusalIsRead`.
+-- A declaration read word by word: the definition that a text declares, or the offset at which it is refused, and why.
+-- That this reading is what `Definitions` says of words and offsets is stated in `Laws`, as `DefinitionIsRead` and `RefusalIsRead`. That the cause
+-- is that of the same offset is `CauseIsAtTheOffset` there.
 use Rattle.std.specs.Prelude.{◌≡◌, ℕ, ◌+◌, ◌*◌, ◌-◌, Bool, true, false, not, ◌&&◌, ◌||◌, ◌==◌, nat_lt, nat_le, if◌then◌else◌, codes, bytes_eq, List, [], ◌∷◌, ◌++◌, length, Option, None, Some, option_map, option_and_then, ok_or, Result, Ok, Err, take, drop}
 use Rattle.std.specs.Char.{is_ascii_digit}
 use Rattle.std.specs.List.{prefix_len}
 use Rattle.trace_format.specs.declared.kind.Kind.TheVariants.{Number, Char}
 use Rattle.trace_format.specs.declared.event.Field.{Field}
+use Rattle.trace_format.specs.declared.fault.DeclarationCause.{DeclarationCause}
+use Rattle.trace_format.specs.declared.fault.DeclarationCause.TheVariants.{EventName, FieldType, UnsignedType, StringField, FieldName, ReservedName, RepeatedName, Semicolon}
 use Rattle.trace_format.specs.declared.fault.DefinitionFault.{DefinitionFault}
 use Rattle.trace_format.specs.declared.fault.DefinitionFault.TheVariants.{BadDefinition, Memory}
 use Rattle.trace_format.specs.declared.reader.Due.{Due}
@@ -93,13 +96,49 @@ reading standing (spot ∷ spots) len = ok_or (step standing spot.word) spot.at 
 unfoldable pub definition_of : List ℕ → Result Definition ℕ
 definition_of text = reading start (spots_of text) (length text)
 
+-- ---- why a text is refused
+
+-- a word that is no name of one more number field: no name, one that no field may have, or else one that a field has already
+abbrev pub name_cause : List ℕ → DeclarationCause
+name_cause word = if not (is_name word) then FieldName else (if is_reserved word then ReservedName else RepeatedName)
+
+-- a word that cannot stand where this is due
+abbrev pub cause_of : Due → List ℕ → DeclarationCause
+cause_of due.Name word = EventName
+cause_of due.Type word = FieldType
+cause_of due.Unsigned word = UnsignedType
+cause_of (due.NumberField t) word = name_cause word
+cause_of due.TextField word = StringField
+cause_of due.Joint word = Semicolon
+
+-- the cause at a word, if it cannot stand there, or else at one after it
+abbrev pub cause_or : Option Standing → DeclarationCause → (Standing → DeclarationCause) → DeclarationCause
+cause_or None cause rest = cause
+cause_or (Some next) cause rest = rest next
+
+-- what is wrong with the first word that cannot stand there, or at the end, where nothing stands
+abbrev pub cause_from : Standing → List Spot → DeclarationCause
+cause_from standing [] = cause_of standing.due []
+cause_from standing (spot ∷ spots) = cause_or (step standing spot.word) (cause_of standing.due spot.word) (λ next. cause_from next spots)
+
+-- why a text that declares no event is refused, at the offset that `definition_of` tells
+unfoldable pub cause_in : List ℕ → DeclarationCause
+cause_in text = cause_from start (spots_of text)
+
+-- the cause told is that of the text
+abbrev pub HasCause : List ℕ → DefinitionFault → Type 0
+HasCause text (BadDefinition offset cause) = cause ≡ cause_in text
+HasCause text Memory = Unit {0}
+
+-- ---- what `parse` answers
+
 -- what `parse` answers is what reading gives, unless memory was refused
 abbrev pub IsRead : Result Definition DefinitionFault → Result Definition ℕ → Type 0
 IsRead (Ok definition) read = read ≡ Ok definition
-IsRead (Err (BadDefinition offset)) read = read ≡ Err offset
+IsRead (Err (BadDefinition offset cause)) read = read ≡ Err offset
 IsRead (Err Memory) read = Unit {0}
 
 -- a text was refused at its offset, or for memory
 abbrev pub IsRefusal : List ℕ → DefinitionFault → Type 0
-IsRefusal text (BadDefinition offset) = IsRefusedAt text offset
+IsRefusal text (BadDefinition offset cause) = IsRefusedAt text offset
 IsRefusal text Memory = Unit {0}

@@ -1,7 +1,9 @@
--- Rows as pairs of field names and texts give them, as functions. That these are what `Pairs` says is stated in `Laws`, as `RowIsGiven` and
--- `RefusalIsGiven`.
+-- Rows as pairs of field names and texts give them, or why they give none, as functions. That these are what `Pairs` says is stated in `Laws`, as
+-- `RowIsGiven` and `RefusalIsGiven`. That the cause is that of the same name, in the words of `RowCauses`, is `CauseIsOfTheName` there.
 use Rattle.std.specs.Prelude.{◌≡◌, ℕ, ℤ, int_le, Bool, true, not, ◌&&◌, nat_lt, if◌then◌else◌, bytes_eq, List, [], ◌∷◌, ◌++◌, length, find, filter_map, Option, None, Some, is_some, option_and_then, Result, Ok, Err}
 use Rattle.std.specs.List.{list_all}
+use Rattle.trace_format.specs.declared.fault.RowCause.{RowCause}
+use Rattle.trace_format.specs.declared.fault.RowCause.TheVariants.{Unknown, Repeated, NoNumber, OutOfRange, BadByte, TooLong, Missing}
 use Rattle.trace_format.specs.declared.fault.RowFault.{RowFault}
 use Rattle.trace_format.specs.declared.fault.RowFault.TheVariants.{BadRow, Memory}
 use Rattle.trace_format.specs.declared.kind.Kind.{Kind}
@@ -70,6 +72,42 @@ row_unless None None row = Ok row
 unfoldable pub row_of : Definition → List Pair → Result Cells (List ℕ)
 row_of definition pairs = row_unless (first_wrong definition.fields [] pairs) (first_missing definition.fields pairs) (record { kinds = kinds_of definition; values = filter_map (given pairs) definition.fields })
 
+-- ---- why pairs are refused
+
+-- why a text is no value of the type, if it is none
+abbrev pub value_cause : Kind → List ℕ → RowCause
+value_cause (Number t) text = if is_some (number_of text) then OutOfRange else NoNumber
+value_cause (Char n) text = if list_all is_printable text then TooLong else BadByte
+
+-- why a pair is not right after others, if it is not, by the field that it names
+abbrev pub named_cause : Option Field → List Pair → Pair → RowCause
+named_cause None before pair = Unknown
+named_cause (Some field) before pair = if is_some (pair_named before pair.name) then Repeated else value_cause field.kind pair.value
+
+abbrev pub pair_cause : List Field → List Pair → Pair → RowCause
+pair_cause fields before pair = named_cause (field_named fields pair.name) before pair
+
+-- why the first pair that is not right after those before it is not; with none such a field is missing
+abbrev pub first_cause : List Field → List Pair → List Pair → RowCause
+first_cause fields before [] = Missing
+first_cause fields before (pair ∷ pairs) = if is_right fields before pair then first_cause fields (before ++ pair ∷ []) pairs
+    else pair_cause fields before pair
+
+-- why pairs that give no row are refused, at the name that `row_of` tells
+unfoldable pub row_cause : List Field → List Pair → RowCause
+row_cause fields pairs = first_cause fields [] pairs
+
+-- the cause told is this one
+abbrev pub TellsCause : RowCause → RowFault → Type 0
+TellsCause cause (BadRow name told) = told ≡ cause
+TellsCause cause Memory = Unit {0}
+
+-- the cause told is that of the pairs
+abbrev pub HasRowCause : Definition → List Pair → RowFault → Type 0
+HasRowCause definition pairs fault = TellsCause (row_cause definition.fields pairs) fault
+
+-- ---- what `build` answers
+
 -- the bytes are the payload of the row that the pairs give
 abbrev pub IsPayloadOf : Result Cells (List ℕ) → List ℕ → Type 0
 IsPayloadOf (Ok row) bytes = bytes ≡ payload_of row
@@ -78,10 +116,10 @@ IsPayloadOf (Err name) bytes = ⊥
 -- what `build` answers is the row that the pairs give, unless memory was refused
 abbrev pub IsBuilt : Result Cells RowFault → Result Cells (List ℕ) → Type 0
 IsBuilt (Ok row) built = built ≡ Ok row
-IsBuilt (Err (BadRow name)) built = built ≡ Err name
+IsBuilt (Err (BadRow name cause)) built = built ≡ Err name
 IsBuilt (Err Memory) built = Unit {0}
 
 -- a refusal at a field, or for memory
 abbrev pub IsBadRow : RowFault → List ℕ → Type 0
-IsBadRow (BadRow name) field = name ≡ field
+IsBadRow (BadRow name cause) field = name ≡ field
 IsBadRow Memory field = Unit {0}

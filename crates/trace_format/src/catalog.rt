@@ -52,16 +52,19 @@ impl Catalog {
 
     /// The number that an event would get if it were added. A page has `page_bytes` bytes for records.
     ///
-    /// It is refused as `EventExists` where an event of the name is there, then as `TooMany` where it has over 16 fields or 64 events
-    /// are there, then as `TooBig` where its record is larger than a page.
+    /// It is refused as `EventExists` where an event of the name is there, then as `TooManyFields` where it has over 16 fields, as
+    /// `TooManyEvents` where 64 events are there, and then as `TooBig` where its record is larger than a page.
     pub fn next_id(&self, def: &EventDef, page_bytes: usize) -> Result<u16, CatalogFault>
         ensures { result ≡ id_for self.now def.now page_bytes }
     {
         if self.find(def.name()).is_some() {
             return Err(CatalogFault::EventExists);
         }
-        if def.fields().len() > MOST_FIELDS || self.len() >= MOST_EVENTS {
-            return Err(CatalogFault::TooMany);
+        if def.fields().len() > MOST_FIELDS {
+            return Err(CatalogFault::TooManyFields);
+        }
+        if self.len() >= MOST_EVENTS {
+            return Err(CatalogFault::TooManyEvents);
         }
         if record_size(def) > page_bytes {
             return Err(CatalogFault::TooBig);

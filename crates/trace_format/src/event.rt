@@ -40,7 +40,7 @@ impl Model for EventDef {
 impl EventDef {
     ghost use Rattle.trace_format.specs.Definitions.{Definition, IsDefinition, Declares};
     ghost use Rattle.trace_format.specs.Words.{spots_of, words_of};
-    ghost use Rattle.trace_format.specs.Reading.{definition_of, IsRead, IsRefusal};
+    ghost use Rattle.trace_format.specs.Reading.{definition_of, IsRead, IsRefusal, HasCause};
 
     /// The event that a text declares, after "Synthetic events" (histogram.rst): its name, then for each field a type and a name, with a
     /// `;` between two fields. Blanks part the words; round a `;` they may stand or lack, and so may a `;` behind the last field.
@@ -56,6 +56,8 @@ impl EventDef {
         ensures refused { IfErr result (IsRefusal text.now) }
         // All of this as one function of the text.
         ensures exact { IsRead result (definition_of text.now) }
+        // The cause is what the reader finds wrong where it can't go on.
+        ensures cause { IfErr result (HasCause text.now) }
     {
         EventDef::read(alloc, text)
     }
@@ -63,17 +65,20 @@ impl EventDef {
     /// The event, read word by word.
     fn read(alloc: Global, text: &[u8]) -> Result<EventDef, DefinitionFault>
         ensures exact { IsRead result (definition_of text.now) }
+        ensures cause { IfErr result (HasCause text.now) }
         ensures small { length text.now < 2 ^ 64 }
     {
         let len = text.len();
         let mut reader = Reader::new(alloc);
         let mut from = 0;
         while let Some(word) = next_word(text, from) {
+            let cause = reader.cause(word.bytes);
             if !reader.take(alloc, word.bytes)? {
-                return Err(DefinitionFault::BadDefinition { at: word.at });
+                return Err(DefinitionFault::BadDefinition { at: word.at, cause });
             }
             from = word.at + word.bytes.len();
         }
+        let cause = reader.cause(&[]);
         match reader.finish() {
             Some((name, fields)) => {
                 let payload_size = size_of_fields(&fields);
@@ -83,7 +88,7 @@ impl EventDef {
                     payload_size,
                 })
             }
-            None => Err(DefinitionFault::BadDefinition { at: len }),
+            None => Err(DefinitionFault::BadDefinition { at: len, cause }),
         }
     }
 

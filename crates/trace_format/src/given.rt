@@ -1,13 +1,13 @@
 //! The values that pairs of names and texts give to fields.
 
-ghost use Rattle.std.specs.Prelude.{◌≡◌, [], None, true, false, map, filter_map, IfOk, IsSome, is_some, option_map, option_copied};
+ghost use Rattle.std.specs.Prelude.{◌≡◌, if◌then◌else◌, [], None, Some, true, false, map, filter_map, IfOk, IsSome, is_some, option_map, option_copied, unwrap_or};
 ghost use Rattle.trace_format.specs.Cells.{Datum, datum_of};
-ghost use Rattle.trace_format.specs.Rows.{field_named, pair_named, new_field as new_field_of, all_new, is_right, first_wrong, first_missing, given, IsBadRow};
+ghost use Rattle.trace_format.specs.Rows.{field_named, pair_named, new_field as new_field_of, all_new, is_right, first_wrong, first_missing, given, pair_cause, first_cause, IsBadRow, TellsCause};
 
 use crate::borrowed_pair::BorrowedPair;
 use crate::event::Field;
-use crate::fault::RowFault;
-use crate::value::{Value, is_value, read_value};
+use crate::fault::{RowCause, RowFault};
+use crate::value::{Value, is_value, read_value, value_misfit};
 use std::alloc::{AllocError, Global};
 use trace_lex::Text;
 
@@ -51,23 +51,32 @@ pub(crate) fn are_new(fields: &[Field], pairs: &[BorrowedPair<'_>]) -> bool
     true
 }
 
-/// Whether a pair may stand behind others.
-fn is_right_pair(fields: &[Field], before: &[BorrowedPair<'_>], pair: &BorrowedPair<'_>) -> bool
-    ensures { result ≡ is_right fields.now before.now pair.now }
+/// Why a pair may not stand after others, unless it may.
+fn pair_misfit(
+    fields: &[Field],
+    before: &[BorrowedPair<'_>],
+    pair: &BorrowedPair<'_>,
+) -> Option<RowCause>
+    ensures { result ≡ (if is_right fields.now before.now pair.now then None else Some (pair_cause fields.now before.now pair.now)) }
 {
-    match new_field(fields, before, pair) {
-        Some(field) => is_value(field.kind, pair.value()),
-        None => false,
+    match field_of(fields, pair.name()) {
+        None => Some(RowCause::Unknown),
+        Some(_) if pair_of(before, pair.name()).is_some() => Some(RowCause::Repeated),
+        Some(field) => value_misfit(field.kind, pair.value()),
     }
 }
 
-/// The name of the first pair that is wrong.
-pub(crate) fn wrong_pair<'a>(fields: &[Field], pairs: &'a [BorrowedPair<'_>]) -> Option<&'a [u8]>
-    ensures { option_copied result ≡ first_wrong fields.now [] pairs.now }
+/// The name of the first pair that is wrong, and why it is.
+pub(crate) fn wrong_pair<'a>(
+    fields: &[Field],
+    pairs: &'a [BorrowedPair<'_>],
+) -> Option<(&'a [u8], RowCause)>
+    ensures name { option_map (λ wrong. wrong.0.now) result ≡ first_wrong fields.now [] pairs.now }
+    ensures cause { unwrap_or (option_map (λ wrong. wrong.1) result) RowCause.Missing ≡ first_cause fields.now [] pairs.now }
 {
     for (i, pair) in pairs.iter().enumerate() {
-        if !is_right_pair(fields, &pairs[..i], pair) {
-            return Some(pair.name());
+        if let Some(cause) = pair_misfit(fields, &pairs[..i], pair) {
+            return Some((pair.name(), cause));
         }
     }
     None
@@ -133,11 +142,12 @@ pub(crate) fn given_values(
 }
 
 /// The refusal at a field.
-pub(crate) fn bad_row(alloc: Global, name: &[u8]) -> RowFault
-    ensures { IsBadRow result name.now }
+pub(crate) fn bad_row(alloc: Global, name: &[u8], cause: RowCause) -> RowFault
+    ensures name { IsBadRow result name.now }
+    ensures cause { TellsCause cause result }
 {
     match Text::from_slice(alloc, name) {
-        Ok(field) => RowFault::BadRow { field },
+        Ok(field) => RowFault::BadRow { field, cause },
         Err(_) => RowFault::Memory,
     }
 }

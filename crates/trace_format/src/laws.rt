@@ -2,7 +2,8 @@
 
 ghost use Rattle.std.specs.Prelude.{◌≡◌, ◌↔◌, IsTrue};
 ghost use Rattle.trace_format.specs.declared.pair.Pair.{Pair as PairValue};
-ghost use Rattle.trace_format.specs.Laws.{WordsAreAsWritten, DefinitionIsRead, RefusalIsRead, DeclaredOrRefused, NeverBoth, OneDefinition, OneRefusal, RowIsGiven, RefusalIsGiven, OperandIsByName, PayloadIsRead, OneRow, PayloadHasItsSize};
+ghost use Rattle.trace_format.specs.CauseExamples.{DeclarationsAreRefused, RowsAreRefused};
+ghost use Rattle.trace_format.specs.Laws.{WordsAreAsWritten, DefinitionIsRead, RefusalIsRead, DeclaredOrRefused, NeverBoth, OneDefinition, OneRefusal, CauseIsAtTheOffset, RowIsGiven, RefusalIsGiven, CauseIsOfTheName, OperandIsByName, PayloadIsRead, OneRow, PayloadHasItsSize};
 
 use crate::pair::Pair;
 
@@ -29,6 +30,20 @@ pub fn declarations_are_as_written()
 pub fn rows_are_as_given()
     ensures row { RowIsGiven }
     ensures refused { RefusalIsGiven }
+{}
+
+/// The cause for which a text declares no event is that of the offset at which it is refused: what is wrong there with the word, or the end, by what
+/// is due there. The cause for which pairs give no row of an event is that of the name at which they are refused: what is wrong with the first
+/// wrong pair or, with none wrong, that the first missing field has the name.
+pub fn causes_are_of_the_refusals()
+    ensures declaration { CauseIsAtTheOffset }
+    ensures row { CauseIsOfTheName }
+{}
+
+/// The worked examples, computed: strings that declare no event and pairs that give no row, with what is told of each.
+pub fn examples_are_refused()
+    ensures declarations { DeclarationsAreRefused }
+    ensures rows { RowsAreRefused }
 {}
 
 /// The value of a field's name, which is found by the field's index, is the one that the row, as a map from names, has there.

@@ -34,7 +34,7 @@ pub use borrowed_value::BorrowedValue;
 pub use catalog::Catalog;
 pub use emission::Emission;
 pub use event::{EventDef, Field};
-pub use fault::{CatalogFault, DefinitionFault, RowFault};
+pub use fault::{CatalogFault, DeclarationCause, DefinitionFault, RowCause, RowFault};
 pub use field_value::FieldValue;
 pub use key::Key;
 pub use kind::{Kind, NumberType};

@@ -4,10 +4,11 @@ ghost use Rattle.std.specs.Prelude.{◌≡◌, List, ℕ, IfOk, Bool, true, fals
 ghost use Rattle.std.specs.Prelude.{◌-◌, if◌then◌else◌};
 ghost use Rattle.std.specs.Char.{is_ascii_digit};
 ghost use Rattle.trace_format.specs.Definitions.{is_reserved as reserved, has_field as field_there};
-ghost use Rattle.trace_format.specs.Reading.{text_field_of, length_of};
+ghost use Rattle.trace_format.specs.Reading.{text_field_of, length_of, name_cause};
 ghost use Rattle.trace_format.specs.declared.kind.Kind.TheVariants as kind;
 
 use crate::event::Field;
+use crate::fault::DeclarationCause;
 use crate::kind::{Kind, NumberType};
 use crate::words::is;
 use std::alloc::{AllocError, Global};
@@ -54,6 +55,19 @@ fn is_reserved(name: &[u8]) -> bool
     is(name, b"common_pid") || is(name, b"common_cpu") || is(name, b"hitcount")
 }
 
+/// Why a word is no name of one more number field, if it is none.
+fn name_cause(word: &[u8]) -> DeclarationCause
+    ensures { result ≡ name_cause word.now }
+{
+    if !is_name(word) {
+        DeclarationCause::FieldName
+    } else if is_reserved(word) {
+        DeclarationCause::ReservedName
+    } else {
+        DeclarationCause::RepeatedName
+    }
+}
+
 /// Whether a field has the name.
 fn has_field(fields: &[Field], name: &[u8]) -> bool
     ensures { result ≡ field_there fields.now name.now }
@@ -62,7 +76,7 @@ fn has_field(fields: &[Field], name: &[u8]) -> bool
 }
 
 impl Reader {
-    ghost use Rattle.trace_format.specs.Reading.{start, step, step_at, with_field, finish as finished, Takes};
+    ghost use Rattle.trace_format.specs.Reading.{start, step, step_at, with_field, finish as finished, cause_of, Takes};
     ghost use Rattle.trace_format.specs.declared.reader.Due.TheVariants as due;
 
     /// Before the first word.
@@ -87,6 +101,20 @@ impl Reader {
             Due::NumberField(number) => self.take_field(alloc, word, Kind::Number(number)),
             Due::TextField => self.take_text_field(alloc, word),
             Due::Joint => Ok(self.take_joint(word)),
+        }
+    }
+
+    /// What is wrong with the next word, if it can't stand there; of the end, which is as an empty word, if nothing may end there.
+    pub(crate) fn cause(&self, word: &[u8]) -> DeclarationCause
+        ensures { result ≡ cause_of self.now.due word.now }
+    {
+        match self.due {
+            Due::Name => DeclarationCause::EventName,
+            Due::Type => DeclarationCause::FieldType,
+            Due::Unsigned => DeclarationCause::UnsignedType,
+            Due::NumberField(_) => name_cause(word),
+            Due::TextField => DeclarationCause::StringField,
+            Due::Joint => DeclarationCause::Semicolon,
         }
     }
 

@@ -4,9 +4,10 @@ ghost use Rattle.std.specs.Prelude.{◌≡◌, true, if◌then◌else◌, IfOk, 
 ghost use Rattle.std.specs.List.{list_all};
 ghost use Rattle.trace_format.specs.declared.kind.Kind.TheVariants as kinds;
 ghost use Rattle.trace_format.specs.Cells.{Datum, Whole, Bytes, datum_of, is_printable as spec_printable};
-ghost use Rattle.trace_format.specs.Rows.{value_of};
+ghost use Rattle.trace_format.specs.Rows.{value_of, value_cause};
 ghost use Rattle.trace_format.specs.private.NumberPatterns.{magnitude_in};
 
+use crate::fault::RowCause;
 use crate::kind::{Kind, NumberType};
 use std::alloc::{AllocError, Global};
 use trace_lex::{magnitude, number};
@@ -60,6 +61,23 @@ pub(crate) fn is_value(kind: Kind, text: &[u8]) -> bool
     match kind {
         Kind::Number(number_type) => number_value(number_type, text).is_some(),
         Kind::Char(length) => is_text_value(length, text),
+    }
+}
+
+/// Why a text is no value of a type, unless it is one.
+#[tactic(auto, unfolding(crate::specs::Rows::value_of))]
+pub(crate) fn value_misfit(kind: Kind, text: &[u8]) -> Option<RowCause>
+    ensures { result ≡ (if is_some (value_of kind text.now) then None else Some (value_cause kind text.now)) }
+{
+    match kind {
+        Kind::Number(number_type) => match number(text) {
+            Some(value) if number_type.holds(value) => None,
+            Some(_) => Some(RowCause::OutOfRange),
+            None => Some(RowCause::NoNumber),
+        },
+        Kind::Char(_) if !are_printable(text) => Some(RowCause::BadByte),
+        Kind::Char(length) if text.len() < usize::from(length) => None,
+        Kind::Char(_) => Some(RowCause::TooLong),
     }
 }
 

@@ -9,6 +9,7 @@ use Rattle.trace_trigger.specs.declared.spec.Action.{Action}
 use Rattle.trace_trigger.specs.declared.spec.Action.TheVariants as action
 use Rattle.trace_trigger.specs.TriggerAnswers.{IsAnswered}
 use Rattle.trace_trigger.specs.TriggerTexts.{said_of}
+use Rattle.trace_trigger.specs.declared.fault.TextCause.{TextCause}
 use Rattle.trace_trigger.specs.declared.fault.TriggerFault.{TriggerFault}
 use Rattle.trace_trigger.specs.declared.fault.TriggerFault.TheVariants as fault
 use Rattle.trace_trigger.specs.declared.trigger.SnapshotTrigger.{SnapshotTrigger}
@@ -19,6 +20,7 @@ use Rattle.trace_command.specs.Requests.{Request}
 use Rattle.trace_command.specs.declared.command.Reply.{Reply}
 use Rattle.trace_command.specs.declared.command.Reply.TheVariants.{Done}
 use Rattle.trace_command.specs.declared.refusal.Refusal.{Refusal}
+use Rattle.trace_command.specs.declared.refusal.Limit.TheVariants as limit
 use Rattle.trace_command.specs.declared.refusal.Refusal.TheVariants as refusal
 use Rattle.tracer_specification.specs.History.{asked_answer, fitting_answer, hist_answer, new_hist_answer, remove_hist_answer, room_answer, said_answer, trigger_answer, trigger_count}
 use Rattle.tracer_specification.specs.HistTriggers.{HistTrigger, fits_that, has_same, hist_triggers, hists_of, hists_said, named_by}
@@ -123,17 +125,17 @@ done-late answer is = (λ other. absurd (other refl), λ early. absurd (rw is at
 pub room-had : (attached : Option triggers.Trigger) (hists : List HistTrigger) → trigger_count attached hists < 4 → room_answer attached hists ≡ Ok Done
 room-had attached hists less = rw (lt-ltb (trigger_count attached hists) 4 less) refl
 
-pub room-full : (attached : Option triggers.Trigger) (hists : List HistTrigger) → 4 ≤ trigger_count attached hists → room_answer attached hists ≡ Err refusal.TooMany
+pub room-full : (attached : Option triggers.Trigger) (hists : List HistTrigger) → 4 ≤ trigger_count attached hists → room_answer attached hists ≡ Err (refusal.TooMany limit.Triggers)
 room-full attached hists many = by (nat_lt (trigger_count attached hists) 4) refl
   where
-    by : (room : Bool) → nat_lt (trigger_count attached hists) 4 ≡ room → (let a : Result Reply Refusal = if room then Ok Done else Err refusal.TooMany in a) ≡ Err refusal.TooMany
+    by : (room : Bool) → nat_lt (trigger_count attached hists) 4 ≡ room → (let a : Result Reply Refusal = if room then Ok Done else Err (refusal.TooMany limit.Triggers) in a) ≡ Err (refusal.TooMany limit.Triggers)
     by true is = absurd (omega (arith, many, ltb-true (trigger_count attached hists) 4 is))
     by false is = refl
 
 late-room : (attached : Option triggers.Trigger) (hists : List HistTrigger) → IsFoundEarly (room_answer attached hists) → ⊥
 late-room attached hists = by (nat_lt (trigger_count attached hists) 4)
   where
-    by : (room : Bool) → IsFoundEarly (let a : Result Reply Refusal = if room then Ok Done else Err refusal.TooMany in a) → ⊥
+    by : (room : Bool) → IsFoundEarly (let a : Result Reply Refusal = if room then Ok Done else Err (refusal.TooMany limit.Triggers) in a) → ⊥
     by true early = absurd early
     by false early = absurd (cc)
 
@@ -169,8 +171,8 @@ late-remove append hists spec = by (not append || has_same spec hists)
 
 -- nothing but a text that is written wrong is found early
 said-late : (append : Bool) (attached : Option triggers.Trigger) (hists all : List HistTrigger) (r : Result TriggerText TriggerFault)
-    → (r ≡ Err fault.BadText → ⊥) → IsFoundEarly (said_answer append attached hists all r) → ⊥
-said-late append attached hists all (Err fault.BadText) other early = other refl
+    → ((cause : TextCause) → r ≡ Err (fault.BadText cause) → ⊥) → IsFoundEarly (said_answer append attached hists all r) → ⊥
+said-late append attached hists all (Err (fault.BadText cause)) other early = other cause refl
 said-late append attached hists all (Err faulty) other early = absurd (cc)
 said-late append attached hists all (Ok said.Nothing) other early = absurd early
 said-late append None hists all (Ok (said.AttachSnapshot spec)) other early = late-room None hists early
@@ -183,16 +185,16 @@ said-late append attached hists all (Ok (said.RemoveHist spec)) other early = la
 -- a refusal of a text
 said-refused : (append : Bool) (attached : Option triggers.Trigger) (hists all : List HistTrigger) (r : Result TriggerText TriggerFault) (faulty : TriggerFault)
     → (let a : Result TriggerText TriggerFault = Err faulty in IsAnswered a r)
-    → (r ≡ Err fault.BadText → faulty ≡ fault.BadText) → IsRefusal (refusal_of_trigger faulty) (said_answer append attached hists all r)
+    → ((cause : TextCause) → r ≡ Err (fault.BadText cause) → faulty ≡ fault.BadText cause) → IsRefusal (refusal_of_trigger faulty) (said_answer append attached hists all r)
 said-refused append attached hists all r fault.Memory is told = (
   λ other. absurd (other refl),
-  λ early. absurd (said-late append attached hists all r (λ bad. absurd (let h : fault.Memory ≡ fault.BadText = told bad in cc)) early),
+  λ early. absurd (said-late append attached hists all r (λ cause bad. absurd (let h : fault.Memory ≡ fault.BadText cause = told cause bad in cc)) early),
 )
 said-refused append attached hists all r faulty is told = let a = ap (said_answer append attached hists all) is in (λ other. a, λ early. a)
 
 pub text-refused : (event : Definition) (kept : EventTriggers) (written : WrittenText) (faulty : TriggerFault)
     → (let a : Result TriggerText TriggerFault = Err faulty in IsAnswered a (said_of event written.text.now))
-    → (said_of event written.text.now ≡ Err fault.BadText → faulty ≡ fault.BadText)
+    → ((cause : TextCause) → said_of event written.text.now ≡ Err (fault.BadText cause) → faulty ≡ fault.BadText cause)
     → IsChangeOf event kept written (Err (refusal_of_trigger faulty))
 unfolding trigger_answer
 text-refused event kept written faulty is told = λ name past number are.
@@ -254,11 +256,11 @@ attach-answer trigger kept written event name past are none is =
     ∙ ap (λ (o : Option triggers.Trigger). room_answer o (own_left name past event written.append)) (sym gone)
 
 pub attach-full : (trigger : SnapshotTrigger) (kept : EventTriggers) (written : WrittenText) → is_some kept.own.now.triggers.snapshot ≡ false
-    → 4 ≤ kept_count kept written.append → IsAttached trigger kept written (Err refusal.TooMany)
+    → 4 ≤ kept_count kept written.append → IsAttached trigger kept written (Err (refusal.TooMany limit.Triggers))
 attach-full trigger kept written none many = λ event name past number are is.
     let full : 4 ≤ trigger_count (snapshot_trigger_of name event past) (own_left name past event written.append) =
     omega (arith, many, count-left name past event kept written.append are) in
-    refused refusal.TooMany (trigger_answer name past written.append written.text.now event)
+    refused (refusal.TooMany limit.Triggers) (trigger_answer name past written.append written.text.now event)
     (attach-answer trigger kept written event name past are none is
     ∙ room-full (snapshot_trigger_of name event past) (own_left name past event written.append) full)
 

@@ -12,6 +12,7 @@ use Rattle.trace_command.specs.Requests.{Request}
 use Rattle.trace_command.specs.declared.command.Reply.{Reply}
 use Rattle.trace_command.specs.declared.command.Reply.TheVariants.{Done}
 use Rattle.trace_command.specs.declared.refusal.Refusal.{Refusal}
+use Rattle.trace_command.specs.declared.refusal.Limit.TheVariants as limit
 use Rattle.trace_command.specs.declared.refusal.Refusal.TheVariants as refusal
 use Rattle.tracer_specification.specs.History.{asked_answer, fitting_answer, new_hist_answer, remove_hist_answer, room_answer, trigger_answer, trigger_count}
 use Rattle.tracer_specification.specs.HistTriggers.{HistTrigger, fits_that, has_same, hist_triggers, hists_said, is_of, named_by, says_same as says_same_as, those_of}
@@ -134,11 +135,11 @@ room-answer spec kept written event name past none attaching are is =
     ∙ new-attaches (snapshot_trigger_of name event past) (own_left name past event written.append) (fits_named name past event written.append spec) spec.action attaching
 
 pub ask-full : (spec : SpecSeen) (kept : EventTriggers) (written : WrittenText) → same_left spec kept written.append ≡ None
-    → attaches spec.action ≡ true → 4 ≤ kept_count kept written.append → IsAsked spec kept written (Err refusal.TooMany)
+    → attaches spec.action ≡ true → 4 ≤ kept_count kept written.append → IsAsked spec kept written (Err (refusal.TooMany limit.Triggers))
 ask-full spec kept written none attaching many = λ event name past number are is.
     let full : 4 ≤ trigger_count (snapshot_trigger_of name event past) (own_left name past event written.append) =
     omega (arith, many, count-left name past event kept written.append are) in
-    refused refusal.TooMany (trigger_answer name past written.append written.text.now event)
+    refused (refusal.TooMany limit.Triggers) (trigger_answer name past written.append written.text.now event)
     (room-answer spec kept written event name past none attaching are is
     ∙ ap (fitting_answer (fits_named name past event written.append spec)) (room-full (snapshot_trigger_of name event past) (own_left name past event written.append) full))
 

@@ -15,7 +15,7 @@ use crate::instance::Instance;
 use crate::trigger::AttachedSnapshot;
 use crate::write::WrittenText;
 use std::alloc::Global;
-use trace_command::Refusal;
+use trace_command::{Limit, Refusal};
 use trace_format::EventDef;
 use trace_hist::{Action, Hist, HistSpec, SharedSpec};
 use trace_trigger::{SnapshotTrigger, TriggerText};
@@ -152,12 +152,14 @@ impl<'a> EventTriggers<'a> {
     // `TooMany` if the triggers that remain leave no room for one more.
     fn check_room(self, append: bool) -> Result<(), Refusal>
         ensures room { OnOk result (attaching.kept_count self.entry append < 4) }
-        ensures full { IfErr result (λ refusal. (refusal ≡ Refusal.TooMany) × (4 ≤ attaching.kept_count self.entry append)) }
+        ensures full { IfErr result (λ refusal. (refusal ≡ Refusal.TooMany Limit.Triggers) × (4 ≤ attaching.kept_count self.entry append)) }
     {
         if self.own.triggers.count(append) < MOST_TRIGGERS {
             Ok(())
         } else {
-            Err(Refusal::TooMany)
+            Err(Refusal::TooMany {
+                limit: Limit::Triggers,
+            })
         }
     }
 }

@@ -13,11 +13,11 @@ use Rattle.trace_script.specs.declared.outcome.Outcome.TheVariants.{Replied, Ref
 
 -- where in the written text, or which field; nothing for the other refusals
 unfoldable pub detail_of : Refusal → List ℕ
-detail_of (BadDefinition at) = codes " at " ++ decimal at
-detail_of (FilterSyntax at) = codes " at " ++ decimal at
+detail_of (BadDefinition at cause) = codes " at " ++ decimal at
+detail_of (FilterSyntax at cause) = codes " at " ++ decimal at
 detail_of (NoSuchField at) = codes " at " ++ decimal at
-detail_of (WrongOperator at) = codes " at " ++ decimal at
-detail_of (HistSyntax at) = codes " at " ++ decimal at
+detail_of (WrongOperator at cause) = codes " at " ++ decimal at
+detail_of (HistSyntax at cause) = codes " at " ++ decimal at
 detail_of (BadRow field) = 32 ∷ field
 detail_of _ = []
 

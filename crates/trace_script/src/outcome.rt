@@ -25,11 +25,11 @@ fn detail(alloc: Global, refusal: &Refusal) -> Result<Vec<u8>, AllocError>
     ensures { IfOk result (λ text. text.items ≡ detail_of refusal.now) }
 {
     match refusal {
-        Refusal::BadDefinition { at }
-        | Refusal::FilterSyntax { at }
+        Refusal::BadDefinition { at, .. }
+        | Refusal::FilterSyntax { at, .. }
         | Refusal::NoSuchField { at }
-        | Refusal::WrongOperator { at }
-        | Refusal::HistSyntax { at } => offset_text(alloc, *at),
+        | Refusal::WrongOperator { at, .. }
+        | Refusal::HistSyntax { at, .. } => offset_text(alloc, *at),
         Refusal::BadRow { field } => field_name(alloc, field.as_bytes()),
         _ => Ok(Vec::new(alloc)),
     }

@@ -13,3 +13,4 @@ pub mod HearingAll
 pub mod PartLines
 pub mod PartAsking
 pub mod SingleLines
+pub mod ItemRunning

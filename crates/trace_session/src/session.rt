@@ -17,8 +17,7 @@ use crate::environment::Environment;
 use crate::replies::Replies;
 use crate::status::Status;
 use crate::step::{NumberedText, do_command, do_item, do_other_command};
-use script_reader::item::next_item;
-use script_reader::plain::{emission_item, read_item};
+use script_reader::item::{NextItem, next_item, other_item};
 use script_reader::{MOST_SCRIPT_BYTES, Source, Stop, read_script};
 use shared_book::SharedBook;
 use std::alloc::Global;
@@ -77,44 +76,54 @@ fn do_items<B: SharedBook + Send, R: Threads + Wait + Sync, W: Sink, G: Gate + S
     let mut status = Status::Done;
     let mut pairs = Vec::new(env.alloc);
     while let Some(text) = rest {
-        let Ok(found) = emission_item(text, &mut pairs) else {
+        let Ok(next) = next_item(text, &mut pairs) else {
             return Err(Stop::Memory);
         };
-        if let Some(plain) = found {
-            let line = NumberedText {
-                number,
-                text: plain.line,
-            };
-            let (back, done) = do_command(env, pass, line, &plain.command, replies, writer);
-            pass = back;
-            status = with_item(status, done?);
-            number += 1;
-            rest = plain.rest;
-            continue;
+        match next {
+            NextItem::Emission(plain) => {
+                let line = NumberedText {
+                    number,
+                    text: plain.line,
+                };
+                let (back, done) = do_command(env, pass, line, &plain.command, replies, writer);
+                pass = back;
+                status = with_item(status, done?);
+                number += 1;
+                rest = plain.rest;
+                continue;
+            }
+            NextItem::Read(plain) => {
+                let line = NumberedText {
+                    number,
+                    text: plain.line,
+                };
+                let (back, ran) = do_other_command(
+                    env,
+                    pass,
+                    line,
+                    &plain.command,
+                    replies,
+                    writer,
+                );
+                pass = back;
+                status = with_item(status, ran?);
+                number += 1;
+                rest = plain.rest;
+                continue;
+            }
+            NextItem::Other => {}
         }
-        if let Some(read) = read_item(text) {
-            let line = NumberedText {
-                number,
-                text: read.line,
-            };
-            let (back, ran) = do_other_command(env, pass, line, &read.command, replies, writer);
-            pass = back;
-            status = with_item(status, ran?);
-            number += 1;
-            rest = read.rest;
-            continue;
-        }
-        let Ok(next) = next_item(env.alloc, number, text) else {
+        let Ok(other) = other_item(env.alloc, number, text) else {
             return Err(Stop::Memory);
         };
-        let (back, done) = do_item(env, pass, number, next.item, replies, writer);
+        let (back, done) = do_item(env, pass, number, other.item, replies, writer);
         pass = back;
         match done? {
             Status::Fault => return Ok(Status::Fault),
             item_status => status = with_item(status, item_status),
         }
-        number = next.number;
-        rest = next.rest;
+        number = other.number;
+        rest = other.rest;
     }
     Ok(status)
 }

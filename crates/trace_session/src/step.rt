@@ -1,26 +1,20 @@
 //! One item of a session: a single line or a part runs, and its output is written.
 
-ghost use Rattle.std.specs.Prelude.{◌≡◌, ◌≢◌, ◌≤◌, [], ◌∷◌, true, None, Ok, vec_len, IfOk, IsSome, OnOk, OnErr, IsErrOf};
+ghost use Rattle.std.specs.Prelude.{◌≡◌, ◌≢◌, ◌≤◌, true, None, Ok, vec_len, IfOk};
 ghost use Rattle.ticket_lock.specs.Calls.{view_of, IsOf};
 ghost use Rattle.trace_command.specs.declared.command.Config.{Config};
 ghost use Rattle.script_reader.specs.declared.item.ItemRead.TheVariants as reads;
-ghost use Rattle.script_reader.specs.Items.{Threads, Faulty};
 ghost use Rattle.script_reader.specs.NextItems.{item_read, IsSaid};
 ghost use Rattle.script_reader.specs.FewThreads.{HasFewThreads};
 ghost use Rattle.script_reader.specs.PartReads.{commands_in};
 ghost use Rattle.script_reader.specs.ScriptLines.{lines_of};
-ghost use Rattle.script_reader.specs.Sources.{HasRisen};
 ghost use Rattle.trace_script.specs.Lines.{line_of};
 ghost use Rattle.trace_script.specs.declared.line.Line.TheVariants.{Ask};
-ghost use Rattle.trace_session.specs.Devices.{Passes};
-ghost use Rattle.trace_session.specs.private.StepFronts.{PassesItem, GivesItem, AppendsItem};
-ghost use Rattle.trace_session.specs.Gated.{LetsPass, Stops, commands_asked};
-ghost use Rattle.trace_session.specs.Heard.{Hears, IsWrittenFirst, heard_of, numbers_in};
+ghost use Rattle.trace_session.specs.Heard.{numbers_in};
 ghost use Rattle.trace_session.specs.private.HeardItems.{AreInOrder, HasItsLines};
-ghost use Rattle.trace_session.specs.private.LineRuns.{IsLineRun, outlet};
-ghost use Rattle.trace_session.specs.Passes.{IsSessionPass, progress_of};
-ghost use Rattle.trace_session.specs.Sessions.{Progress};
-ghost use Rattle.trace_workers.specs.Gates.{LetsAllPass, StopsOne};
+ghost use Rattle.trace_session.specs.private.ItemRuns.{RunsItem};
+ghost use Rattle.trace_session.specs.private.LineRuns.{RunsLine, outlet};
+ghost use Rattle.trace_session.specs.Passes.{IsSessionPass};
 
 use crate::device::Sink;
 use crate::environment::Environment;
@@ -31,7 +25,6 @@ use crate::status::Status;
 use crate::told::{give, give_answer, give_part};
 use script_reader::Stop;
 use script_reader::item::ItemRead;
-use script_reader::part::FaultAt;
 use script_reader::part_line::PartLine;
 use shared_book::SharedBook;
 use std::alloc::Global;
@@ -71,12 +64,9 @@ pub(crate) fn do_command<B: SharedBook, R: Wait, W: Sink, G>(
     writer: &mut W,
 ) -> (Pass<B>, Result<Status, Stop>)
     requires of { IsOf env.now.lock.now pass }
-    requires session { (g : Config) × IsSessionPass g (view_of pass) }
     requires says { line_of line.text.now ≡ Ok (Ask command.now) }
     ensures of { IsOf env.now.lock.now result.0 }
-    ensures session { (g : Config) → IsSessionPass g (view_of pass) → IsSessionPass g (view_of result.0) }
-    ensures run { IsLineRun W.wants_first line.entry.number line.entry.text.now
-        (λ g. IsSessionPass g (view_of pass)) (progress_of (view_of pass)) (progress_of (view_of result.0))
+    ensures ran { RunsLine W.wants_first line.entry.number line.entry.text.now (view_of pass) (view_of result.0)
         (outlet (W.contents writer.old) (W.failures writer.old) (W.heard writer.old) replies.old)
         (outlet (W.contents writer.new) (W.failures writer.new) (W.heard writer.new) replies.new) result.1 }
     ensures faultless { IfOk result.1 (λ status. status ≢ Status.Fault) }
@@ -89,7 +79,7 @@ pub(crate) fn do_command<B: SharedBook, R: Wait, W: Sink, G>(
     (pass, given)
 }
 
-/// As `do_command`, of other commands than emissions that were found at once: it is kept out of line, so that these don't take its room.
+/// As `do_command`, of other commands than emissions that were found at once. It is kept out of line, so that these don't take its room.
 #[inline(never)]
 pub(crate) fn do_other_command<B: SharedBook, R: Wait, W: Sink, G>(
     env: &Environment<'_, B, R, G>,
@@ -100,12 +90,9 @@ pub(crate) fn do_other_command<B: SharedBook, R: Wait, W: Sink, G>(
     writer: &mut W,
 ) -> (Pass<B>, Result<Status, Stop>)
     requires of { IsOf env.now.lock.now pass }
-    requires session { (g : Config) × IsSessionPass g (view_of pass) }
     requires says { line_of line.text.now ≡ Ok (Ask command.now) }
     ensures of { IsOf env.now.lock.now result.0 }
-    ensures session { (g : Config) → IsSessionPass g (view_of pass) → IsSessionPass g (view_of result.0) }
-    ensures run { IsLineRun W.wants_first line.entry.number line.entry.text.now
-        (λ g. IsSessionPass g (view_of pass)) (progress_of (view_of pass)) (progress_of (view_of result.0))
+    ensures ran { RunsLine W.wants_first line.entry.number line.entry.text.now (view_of pass) (view_of result.0)
         (outlet (W.contents writer.old) (W.failures writer.old) (W.heard writer.old) replies.old)
         (outlet (W.contents writer.new) (W.failures writer.new) (W.heard writer.new) replies.new) result.1 }
     ensures faultless { IfOk result.1 (λ status. status ≢ Status.Fault) }
@@ -123,12 +110,9 @@ fn do_owned_command<B: SharedBook, R: Wait, W: Sink, G>(
     writer: &mut W,
 ) -> (Pass<B>, Result<Status, Stop>)
     requires of { IsOf env.now.lock.now pass }
-    requires session { (g : Config) × IsSessionPass g (view_of pass) }
     requires says { line_of line.text.now ≡ Ok (Ask command.now) }
     ensures of { IsOf env.now.lock.now result.0 }
-    ensures session { (g : Config) → IsSessionPass g (view_of pass) → IsSessionPass g (view_of result.0) }
-    ensures run { IsLineRun W.wants_first line.entry.number line.entry.text.now
-        (λ g. IsSessionPass g (view_of pass)) (progress_of (view_of pass)) (progress_of (view_of result.0))
+    ensures ran { RunsLine W.wants_first line.entry.number line.entry.text.now (view_of pass) (view_of result.0)
         (outlet (W.contents writer.old) (W.failures writer.old) (W.heard writer.old) replies.old)
         (outlet (W.contents writer.new) (W.failures writer.new) (W.heard writer.new) replies.new) result.1 }
 {
@@ -149,12 +133,9 @@ fn do_line<B: SharedBook, R: Wait, W: Sink, G>(
     writer: &mut W,
 ) -> (Pass<B>, Result<Status, Stop>)
     requires of { IsOf env.now.lock.now pass }
-    requires session { (g : Config) × IsSessionPass g (view_of pass) }
     requires says { said ≡ line_of line.text.now }
     ensures of { IsOf env.now.lock.now result.0 }
-    ensures session { (g : Config) → IsSessionPass g (view_of pass) → IsSessionPass g (view_of result.0) }
-    ensures run { IsLineRun W.wants_first line.entry.number line.entry.text.now
-        (λ g. IsSessionPass g (view_of pass)) (progress_of (view_of pass)) (progress_of (view_of result.0))
+    ensures ran { RunsLine W.wants_first line.entry.number line.entry.text.now (view_of pass) (view_of result.0)
         (outlet (W.contents writer.old) (W.failures writer.old) (W.heard writer.old) replies.old)
         (outlet (W.contents writer.new) (W.failures writer.new) (W.heard writer.new) replies.new) result.1 }
 {
@@ -185,28 +166,10 @@ fn do_part<B: SharedBook + Send, R: thread::Threads + Wait + Sync, W: Sink, G: G
     requires few { vec_len threads ≤ 8 }
     requires lines { AreInOrder part.number part.number (lines_of part.text.now) (numbers_in (commands_in threads.items)) }
     ensures of { IsOf env.now.lock.now result.0 }
-    ensures session { (g : Config) → IsSessionPass g (view_of pass) → IsSessionPass g (view_of result.0) }
-    ensures done { IfOk result.1 (λ status. (g : Config) → IsSessionPass g (view_of pass)
-        → GivesItem g W.wants_first part.entry.number (reads.Threads part.entry.text threads.entry) (progress_of (view_of pass)) (progress_of (view_of result.0)) status
-        (W.contents writer.old) replies.old (W.contents writer.new) replies.new (W.heard writer.old) (W.heard writer.new)) }
-    ensures failures { OnOk result.1 (W.failures writer.new ≡ W.failures writer.old) }
-    ensures memory { IsErrOf result.1 Stop.Memory
-        → Passes (W.contents writer.old) replies.old (W.contents writer.new) replies.new [] }
-    ensures unfailed { IsErrOf result.1 Stop.Memory → W.failures writer.new ≡ W.failures writer.old }
-    ensures stopped { IsErrOf result.1 Stop.Stopped
-        → Passes (W.contents writer.old) replies.old (W.contents writer.new) replies.new [] }
-    ensures passed { OnOk result.1 (LetsAllPass (G.may_answer env.now.gate.now) (commands_asked (commands_in threads.entry.items))) }
-    ensures passed_device { IsErrOf result.1 Stop.Device
-        → LetsAllPass (G.may_answer env.now.gate.now) (commands_asked (commands_in threads.entry.items)) }
-    ensures part { IsErrOf result.1 Stop.Stopped
-        → StopsOne (G.may_answer env.now.gate.now) (commands_asked (commands_in threads.entry.items)) }
-    ensures unwritten { IsErrOf result.1 Stop.Stopped → W.failures writer.new ≡ W.failures writer.old }
-    ensures open { G.is_open env.now.gate.now ≡ true → IsErrOf result.1 Stop.Stopped → ⊥ }
-    ensures risen { IsErrOf result.1 Stop.Device → HasRisen (W.failures writer.old) (W.failures writer.new) }
-    ensures device { IsErrOf result.1 Stop.Device → (g : Config) → IsSessionPass g (view_of pass)
-        → AppendsItem g (Threads (commands_in threads.entry.items)) (progress_of (view_of pass)) (progress_of (view_of result.0))
-        (W.contents writer.old) replies.old (W.contents writer.new) }
-    ensures unheard { OnErr result.1 (W.heard writer.new ≡ W.heard writer.old) }
+    ensures ran { RunsItem W.wants_first (G.may_answer env.now.gate.now) (G.is_open env.now.gate.now) part.entry.number (reads.Threads part.entry.text threads.entry)
+        (view_of pass) (view_of result.0)
+        (outlet (W.contents writer.old) (W.failures writer.old) (W.heard writer.old) replies.old)
+        (outlet (W.contents writer.new) (W.failures writer.new) (W.heard writer.new) replies.new) result.1 }
 {
     let (pass, ran) = run_part(env, pass, threads, writer.hears());
     match ran {
@@ -216,33 +179,6 @@ fn do_part<B: SharedBook + Send, R: thread::Threads + Wait + Sync, W: Sink, G: G
         ),
         Err(stop) => (pass, Err(stop)),
     }
-}
-
-/// Writes a part's fault; none of its commands runs.
-fn do_fault<W: Sink>(
-    alloc: Global,
-    at: FaultAt,
-    line: &[u8],
-    replies: &mut Replies,
-    writer: &mut W,
-) -> Result<Status, Stop>
-    ensures done { IfOk result (λ status. (g : Config) (before : Progress)
-        → PassesItem g (Faulty at) before before status (W.contents writer.old) replies.old (W.contents writer.new) replies.new) }
-    ensures failures { OnOk result (W.failures writer.new ≡ W.failures writer.old) }
-    ensures memory { IsErrOf result Stop.Memory
-        → Passes (W.contents writer.old) replies.old (W.contents writer.new) replies.new [] }
-    ensures unfailed { IsErrOf result Stop.Memory → W.failures writer.new ≡ W.failures writer.old }
-    ensures stopped { IsErrOf result Stop.Stopped → ⊥ }
-    ensures risen { IsErrOf result Stop.Device → HasRisen (W.failures writer.old) (W.failures writer.new) }
-    ensures device { IsErrOf result Stop.Device → (g : Config) (before : Progress)
-        → AppendsItem g (Faulty at) before before (W.contents writer.old) replies.old (W.contents writer.new) }
-    ensures flushed { IfOk result (λ status. IsSome (W.heard writer.old) → IsWrittenFirst W.wants_first status → replies.new ≡ []) }
-    ensures unheard { OnErr result (W.heard writer.new ≡ W.heard writer.old) }
-    ensures heard { OnOk result (Hears (W.heard writer.old) (W.heard writer.new)
-        (heard_of at.number line.now (Some (Outcome.Fault at.fault)) (W.contents writer.new) ∷ [])) }
-{
-    let outcome = Some(Outcome::Fault(at.fault));
-    give(alloc, at.number, line, &outcome, replies, writer)
 }
 
 /// Runs the item whose first line has this number: appends its output to the replies and returns its status. A part's output is appended only once
@@ -268,26 +204,10 @@ pub(crate) fn do_item<
     requires few { HasFewThreads (item_read number item) }
     requires lines { HasItsLines number item }
     ensures of { IsOf env.now.lock.now result.0 }
-    ensures session { (g : Config) → IsSessionPass g (view_of pass) → IsSessionPass g (view_of result.0) }
-    ensures done { IfOk result.1 (λ status. (g : Config) → IsSessionPass g (view_of pass)
-        → GivesItem g W.wants_first number item.entry (progress_of (view_of pass)) (progress_of (view_of result.0)) status
-        (W.contents writer.old) replies.old (W.contents writer.new) replies.new (W.heard writer.old) (W.heard writer.new)) }
-    ensures failures { OnOk result.1 (W.failures writer.new ≡ W.failures writer.old) }
-    ensures memory { IsErrOf result.1 Stop.Memory
-        → Passes (W.contents writer.old) replies.old (W.contents writer.new) replies.new [] }
-    ensures unfailed { IsErrOf result.1 Stop.Memory → W.failures writer.new ≡ W.failures writer.old }
-    ensures stopped { IsErrOf result.1 Stop.Stopped
-        → Passes (W.contents writer.old) replies.old (W.contents writer.new) replies.new [] }
-    ensures passed { OnOk result.1 (LetsPass (G.may_answer env.now.gate.now) (item_read number item.entry)) }
-    ensures passed_device { IsErrOf result.1 Stop.Device → LetsPass (G.may_answer env.now.gate.now) (item_read number item.entry) }
-    ensures part { IsErrOf result.1 Stop.Stopped → Stops (G.may_answer env.now.gate.now) (item_read number item.entry) }
-    ensures unwritten { IsErrOf result.1 Stop.Stopped → W.failures writer.new ≡ W.failures writer.old }
-    ensures open { G.is_open env.now.gate.now ≡ true → IsErrOf result.1 Stop.Stopped → ⊥ }
-    ensures risen { IsErrOf result.1 Stop.Device → HasRisen (W.failures writer.old) (W.failures writer.new) }
-    ensures device { IsErrOf result.1 Stop.Device → (g : Config) → IsSessionPass g (view_of pass)
-        → AppendsItem g (item_read number item.entry) (progress_of (view_of pass)) (progress_of (view_of result.0))
-        (W.contents writer.old) replies.old (W.contents writer.new) }
-    ensures unheard { OnErr result.1 (W.heard writer.new ≡ W.heard writer.old) }
+    ensures ran { RunsItem W.wants_first (G.may_answer env.now.gate.now) (G.is_open env.now.gate.now) number item.entry
+        (view_of pass) (view_of result.0)
+        (outlet (W.contents writer.old) (W.failures writer.old) (W.heard writer.old) replies.old)
+        (outlet (W.contents writer.new) (W.failures writer.new) (W.heard writer.new) replies.new) result.1 }
 {
     match item {
         ItemRead::Line { line, said } => {
@@ -298,6 +218,10 @@ pub(crate) fn do_item<
             let part = NumberedText { number, text };
             do_part(env, pass, part, threads, replies, writer)
         }
-        ItemRead::Fault { at, line } => (pass, do_fault(env.alloc, at, line, replies, writer)),
+        ItemRead::Fault { at, line } => {
+            let outcome = Some(Outcome::Fault(at.fault));
+            let given = give(env.alloc, at.number, line, &outcome, replies, writer);
+            (pass, given)
+        }
     }
 }

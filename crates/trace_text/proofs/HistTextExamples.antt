@@ -4,7 +4,7 @@ use Rattle.std.specs.Fmt.{digits}
 use Rattle.trace_format.specs.Operands.{operand_named}
 use Rattle.trace_trigger.specs.HistParts.{attributes_of, tail_of}
 use Rattle.trace_trigger.specs.HistLists.{lists_of}
-use Rattle.trace_trigger.specs.HistOffsets.{attribute_offsets, name_offsets, key_offsets, value_offsets, sort_offsets, wrong_offsets}
+use Rattle.trace_trigger.specs.HistOffsets.{attribute_mistakes, name_mistakes, key_mistakes, value_mistakes, sort_mistakes, mistakes}
 use Rattle.trace_trigger.specs.Frames.{filter_of}
 use Rattle.trace_trigger.specs.HistTexts.{read_of, spec_from, spec_of}
 use Rattle.hist_entries.specs.Buckets.{log2_of}
@@ -25,8 +25,8 @@ pub record AreShown : Type 0 where
   pub hex : IsShown hexadecimals
 
 pub examples-are_shown : AreShown
-unfolding digits operand_named attributes_of tail_of lists_of attribute_offsets name_offsets key_offsets value_offsets
-    sort_offsets wrong_offsets read_of filter_of spec_from spec_of log2_of printed grouped entry_line hist_head total_line totals_text one_hist
+unfolding digits operand_named attributes_of tail_of lists_of attribute_mistakes name_mistakes key_mistakes value_mistakes
+    sort_mistakes mistakes read_of filter_of spec_from spec_of log2_of printed grouped entry_line hist_head total_line totals_text one_hist
     lists_text hist_line
 examples-are_shown = record {
   sums = refl;

@@ -10,21 +10,22 @@ use Rattle.trace_filter.specs.declared.fault.FilterFault.{FilterFault}
 use Rattle.trace_filter.specs.Filters.{Parsed, IsFilter, IsRefused, parsed_of}
 use Rattle.trace_filter.proofs.FilterLemmas.{filter_or_refused}
 use Rattle.trace_trigger.specs.declared.fault.TriggerFault.{TriggerFault}
-use Rattle.trace_trigger.specs.declared.fault.TriggerFault.TheVariants.{HistSyntax, TooMany, BadSize}
+use Rattle.trace_trigger.specs.declared.fault.TriggerFault.TheVariants.{HistSyntax, TooManyKeys, TooManyValues, TooManySortKeys, BadSize}
+use Rattle.trace_trigger.specs.declared.fault.HistCause.{HistCause}
 use Rattle.trace_format.specs.declared.key.Key.{Key}
 use Rattle.trace_trigger.specs.declared.piece.ListItem.{ListItem}
 use Rattle.trace_trigger.specs.HistSizes.{rounded_size}
 use Rattle.trace_trigger.specs.HistParts.{attributes_of, tail_of, condition_of}
 use Rattle.trace_trigger.specs.HistLists.{Lists, lists_of, names_of, summed_items, sort_keys, sort_key_of}
-use Rattle.trace_trigger.specs.HistOffsets.{wrong_offsets}
+use Rattle.trace_trigger.specs.private.MistakeOffsets.{wrong_offsets}
 use Rattle.trace_trigger.specs.TriggerAnswers.{◌>>=◌}
-use Rattle.trace_trigger.specs.HistMeanings.{summed_len, is_too_many, few, each, key_in, value_source, told_size, size_of, sort_rule}
+use Rattle.trace_trigger.specs.HistMeanings.{summed_len, is_too_many, excess, few, each, key_in, value_source, told_size, size_of, sort_rule}
 use Rattle.trace_trigger.specs.HistSpecs.{SpecSeen, key_names}
 use Rattle.trace_trigger.specs.Frames.{moved, filter_of}
 use Rattle.trace_trigger.specs.HistTexts.{IsHistText, spec_from, spec_of}
 use Rattle.trace_trigger.specs.HistGrammar.{Setting, Values, Sort, Size, subject_of, IsSet, summed_names, IsValueOf}
 use Rattle.trace_trigger.specs.HistFaultOffsets.{Cut}
-use Rattle.trace_trigger.specs.HistRefusals.{IsOver, CanBeKey, CanBeValue, HaveKeys, HaveValues, IsSized, IsRefusal, ForMany, ForKey, ForValue, ForSize, ForFilter, IsRefusedAs}
+use Rattle.trace_trigger.specs.HistRefusals.{HasManyKeys, HasManyValues, HasManySortKeys, IsOver, IsOverBy, ByKeys, ByValues, BySortKeys, CanBeKey, CanBeValue, HaveKeys, HaveValues, IsSized, IsRefusal, ForMany, ForKey, ForValue, ForSize, ForFilter, IsRefusedAs}
 use Rattle.trace_trigger.proofs.WrongLemmas.{from_pairs}
 use Rattle.trace_trigger.proofs.ListLaws.{Once}
 use Rattle.trace_trigger.proofs.SettingLaws.{default_sort, ListsAre, keys_are, values_are}
@@ -50,17 +51,17 @@ module _ (definition : Definition) (text : List ℕ) (settings : List Setting) (
 
   -- ---- how many
 
-  many_keys : nat_lt 3 (length lists.keys) ≡ true → IsOver settings
-  many_keys e = inl (names_of lists.keys, lists_here.keys, omega (arith, ltb-true 3 (length lists.keys) e, length-map lists.keys (λ (item : ListItem). item.bytes)))
+  many_keys : nat_lt 3 (length lists.keys) ≡ true → HasManyKeys settings
+  many_keys e = (names_of lists.keys, lists_here.keys, omega (arith, ltb-true 3 (length lists.keys) e, length-map lists.keys (λ (item : ListItem). item.bytes)))
 
   summed_length : (items : List ListItem) → length (summed_items items) ≡ length (summed_names (names_of items))
   summed_length items = omega (arith, length-map (summed_items items) (λ (item : ListItem). item.bytes), ap length (summed_are items))
 
-  many_values : nat_lt 3 (summed_len lists.values) ≡ true → IsOver settings
+  many_values : nat_lt 3 (summed_len lists.values) ≡ true → HasManyValues settings
   many_values e = by lists_here.values
     where
-      by : IsSet settings Values [] (names_of (lists_of (attributes_of text)).values) → IsOver settings
-      by (inl set) = inr (inl (names_of lists.values, set, omega (arith, ltb-true 3 (length (summed_items lists.values)) e, summed_length lists.values)))
+      by : IsSet settings Values [] (names_of (lists_of (attributes_of text)).values) → HasManyValues settings
+      by (inl set) = (names_of lists.values, set, omega (arith, ltb-true 3 (length (summed_items lists.values)) e, summed_length lists.values))
       by (inr none) = absurd (omega (arith, ltb-true 3 (length (summed_items lists.values)) e, summed_length lists.values, ap (λ (names : List (List ℕ)). length (summed_names names)) none.1))
 
   sort_length : (items : List ListItem) → 2 < length items → length (sort_keys items) ≡ length items
@@ -71,38 +72,74 @@ module _ (definition : Definition) (text : List ℕ) (settings : List Setting) (
   length_sort [] more = absurd (omega (arith, more))
   length_sort (item ∷ items) more = omega (arith, more, length-map (item ∷ items) sort_key_of)
 
-  many_sorts : nat_lt 2 (length lists.sort) ≡ true → IsOver settings
+  many_sorts : nat_lt 2 (length lists.sort) ≡ true → HasManySortKeys settings
   many_sorts e = by lists_here.sort
     where
-      by : IsSet settings Sort default_sort (sort_keys (lists_of (attributes_of text)).sort) → IsOver settings
-      by (inl set) = inr (inr (sort_keys lists.sort, set, omega (arith, ltb-true 2 (length lists.sort) e, sort_length lists.sort (ltb-true 2 (length lists.sort) e))))
+      by : IsSet settings Sort default_sort (sort_keys (lists_of (attributes_of text)).sort) → HasManySortKeys settings
+      by (inl set) = (sort_keys lists.sort, set, omega (arith, ltb-true 2 (length lists.sort) e, sort_length lists.sort (ltb-true 2 (length lists.sort) e)))
       by (inr none) = absurd (omega (arith, ltb-true 2 (length lists.sort) e, sort_length lists.sort (ltb-true 2 (length lists.sort) e), ap length none.1))
 
   over : is_too_many lists ≡ true → IsOver settings
   over e = by (or_cases (nat_lt 3 (length lists.keys) || nat_lt 3 (summed_len lists.values)) (nat_lt 2 (length lists.sort)) e)
     where
       first : (nat_lt 3 (length lists.keys) ≡ true) ⊎ (nat_lt 3 (summed_len lists.values) ≡ true) → IsOver settings
-      first (inl f) = many_keys f
-      first (inr f) = many_values f
+      first (inl f) = inl (many_keys f)
+      first (inr f) = inr (inl (many_values f))
 
       by : ((nat_lt 3 (length lists.keys) || nat_lt 3 (summed_len lists.values)) ≡ true) ⊎ (nat_lt 2 (length lists.sort) ≡ true) → IsOver settings
       by (inl f) = first (or_cases (nat_lt 3 (length lists.keys)) (nat_lt 3 (summed_len lists.values)) f)
-      by (inr f) = many_sorts f
+      by (inr f) = inr (inr (many_sorts f))
+
+  keys_many : HasManyKeys settings → nat_lt 3 (length lists.keys) ≡ true
+  keys_many (keys, set, more) =
+      let same : names_of lists.keys ≡ keys = keys_are (attributes_of text) settings finds.read once keys set in
+      lt-ltb 3 (length lists.keys) (omega (arith, more, ap length same, length-map lists.keys (λ (item : ListItem). item.bytes)))
+
+  values_many : HasManyValues settings → nat_lt 3 (summed_len lists.values) ≡ true
+  values_many (listed, set, more) =
+      let same : names_of lists.values ≡ listed = values_are (attributes_of text) settings finds.read once listed set in
+      lt-ltb 3 (length (summed_items lists.values)) (omega (arith, more, ap (λ (names : List (List ℕ)). length (summed_names names)) same, summed_length lists.values))
+
+  sorts_many : HasManySortKeys settings → nat_lt 2 (length lists.sort) ≡ true
+  sorts_many (keys, set, more) =
+      let same : sort_keys lists.sort ≡ keys = set_once settings Sort default_sort once (λ a b. refl) (λ a b e. cc) (sort_keys lists.sort) keys lists_here.sort (inl set) in
+      lt-ltb 2 (length lists.sort) (length_sort lists.sort (omega (arith, more, ap length same)))
 
   too_many : IsOver settings → is_too_many lists ≡ true
-  too_many (inl (keys, set, more)) =
-      let same : names_of lists.keys ≡ keys = keys_are (attributes_of text) settings finds.read once keys set in
+  too_many (inl many) =
       or_left (nat_lt 3 (length lists.keys) || nat_lt 3 (summed_len lists.values)) (nat_lt 2 (length lists.sort))
-      (or_left (nat_lt 3 (length lists.keys)) (nat_lt 3 (summed_len lists.values)) (lt-ltb 3 (length lists.keys) (omega (arith, more, ap length same, length-map lists.keys (λ (item : ListItem). item.bytes)))))
-  too_many (inr (inl (listed, set, more))) =
-      let same : names_of lists.values ≡ listed = values_are (attributes_of text) settings finds.read once listed set in
+      (or_left (nat_lt 3 (length lists.keys)) (nat_lt 3 (summed_len lists.values)) (keys_many many))
+  too_many (inr (inl many)) =
       or_left (nat_lt 3 (length lists.keys) || nat_lt 3 (summed_len lists.values)) (nat_lt 2 (length lists.sort))
-      (or_right (nat_lt 3 (length lists.keys)) (nat_lt 3 (summed_len lists.values))
-      (lt-ltb 3 (length (summed_items lists.values)) (omega (arith, more, ap (λ (names : List (List ℕ)). length (summed_names names)) same, summed_length lists.values))))
-  too_many (inr (inr (keys, set, more))) =
-      let same : sort_keys lists.sort ≡ keys = set_once settings Sort default_sort once (λ a b. refl) (λ a b e. cc) (sort_keys lists.sort) keys lists_here.sort (inl set) in
-      or_right (nat_lt 3 (length lists.keys) || nat_lt 3 (summed_len lists.values)) (nat_lt 2 (length lists.sort))
-      (lt-ltb 2 (length lists.sort) (length_sort lists.sort (omega (arith, more, ap length same))))
+      (or_right (nat_lt 3 (length lists.keys)) (nat_lt 3 (summed_len lists.values)) (values_many many))
+  too_many (inr (inr many)) = or_right (nat_lt 3 (length lists.keys) || nat_lt 3 (summed_len lists.values)) (nat_lt 2 (length lists.sort)) (sorts_many many)
+
+  -- and of what there are too many
+
+  abbrev excess_if : Bool → Bool → TriggerFault
+  excess_if keys values = if keys then TooManyKeys else (if values then TooManyValues else TooManySortKeys)
+
+  over_by : (fault : TriggerFault) → is_too_many lists ≡ true → fault ≡ excess lists → IsOverBy settings fault
+  over_by fault e same = by (nat_lt 3 (length lists.keys)) (nat_lt 3 (summed_len lists.values)) refl refl (over e)
+    where
+      by : (keys values : Bool) → nat_lt 3 (length lists.keys) ≡ keys → nat_lt 3 (summed_len lists.values) ≡ values → IsOver settings → IsOverBy settings fault
+      by true values f g is = ByKeys (many_keys f) (same ∙ (λ i. excess_if (f i) (nat_lt 3 (summed_len lists.values))))
+      by false true f g is = ByValues (λ many. let never = keys_many many in cc) (many_values g) (same ∙ (λ i. excess_if (f i) (g i)))
+      by false false f g (inl many) = let never = keys_many many in absurd (cc)
+      by false false f g (inr (inl many)) = let never = values_many many in absurd (cc)
+      by false false f g (inr (inr many)) = BySortKeys (λ many. let never = keys_many many in cc) (λ many. let never = values_many many in cc) many (same ∙ (λ i. excess_if (f i) (g i)))
+
+  is_over : (fault : TriggerFault) → IsOverBy settings fault → IsOver settings
+  is_over fault (ByKeys many same) = inl many
+  is_over fault (ByValues few many same) = inr (inl many)
+  is_over fault (BySortKeys few fewer many same) = inr (inr many)
+
+  is_excess : (fault : TriggerFault) → IsOverBy settings fault → excess lists ≡ fault
+  is_excess fault (ByKeys many same) = (λ i. excess_if (keys_many many i) (nat_lt 3 (summed_len lists.values))) ∙ sym same
+  is_excess fault (ByValues few many same) =
+      (λ i. excess_if (false_from_ne_true (nat_lt 3 (length lists.keys)) (λ e. few (many_keys e)) i) (values_many many i)) ∙ sym same
+  is_excess fault (BySortKeys few fewer many same) =
+      (λ i. excess_if (false_from_ne_true (nat_lt 3 (length lists.keys)) (λ e. few (many_keys e)) i) (false_from_ne_true (nat_lt 3 (summed_len lists.values)) (λ e. fewer (many_values e)) i)) ∙ sym same
 
   few_enough : (IsOver settings → ⊥) → is_too_many lists ≡ false
   few_enough within = false_from_ne_true (is_too_many lists) (λ many. within (over many))
@@ -201,7 +238,7 @@ module _ (definition : Definition) (text : List ℕ) (settings : List Setting) (
 
   few_so : is_too_many lists ≡ false → from_lists ≡ (each (key_in definition.fields) lists.keys >>= λ keys. after_keys keys)
   unfolding spec_from
-  few_so e = ap (λ (b : Bool). (if b then Err TooMany else Ok lists) >>= λ ls. spec_from definition text ls) e
+  few_so e = ap (λ (b : Bool). (if b then Err (excess lists) else Ok lists) >>= λ ls. spec_from definition text ls) e
 
   abbrev Cause : TriggerFault → Type 0
   Cause fault = IsRefusal definition text settings condition fault
@@ -238,9 +275,9 @@ module _ (definition : Definition) (text : List ℕ) (settings : List Setting) (
     where
       by : (b : Bool) → is_too_many lists ≡ b → Cause fault
       by true f =
-          let many : from_lists ≡ Err TooMany = ap (λ (b : Bool). (if b then Err TooMany else Ok lists) >>= λ ls. spec_from definition text ls) f in
-          let same : fault ≡ TooMany = cc in
-          ForMany (over f) same
+          let many : from_lists ≡ Err (excess lists) = ap (λ (b : Bool). (if b then Err (excess lists) else Ok lists) >>= λ ls. spec_from definition text ls) f in
+          let same : fault ≡ excess lists = cc in
+          ForMany (over_by fault f same)
       by false f = cause_in cut fault (λ is. let many = too_many is in cc) (sym (few_so f) ∙ e)
 
   -- ---- and each cause is told
@@ -254,8 +291,8 @@ module _ (definition : Definition) (text : List ℕ) (settings : List Setting) (
       with_keys fault within have (ap (λ (r : Result (List Operand) TriggerFault). r >>= λ values. after_values (right_keys have).0 values) (right_values right).1 ∙ e)
 
   pub cause_told : (fault : TriggerFault) → Cause fault → from_lists ≡ Err fault
-  cause_told fault (ForMany many same) =
-      ap (λ (b : Bool). (if b then Err TooMany else Ok lists) >>= λ ls. spec_from definition text ls) (too_many many) ∙ ap (λ (f : TriggerFault). Err f) (sym same)
+  cause_told fault (ForMany is) =
+      ap (λ (b : Bool). (if b then Err (excess lists) else Ok lists) >>= λ ls. spec_from definition text ls) (too_many (is_over fault is)) ∙ ap (λ (f : TriggerFault). Err f) (is_excess fault is)
   cause_told fault (ForKey within is) =
       few_so (few_enough within) ∙ ap (λ (r : Result (List Key) TriggerFault). r >>= λ keys. after_keys keys) (fault_key definition text fault is)
   cause_told fault (ForValue within have is) =
@@ -274,8 +311,11 @@ module _ (definition : Definition) (text : List ℕ) (settings : List Setting) (
 pub refusal_is_as_written : (definition : Definition) (text : List ℕ) (fault : TriggerFault) → IsHistText text → (spec_of definition text ≡ Err fault) ↔ IsRefusedAs definition text fault
 refusal_is_as_written definition text fault hist = (λ e. by e (syntax_or_right definition text), λ is. told is)
   where
-    wrong : spec_of definition text ≡ Err fault → (at : ℕ) → spec_of definition text ≡ Err (HistSyntax at) → IsRefusedAs definition text fault
-    wrong e at f = let same : fault ≡ HistSyntax at = cc in inl (at, same, (syntax_is_leftmost definition text at hist).0 f)
+    wrong : spec_of definition text ≡ Err fault → (at : ℕ) (cause : HistCause) → spec_of definition text ≡ Err (HistSyntax at cause) → IsRefusedAs definition text fault
+    wrong e at cause f =
+        let same : fault ≡ HistSyntax at cause = cc in
+        let is = (syntax_is_leftmost definition text at cause hist).0 f in
+        inl (at, cause, same, is.0, is.1)
 
     written : spec_of definition text ≡ Err fault → wrong_offsets text ≡ [] → IsSomehowWritten text → IsRefusedAs definition text fault
     written e none is =
@@ -287,12 +327,12 @@ refusal_is_as_written definition text fault hist = (λ e. by e (syntax_or_right 
           refusal = cause_of definition text is.settings is.condition finds (cut_of definition text (parts_of text hist)) fault (sym (of_right definition text none) ∙ e);
         })
 
-    by : spec_of definition text ≡ Err fault → ((at : ℕ) × (spec_of definition text ≡ Err (HistSyntax at))) ⊎ (wrong_offsets text ≡ []) → IsRefusedAs definition text fault
-    by e (inl is) = wrong e is.0 is.1
+    by : spec_of definition text ≡ Err fault → ((at : ℕ) × (cause : HistCause) × (spec_of definition text ≡ Err (HistSyntax at cause))) ⊎ (wrong_offsets text ≡ []) → IsRefusedAs definition text fault
+    by e (inl is) = wrong e is.0 is.1 is.2
     by e (inr none) = written e none (right_written text (parts_of text hist) none)
 
     told : IsRefusedAs definition text fault → spec_of definition text ≡ Err fault
-    told (inl (at, same, is)) = (syntax_is_leftmost definition text at hist).1 is ∙ ap (λ (f : TriggerFault). Err f) (sym same)
+    told (inl (at, cause, same, is, caused)) = (syntax_is_leftmost definition text at cause hist).1 (is, caused) ∙ ap (λ (f : TriggerFault). Err f) (sym same)
     told (inr is) =
         let finds = written_finds text is.settings is.condition is.written in
         of_right definition text finds.none ∙ cause_told definition text is.settings is.condition finds fault is.refusal

@@ -3,19 +3,23 @@ use Rattle.std.proofs.Common.{◌≡◌, ℕ, ◌+◌, ◌<◌, ◌≤◌, List,
 use Rattle.std.proofs.lemmas.List.{at_drop_more, drop_all, append_assoc, append-nil}
 use Rattle.std.specs.Prelude.{Result, Ok, Err}
 use Rattle.trace_trigger.specs.declared.fault.TriggerFault.{TriggerFault}
-use Rattle.trace_trigger.specs.declared.fault.TriggerFault.TheVariants.{BadText, TooMany, FilterSyntax, NoSuchField, WrongOperator, HistSyntax, BadSize, Memory}
+use Rattle.trace_trigger.specs.declared.fault.TriggerFault.TheVariants.{BadText, FilterTooLong, FilterTooDeep, TooManyKeys, TooManyValues, TooManySortKeys, FilterSyntax, NoSuchField, WrongOperator, HistSyntax, BadSize, Memory}
 use Rattle.trace_trigger.specs.TriggerAnswers.{◌>>=◌, IsTold}
 use Rattle.trace_trigger.specs.HistMeanings.{each}
 
 -- a fault that the definition gives may be told
 pub told_is : {A : Type 0} (fault : TriggerFault) (answer : Result A TriggerFault) → answer ≡ Err fault → IsTold fault answer
-told_is BadText answer e = e
-told_is (HistSyntax at) answer e = e
-told_is TooMany answer e = e
+told_is (BadText cause) answer e = e
+told_is (HistSyntax at cause) answer e = e
+told_is FilterTooLong answer e = e
+told_is FilterTooDeep answer e = e
+told_is TooManyKeys answer e = e
+told_is TooManyValues answer e = e
+told_is TooManySortKeys answer e = e
 told_is (NoSuchField at) answer e = e
-told_is (WrongOperator at) answer e = e
+told_is (WrongOperator at cause) answer e = e
 told_is BadSize answer e = e
-told_is (FilterSyntax at) answer e = e
+told_is (FilterSyntax at cause) answer e = e
 told_is Memory answer e = tt
 
 module _ {A B : Type 0} (read : A → Result B TriggerFault) where
@@ -62,12 +66,16 @@ module _ {A B : Type 0} (read : A → Result B TriggerFault) where
 
   pub each_told : (xs : List A) (i : ℕ) (x : A) (fault : TriggerFault) (found : List B) (whole : Result (List B) TriggerFault) → i < length xs → x ≡ get_or xs i x
       → IsTold fault (read x) → whole ≡ each_from xs i found → IsTold fault whole
-  each_told xs i x BadText found whole within is told so_far = each_refused xs i x BadText found whole within is told so_far
-  each_told xs i x TooMany found whole within is told so_far = each_refused xs i x TooMany found whole within is told so_far
-  each_told xs i x (FilterSyntax at) found whole within is told so_far = each_refused xs i x (FilterSyntax at) found whole within is told so_far
+  each_told xs i x (BadText cause) found whole within is told so_far = each_refused xs i x (BadText cause) found whole within is told so_far
+  each_told xs i x FilterTooLong found whole within is told so_far = each_refused xs i x FilterTooLong found whole within is told so_far
+  each_told xs i x FilterTooDeep found whole within is told so_far = each_refused xs i x FilterTooDeep found whole within is told so_far
+  each_told xs i x TooManyKeys found whole within is told so_far = each_refused xs i x TooManyKeys found whole within is told so_far
+  each_told xs i x TooManyValues found whole within is told so_far = each_refused xs i x TooManyValues found whole within is told so_far
+  each_told xs i x TooManySortKeys found whole within is told so_far = each_refused xs i x TooManySortKeys found whole within is told so_far
+  each_told xs i x (FilterSyntax at cause) found whole within is told so_far = each_refused xs i x (FilterSyntax at cause) found whole within is told so_far
   each_told xs i x (NoSuchField at) found whole within is told so_far = each_refused xs i x (NoSuchField at) found whole within is told so_far
-  each_told xs i x (WrongOperator at) found whole within is told so_far = each_refused xs i x (WrongOperator at) found whole within is told so_far
-  each_told xs i x (HistSyntax at) found whole within is told so_far = each_refused xs i x (HistSyntax at) found whole within is told so_far
+  each_told xs i x (WrongOperator at cause) found whole within is told so_far = each_refused xs i x (WrongOperator at cause) found whole within is told so_far
+  each_told xs i x (HistSyntax at cause) found whole within is told so_far = each_refused xs i x (HistSyntax at cause) found whole within is told so_far
   each_told xs i x BadSize found whole within is told so_far = each_refused xs i x BadSize found whole within is told so_far
   each_told xs i x Memory found whole within is told so_far = tt
 

@@ -6,7 +6,7 @@ use Rattle.trace_filter.specs.Syntax.{step as filter_step}
 use Rattle.trace_filter.specs.Tokens.{piece_of}
 use Rattle.trace_trigger.specs.HistParts.{attributes_of, tail_of}
 use Rattle.trace_trigger.specs.HistLists.{lists_of}
-use Rattle.trace_trigger.specs.HistOffsets.{attribute_offsets, name_offsets, key_offsets, value_offsets, sort_offsets, wrong_offsets}
+use Rattle.trace_trigger.specs.HistOffsets.{attribute_mistakes, name_mistakes, key_mistakes, value_mistakes, sort_mistakes, mistakes}
 use Rattle.trace_trigger.specs.Frames.{filter_of}
 use Rattle.trace_trigger.specs.HistTexts.{read_of, spec_from, spec_of}
 use Rattle.trace_trigger.specs.HistExamples.{tick, move, AreRead, accepted, accepted_of_move, wrong_attributes, wrong_table_names, wrong_items, wrong_modifiers, too_many, wrong_names, wrong_keys_of_move, wrong_values_of_move}
@@ -24,7 +24,7 @@ pub record AreAllRead : Type 0 where
   pub values : AreRead move wrong_values_of_move
 
 pub examples-are_read : AreAllRead
-unfolding answer_of operand_named filter_step piece_of attributes_of tail_of lists_of attribute_offsets name_offsets key_offsets value_offsets sort_offsets wrong_offsets
+unfolding answer_of operand_named filter_step piece_of attributes_of tail_of lists_of attribute_mistakes name_mistakes key_mistakes value_mistakes sort_mistakes mistakes
     read_of filter_of spec_from spec_of
 examples-are_read = record {
   accepted = refl;

@@ -11,7 +11,8 @@ use Rattle.trace_trigger.specs.declared.piece.ListItem.{ListItem}
 use Rattle.trace_trigger.specs.HistAttributes.{head_len, attribute_of}
 use Rattle.trace_trigger.specs.HistPieces.{pieces_of}
 use Rattle.trace_trigger.specs.HistLists.{first_about, items_in, Lists, lists_of, names_of, is_listed, is_named, is_hitcount, item_name, item_suffix, is_direction, is_sortable}
-use Rattle.trace_trigger.specs.HistOffsets.{wrong_after, is_wrong_attribute, attribute_offsets, is_wrong_key, is_wrong_value, is_wrong_sort}
+use Rattle.trace_trigger.specs.HistOffsets.{is_wrong_attribute, is_wrong_key, is_wrong_value, is_wrong_sort}
+use Rattle.trace_trigger.specs.private.MistakeOffsets.{wrong_after, attribute_offsets}
 use Rattle.trace_trigger.specs.HistGrammar.{Subject, OfKeys, OfValues, OfSort, HasName, IsSortItem}
 use Rattle.trace_trigger.specs.HistFaultOffsets.{IsAt, IsAbout, IsUnknown, IsNoSize, IsRepeated, IsList, IsNoKey, IsNoValue, IsLentBy, IsLent, IsWrongSort}
 use Rattle.trace_trigger.proofs.CutLemmas.{located, cut_pieces, found_is_cut, names_of-located}
@@ -26,7 +27,7 @@ use Rattle.trace_trigger.proofs.SubjectLaws.{is_keys, is_values, is_sort, about_
 
 -- ---- attributes
 
-map-push : {X Y : Type 0} (f : X → Y) (xs : List X) (x : X) → map f (xs ++ x ∷ []) ≡ map f xs ++ f x ∷ []
+pub map-push : {X Y : Type 0} (f : X → Y) (xs : List X) (x : X) → map f (xs ++ x ∷ []) ≡ map f xs ++ f x ∷ []
 map-push f [] x = refl
 map-push f (y ∷ xs) x = ap (λ (ys : List _). f y ∷ ys) (map-push f xs x)
 

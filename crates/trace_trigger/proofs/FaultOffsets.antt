@@ -7,7 +7,9 @@ use Rattle.trace_format.specs.declared.event.Field.{Field}
 use Rattle.trace_format.specs.Definitions.{Definition}
 use Rattle.trace_lex.specs.Blanks.{is_blank, without_end}
 use Rattle.trace_filter.specs.declared.fault.FilterFault.{FilterFault}
-use Rattle.trace_filter.specs.declared.fault.FilterFault.TheVariants.{TooMany, FilterSyntax, NoSuchField, WrongOperator, Memory}
+use Rattle.trace_filter.specs.declared.fault.FilterFault.TheVariants.{TooLong, TooDeep, FilterSyntax, NoSuchField, WrongOperator, Memory}
+use Rattle.trace_filter.specs.declared.fault.FilterCause.{FilterCause}
+use Rattle.trace_filter.specs.declared.fault.FilterCause.TheVariants as cause
 use Rattle.trace_filter.specs.Grammar.{IsMisplaced, EndsEarly}
 use Rattle.trace_filter.specs.Tokens.{Token, Open, Close, Bang, AndAnd, OrOr, Compare, Name, Value, Illegible, piece_of, is_comparison, Spot, spots_from, spots_of}
 use Rattle.trace_filter.specs.Fields.{is_text_named, takes_at, fits_at, unless, or_later, operator_fault, value_fault, test_fault, fault_of_test, first_misfit}
@@ -75,7 +77,7 @@ value_within len text AndAnd at h = tt
 value_within len text OrOr at h = tt
 value_within len text (Compare by) at h = tt
 value_within len text (Name bytes) at h = tt
-value_within len text (Value literal) at h = unless_within len (fits_at text literal) (FilterSyntax at) h
+value_within len text (Value literal) at h = unless_within len (fits_at text literal) (FilterSyntax at cause.Value) h
 value_within len text Illegible at h = tt
 
 test_within : (len : ℕ) (named : Option Bool) (at : ℕ) (operator value : Spot) → at ≤ len → IsSpotWithin len operator → IsSpotWithin len value → IsFaultWithin len (test_fault named at operator value)
@@ -116,22 +118,24 @@ module _ (definition : Definition) (text : List ℕ) where
   wrong_within at (inl is) = misplaced_within (length text) (spots_of text) at all_within is
   wrong_within at (inr is) = omega (arith, is.1)
 
-  syntax_within : (at : ℕ) → IsWrong text at ⊎ Misfits definition text (FilterSyntax at) → at ≤ length text
-  syntax_within at (inl is) = wrong_within at is.1
-  syntax_within at (inr is) = found_within (FilterSyntax at) is.2
+  syntax_within : (at : ℕ) (why : FilterCause) → IsWrong text at why ⊎ Misfits definition text (FilterSyntax at why) → at ≤ length text
+  syntax_within at why (inl is) = wrong_within at is.1
+  syntax_within at why (inr is) = found_within (FilterSyntax at why) is.2
 
   -- a filter is refused at an offset in its text
   pub told_within : (fault : FilterFault) → IsTold definition text fault → IsWithin (length text) fault
-  told_within TooMany is = tt
-  told_within (FilterSyntax at) is = syntax_within at is
+  told_within TooLong is = tt
+  told_within TooDeep is = tt
+  told_within (FilterSyntax at why) is = syntax_within at why is
   told_within (NoSuchField at) is = found_within (NoSuchField at) is.2
   told_within (WrongOperator at) is = found_within (WrongOperator at) is.2
   told_within Memory is = tt
 
 -- and so in each longer one
 pub within_longer : (len longer : ℕ) (fault : FilterFault) → len ≤ longer → IsWithin len fault → IsWithin longer fault
-within_longer len longer TooMany more is = tt
-within_longer len longer (FilterSyntax at) more is = omega (arith, more, is)
+within_longer len longer TooLong more is = tt
+within_longer len longer TooDeep more is = tt
+within_longer len longer (FilterSyntax at why) more is = omega (arith, more, is)
 within_longer len longer (NoSuchField at) more is = omega (arith, more, is)
 within_longer len longer (WrongOperator at) more is = omega (arith, more, is)
 within_longer len longer Memory more is = tt

@@ -7,6 +7,7 @@ use Rattle.trace_format.specs.Definitions.{Definition}
 use Rattle.trace_format.specs.declared.operand.Operand.{Operand}
 use Rattle.trace_format.specs.Operands.{operand_named, is_text}
 use Rattle.trace_trigger.specs.declared.fault.TriggerFault.{TriggerFault}
+use Rattle.trace_trigger.specs.declared.fault.OperatorCause.TheVariants.{Modified, Summed}
 use Rattle.trace_trigger.specs.declared.fault.TriggerFault.TheVariants.{NoSuchField, WrongOperator}
 use Rattle.trace_trigger.specs.declared.piece.ListItem.{ListItem}
 use Rattle.trace_trigger.specs.TriggerAnswers.{◌>>=◌}
@@ -142,15 +143,15 @@ filter_all (x ∷ xs) = ap (λ (ys : List _). x ∷ ys) (filter_all xs)
 module _ (definition : Definition) where
   abbrev Wrong : ListItem → TriggerFault → Type 0
   Wrong item fault = ((operand_named definition.fields (item_name item.bytes) ≡ None) × (fault ≡ NoSuchField item.at))
-      ⊎ ((operand : Operand) × (operand_named definition.fields (item_name item.bytes) ≡ Some operand) × (is_text operand ≡ true) × (item_suffix item.bytes ≢ []) × (fault ≡ WrongOperator item.at))
+      ⊎ ((operand : Operand) × (operand_named definition.fields (item_name item.bytes) ≡ Some operand) × (is_text operand ≡ true) × (item_suffix item.bytes ≢ []) × (fault ≡ WrongOperator item.at Modified))
 
   pub key_refused : (item : ListItem) (fault : TriggerFault) → key_in definition.fields item ≡ Err fault → CannotBeKey definition item.bytes item.at fault
   key_refused item fault e = record { name = item_name item.bytes; suffix = item_suffix item.bytes; cut = item_split item.bytes; wrong = by (operand_named definition.fields (item_name item.bytes)) refl e }
     where
       of : (operand : Operand) → operand_named definition.fields (item_name item.bytes) ≡ Some operand → (text unmodified : Bool) → is_text operand ≡ text → bytes_eq (item_suffix item.bytes) [] ≡ unmodified
-          → (if text && not unmodified then Err (WrongOperator item.at) else Ok (key_as item operand)) ≡ Err fault → Wrong item fault
+          → (if text && not unmodified then Err (WrongOperator item.at Modified) else Ok (key_as item operand)) ≡ Err fault → Wrong item fault
       of operand f true false g h k =
-          let same : WrongOperator item.at ≡ fault = cc in
+          let same : WrongOperator item.at Modified ≡ fault = cc in
           inr (operand, f, g, λ none. (let equal : bytes_eq (item_suffix item.bytes) [] ≡ true = (bytes_eq-Decides (item_suffix item.bytes) []).1 none in let other = h in cc), sym same)
       of operand f true true g h k = absurd (never_ok (key_as item operand) fault k)
       of operand f false unmodified g h k = absurd (never_ok (key_as item operand) fault k)
@@ -170,11 +171,11 @@ module _ (definition : Definition) where
           not_from_false (bytes_eq (item_suffix item.bytes) []) (false_from_ne_true (bytes_eq (item_suffix item.bytes) []) (λ equal. other (sym parts.1 ∙ (bytes_eq-Decides (item_suffix item.bytes) []).0 equal)))
 
       by : ((operand_named definition.fields is.name ≡ None) × (fault ≡ NoSuchField item.at))
-          ⊎ ((operand : Operand) × (operand_named definition.fields is.name ≡ Some operand) × (is_text operand ≡ true) × (is.suffix ≢ []) × (fault ≡ WrongOperator item.at)) → key_in definition.fields item ≡ Err fault
+          ⊎ ((operand : Operand) × (operand_named definition.fields is.name ≡ Some operand) × (is_text operand ≡ true) × (is.suffix ≢ []) × (fault ≡ WrongOperator item.at Modified)) → key_in definition.fields item ≡ Err fault
       by (inl none) = ap (λ (name : List ℕ). key_meant item (operand_named definition.fields name)) parts.0 ∙ ap (key_meant item) none.0 ∙ ap (λ (f : TriggerFault). Err f) (sym none.1)
       by (inr text) =
           ap (λ (name : List ℕ). key_meant item (operand_named definition.fields name)) parts.0 ∙ ap (key_meant item) text.1
-          ∙ ap (λ (b : Bool). if b then Err (WrongOperator item.at) else Ok (key_as item text.0)) (and_from (is_text text.0) (not (bytes_eq (item_suffix item.bytes) [])) text.2 (some text.3))
+          ∙ ap (λ (b : Bool). if b then Err (WrongOperator item.at Modified) else Ok (key_as item text.0)) (and_from (is_text text.0) (not (bytes_eq (item_suffix item.bytes) [])) text.2 (some text.3))
           ∙ ap (λ (f : TriggerFault). Err f) (sym text.4)
 
   -- ---- values
@@ -182,8 +183,8 @@ module _ (definition : Definition) where
   pub value_refused : (at : ℕ) (name : List ℕ) (fault : TriggerFault) → value_meant at (operand_named definition.fields name) ≡ Err fault → CannotBeValue definition name at fault
   value_refused at name fault e = by (operand_named definition.fields name) refl e
     where
-      text_or_number : (named : Operand) → operand_named definition.fields name ≡ Some named → (b : Bool) → is_text named ≡ b → (if b then Err (WrongOperator at) else Ok named) ≡ Err fault → CannotBeValue definition name at fault
-      text_or_number named f true g h = let same : WrongOperator at ≡ fault = cc in inr (named, f, g, sym same)
+      text_or_number : (named : Operand) → operand_named definition.fields name ≡ Some named → (b : Bool) → is_text named ≡ b → (if b then Err (WrongOperator at Summed) else Ok named) ≡ Err fault → CannotBeValue definition name at fault
+      text_or_number named f true g h = let same : WrongOperator at Summed ≡ fault = cc in inr (named, f, g, sym same)
       text_or_number named f false g h = absurd (cc)
 
       by : (found : Option Operand) → operand_named definition.fields name ≡ found → value_meant at found ≡ Err fault → CannotBeValue definition name at fault

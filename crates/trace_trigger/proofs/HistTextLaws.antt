@@ -4,7 +4,7 @@ use Rattle.trace_format.specs.Definitions.{Definition}
 use Rattle.trace_trigger.specs.declared.fault.TriggerFault.{TriggerFault}
 use Rattle.trace_trigger.specs.HistParts.{attributes_of}
 use Rattle.trace_trigger.specs.HistLists.{Lists, lists_of}
-use Rattle.trace_trigger.specs.HistOffsets.{wrong_offsets}
+use Rattle.trace_trigger.specs.private.MistakeOffsets.{wrong_offsets}
 use Rattle.trace_trigger.specs.TriggerAnswers.{◌>>=◌}
 use Rattle.trace_trigger.specs.HistMeanings.{few}
 use Rattle.trace_trigger.specs.HistSpecs.{SpecSeen}

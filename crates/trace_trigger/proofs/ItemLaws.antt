@@ -8,7 +8,8 @@ use Rattle.trace_lex.specs.Names.{is_name}
 use Rattle.trace_trigger.specs.declared.spec.SortKey.{SortKey}
 use Rattle.trace_trigger.specs.declared.piece.ListItem.{ListItem}
 use Rattle.trace_trigger.specs.HistLists.{Lists, names_of, is_listed, is_named, is_hitcount, item_name, item_suffix, is_direction, sort_key_of, is_sortable}
-use Rattle.trace_trigger.specs.HistOffsets.{wrong_after, is_wrong_value, is_wrong_sort}
+use Rattle.trace_trigger.specs.HistOffsets.{is_wrong_value, is_wrong_sort}
+use Rattle.trace_trigger.specs.private.MistakeOffsets.{wrong_after}
 use Rattle.trace_trigger.specs.HistGrammar.{IsSortItem}
 use Rattle.trace_trigger.proofs.WordLemmas.{sort_read, sort_written, sort_key_is}
 use Rattle.trace_trigger.proofs.WrongLemmas.{Apart, pairs_from, from_pairs, each_weaker, apart_weaker, each_map, each_unmap, apart_map, apart_unmap, NoneWrong, none_from, from_none, none_weaker, none_each, each_none, none_or, likes, Unlike, unlike_each_other, none_alike}

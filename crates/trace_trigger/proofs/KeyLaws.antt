@@ -10,7 +10,8 @@ use Rattle.trace_format.specs.declared.modifier.Modifier.TheVariants.{Plain}
 use Rattle.trace_trigger.specs.declared.piece.ListItem.{ListItem}
 use Rattle.trace_format.specs.Modifiers.{modifier_of}
 use Rattle.trace_trigger.specs.HistLists.{names_of, item_name, item_suffix, is_named}
-use Rattle.trace_trigger.specs.HistOffsets.{wrong_after, is_wrong_key}
+use Rattle.trace_trigger.specs.HistOffsets.{is_wrong_key}
+use Rattle.trace_trigger.specs.private.MistakeOffsets.{wrong_after}
 use Rattle.trace_trigger.specs.HistGrammar.{HasName, IsKeyItem, IsKey, AreNamedApart}
 use Rattle.trace_trigger.proofs.ModifierLaws.{suffix_read, read_suffix}
 use Rattle.trace_trigger.proofs.NameLaws.{item_split, item_is, name_is, has_name}

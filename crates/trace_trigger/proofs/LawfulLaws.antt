@@ -13,7 +13,8 @@ use Rattle.trace_trigger.specs.declared.attribute.Topic.TheVariants as topic
 use Rattle.trace_trigger.specs.declared.attribute.Attribute.{Attribute}
 use Rattle.trace_trigger.specs.declared.piece.ListItem.{ListItem}
 use Rattle.trace_trigger.specs.HistLists.{is_same_topic, first_about, items_of, items_in, lists_of, names_of, is_listed, is_named, is_hitcount, sort_key_of, is_sortable}
-use Rattle.trace_trigger.specs.HistOffsets.{wrong_after, is_unknown, is_repeated, is_bad_size, is_wrong_attribute, attribute_offsets, is_bad_name, name_offsets, is_wrong_key, is_wrong_value, key_offsets, value_offsets, is_wrong_sort, sort_offsets, keyless_offsets}
+use Rattle.trace_trigger.specs.HistOffsets.{is_unknown, is_repeated, is_bad_size, is_wrong_attribute, is_bad_name, is_wrong_key, is_wrong_value, is_wrong_sort}
+use Rattle.trace_trigger.specs.private.MistakeOffsets.{wrong_after, attribute_offsets, name_offsets, key_offsets, value_offsets, sort_offsets, keyless_offsets}
 use Rattle.trace_trigger.specs.HistGrammar.{Setting, Keys, Values, Sort, Size, Name, Asks, subject_of, HasName, IsListed, AreLawful, IsSet}
 use Rattle.trace_trigger.proofs.WrongLemmas.{Apart, pairs_from, each_weaker, NoneWrong, none_from, none_each, none_left, none_right, Unlike, unlike_each_other}
 use Rattle.trace_trigger.proofs.ItemLaws.{names_right, sorts_right, sort_keys_are}

@@ -4,6 +4,7 @@ pub mod Cuts
 pub mod WordLaws
 pub mod TailLaws
 pub mod TextLaws
+pub mod TextCauses
 pub mod AttributeLaws
 pub mod CauseLaws
 pub mod CutLemmas
@@ -46,5 +47,7 @@ pub mod WordLemmas
 pub mod WrongLaws
 pub mod WrongLemmas
 pub mod WrongNames
-pub mod WrongOffsets
+pub mod Mistakes
+pub mod MistakeLaws
+pub mod MistakeCauses
 pub mod SameLaws

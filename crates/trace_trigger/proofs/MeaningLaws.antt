@@ -7,6 +7,7 @@ use Rattle.trace_format.specs.Definitions.{Definition}
 use Rattle.trace_format.specs.declared.operand.Operand.{Operand}
 use Rattle.trace_format.specs.Operands.{operand_named, is_text}
 use Rattle.trace_trigger.specs.declared.fault.TriggerFault.{TriggerFault}
+use Rattle.trace_trigger.specs.declared.fault.OperatorCause.TheVariants.{Modified, Summed}
 use Rattle.trace_trigger.specs.declared.fault.TriggerFault.TheVariants.{WrongOperator}
 use Rattle.trace_format.specs.declared.sort_rule.SortSource.{SortSource}
 use Rattle.trace_format.specs.declared.key.Key.{Key}
@@ -49,12 +50,12 @@ value_found : (at : ℕ) (found : Option Operand) (operand : Operand) → value_
 value_found at None operand e = absurd (cc)
 value_found at (Some found) operand e = by (is_text found) refl e
   where
-    by : (b : Bool) → is_text found ≡ b → (if b then Err (WrongOperator at) else Ok found) ≡ Ok operand → (Some found ≡ Some operand) × (is_text operand ≡ false)
+    by : (b : Bool) → is_text found ≡ b → (if b then Err (WrongOperator at Summed) else Ok found) ≡ Ok operand → (Some found ≡ Some operand) × (is_text operand ≡ false)
     by true f g = absurd (cc)
     by false f g = let same : found ≡ operand = cc in (ap Some same, subst (λ (o : Operand). is_text o ≡ false) same f)
 
 abbrev pub as_number : ℕ → Operand → Bool → Result Operand TriggerFault
-as_number at operand b = if b then Err (WrongOperator at) else Ok operand
+as_number at operand b = if b then Err (WrongOperator at Summed) else Ok operand
 
 module _ (definition : Definition) where
   -- a key of which this is known is a number, or a key without a modifier
@@ -64,9 +65,9 @@ module _ (definition : Definition) where
   meant : (item : ListItem) (operand : Operand) → IsTaken item operand → key_meant item (Some operand) ≡ Ok (key_as item operand)
   meant item operand (inl e) =
       let equal : bytes_eq (item_suffix item.bytes) [] ≡ true = (bytes_eq-Decides (item_suffix item.bytes) []).1 e in
-      ap (λ (b : Bool). if b then Err (WrongOperator item.at) else Ok (key_as item operand)) (and_right (is_text operand) (not (bytes_eq (item_suffix item.bytes) [])) (ap not equal))
+      ap (λ (b : Bool). if b then Err (WrongOperator item.at Modified) else Ok (key_as item operand)) (and_right (is_text operand) (not (bytes_eq (item_suffix item.bytes) [])) (ap not equal))
   meant item operand (inr e) =
-      ap (λ (b : Bool). if b then Err (WrongOperator item.at) else Ok (key_as item operand)) (and_left (is_text operand) (not (bytes_eq (item_suffix item.bytes) [])) e)
+      ap (λ (b : Bool). if b then Err (WrongOperator item.at Modified) else Ok (key_as item operand)) (and_left (is_text operand) (not (bytes_eq (item_suffix item.bytes) [])) e)
 
   -- what a key is read as
   pub key_found : (item : ListItem) (found : Option Operand) (key : Key) → key_meant item found ≡ Ok key → (operand : Operand) × (found ≡ Some operand) × IsTaken item operand × (key_as item operand ≡ key)
@@ -74,7 +75,7 @@ module _ (definition : Definition) where
   key_found item (Some operand) key e = by (is_text operand) (bytes_eq (item_suffix item.bytes) []) refl refl e
     where
       by : (text unmodified : Bool) → is_text operand ≡ text → bytes_eq (item_suffix item.bytes) [] ≡ unmodified
-          → (if text && not unmodified then Err (WrongOperator item.at) else Ok (key_as item operand)) ≡ Ok key → (o : Operand) × (Some operand ≡ Some o) × IsTaken item o × (key_as item o ≡ key)
+          → (if text && not unmodified then Err (WrongOperator item.at Modified) else Ok (key_as item operand)) ≡ Ok key → (o : Operand) × (Some operand ≡ Some o) × IsTaken item o × (key_as item o ≡ key)
       by false unmodified f g h = (operand, refl, inr f, ok_same (key_as item operand) key h)
       by true true f g h = (operand, refl, inl ((bytes_eq-Decides (item_suffix item.bytes) []).0 g), ok_same (key_as item operand) key h)
       by true false f g h = absurd (cc)

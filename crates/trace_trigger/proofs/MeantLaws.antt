@@ -4,7 +4,7 @@ use Rattle.trace_format.specs.Definitions.{Definition}
 use Rattle.trace_format.specs.declared.operand.Operand.{Operand}
 use Rattle.trace_filter.specs.Filters.{Parsed}
 use Rattle.trace_trigger.specs.declared.fault.TriggerFault.{TriggerFault}
-use Rattle.trace_trigger.specs.declared.fault.TriggerFault.TheVariants.{BadText, TooMany, FilterSyntax, NoSuchField, WrongOperator, HistSyntax, BadSize, Memory}
+use Rattle.trace_trigger.specs.declared.fault.TriggerFault.TheVariants.{BadText, FilterTooLong, FilterTooDeep, TooManyKeys, TooManyValues, TooManySortKeys, FilterSyntax, NoSuchField, WrongOperator, HistSyntax, BadSize, Memory}
 use Rattle.trace_format.specs.declared.key.Key.{Key}
 use Rattle.trace_format.specs.declared.sort_rule.SortRule.{SortRule}
 use Rattle.trace_trigger.specs.declared.spec.SortKey.{SortKey}
@@ -23,12 +23,16 @@ meant_by keys sources size only_if =
     keys >>= λ keys. sources >>= λ sources. size >>= λ size. only_if >>= λ only_if. Ok (record { keys = keys; value_sources = sources; size = size; filter = only_if })
 
 pub told_as : {A B : Type 0} (fault : TriggerFault) (answer : Result A TriggerFault) (next : A → Result B TriggerFault) → IsTold fault answer → IsTold fault (answer >>= next)
-told_as BadText answer next e = ap (λ a. a >>= next) e
-told_as TooMany answer next e = ap (λ a. a >>= next) e
-told_as (FilterSyntax at) answer next e = ap (λ a. a >>= next) e
+told_as (BadText cause) answer next e = ap (λ a. a >>= next) e
+told_as FilterTooLong answer next e = ap (λ a. a >>= next) e
+told_as FilterTooDeep answer next e = ap (λ a. a >>= next) e
+told_as TooManyKeys answer next e = ap (λ a. a >>= next) e
+told_as TooManyValues answer next e = ap (λ a. a >>= next) e
+told_as TooManySortKeys answer next e = ap (λ a. a >>= next) e
+told_as (FilterSyntax at cause) answer next e = ap (λ a. a >>= next) e
 told_as (NoSuchField at) answer next e = ap (λ a. a >>= next) e
-told_as (WrongOperator at) answer next e = ap (λ a. a >>= next) e
-told_as (HistSyntax at) answer next e = ap (λ a. a >>= next) e
+told_as (WrongOperator at cause) answer next e = ap (λ a. a >>= next) e
+told_as (HistSyntax at cause) answer next e = ap (λ a. a >>= next) e
 told_as BadSize answer next e = ap (λ a. a >>= next) e
 told_as Memory answer next e = tt
 

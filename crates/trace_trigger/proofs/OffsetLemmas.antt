@@ -3,7 +3,7 @@ use Rattle.std.proofs.Common.{◌≡◌, ◌⊎◌, inl, inr, refl, ℕ, ◌+◌
 use Rattle.std.proofs.lemmas.Bool.{cases_lt}
 use Rattle.std.proofs.lemmas.List.{append_assoc, length-append}
 use Rattle.trace_trigger.specs.declared.piece.ListItem.{ListItem}
-use Rattle.trace_trigger.specs.HistOffsets.{wrong_after, earlier, least}
+use Rattle.trace_trigger.specs.private.MistakeOffsets.{wrong_after, earlier, least}
 use Rattle.trace_trigger.specs.HistFaultOffsets.{IsAt}
 use Rattle.trace_trigger.proofs.CutLemmas.{located}
 use Rattle.trace_trigger.proofs.ListLaws.{Member}
@@ -16,11 +16,11 @@ pub size_first : (byte : ℕ) (part : List ℕ) (parts : List (List ℕ)) → si
 size_first byte part parts =
     omega (arith, length-append (part ++ byte ∷ []) (flat_map (λ (other : List ℕ). other ++ byte ∷ []) parts), length-append part (byte ∷ []))
 
-size_last : (byte : ℕ) (parts : List (List ℕ)) (part : List ℕ) → size byte (parts ++ part ∷ []) ≡ size byte parts + 1 + length part
+pub size_last : (byte : ℕ) (parts : List (List ℕ)) (part : List ℕ) → size byte (parts ++ part ∷ []) ≡ size byte parts + 1 + length part
 size_last byte [] part = omega (arith, size_first byte part [])
 size_last byte (first ∷ parts) part = omega (arith, size_first byte first (parts ++ part ∷ []), size_last byte parts part, size_first byte first parts)
 
-located-push : (byte start : ℕ) (before : List (List ℕ)) (part : List ℕ) → located start (before ++ part ∷ []) ≡ located start before ++ record { at = start + size byte before; bytes = part } ∷ []
+pub located-push : (byte start : ℕ) (before : List (List ℕ)) (part : List ℕ) → located start (before ++ part ∷ []) ≡ located start before ++ record { at = start + size byte before; bytes = part } ∷ []
 located-push byte start [] part = let here : start ≡ start + size byte [] = omega arith in ap (λ n. record { at = n; bytes = part } ∷ []) here
 located-push byte start (first ∷ before) part =
     let there : start + 1 + length first + size byte before ≡ start + size byte (first ∷ before) = omega (arith, size_first byte first before) in

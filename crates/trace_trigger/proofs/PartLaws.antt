@@ -19,7 +19,7 @@ use Rattle.trace_trigger.specs.HistAttributes.{attribute_of, attributes_at}
 use Rattle.trace_trigger.specs.HistPieces.{pieces_of}
 use Rattle.trace_trigger.specs.HistLists.{names_of}
 use Rattle.trace_trigger.specs.HistParts.{start_of, body_of, word_len, attributes_of, end_of, tail_of, is_condition, condition_of, offset_in}
-use Rattle.trace_trigger.specs.HistOffsets.{tail_offsets}
+use Rattle.trace_trigger.specs.private.MistakeOffsets.{tail_offsets}
 use Rattle.trace_trigger.specs.HistTexts.{IsHistText}
 use Rattle.trace_trigger.specs.HistGrammar.{IsCut, Setting, Keys, Values, Sort, Size, Name, Asks, Subject, OfKeys, OfValues, OfSort, OfSize, OfName, OfAction, IsHead, HasValue, IsWordFor, IsDirected, IsKey, IsSortItem, WritesKeys, WritesValues, Writes}
 use Rattle.trace_trigger.proofs.CutLemmas.{located, cut_pieces}

@@ -5,6 +5,7 @@ use Rattle.trace_lex.specs.Blanks.{is_blank}
 use Rattle.trace_format.specs.Definitions.{Definition}
 use Rattle.trace_trigger.specs.declared.fault.TriggerFault.{TriggerFault}
 use Rattle.trace_trigger.specs.declared.fault.TriggerFault.TheVariants.{BadText}
+use Rattle.trace_trigger.specs.declared.fault.TextCause.{TextCause}
 use Rattle.trace_trigger.specs.declared.trigger.TriggerText.{TriggerText}
 use Rattle.trace_trigger.specs.declared.trigger.TriggerText.TheVariants.{Nothing, Hist, RemoveHist}
 use Rattle.trace_trigger.specs.TriggerAnswers.{◌>>=◌, IsTold}
@@ -62,9 +63,9 @@ module _ (definition : Definition) (text : List ℕ) where
     pub hist_told : (fault : TriggerFault) → IsTold fault (spec_of definition text) → IsTold fault (said_of definition text)
     hist_told fault told = subst (IsTold fault) (sym said) (told_as fault (spec_of definition text) (λ spec. Ok (made spec)) told)
 
-    pub hist_never_bad : spec_of definition text ≢ Err BadText → said_of definition text ≢ Err BadText
-    hist_never_bad known = λ bad. by (spec_of definition text) known (sym said ∙ bad)
+    pub hist_never_bad : (cause : TextCause) → spec_of definition text ≢ Err (BadText cause) → said_of definition text ≢ Err (BadText cause)
+    hist_never_bad cause known = λ bad. by (spec_of definition text) known (sym said ∙ bad)
       where
-        by : (answer : Result SpecSeen TriggerFault) → answer ≢ Err BadText → hist_said made answer ≡ Err BadText → ⊥
+        by : (answer : Result SpecSeen TriggerFault) → answer ≢ Err (BadText cause) → hist_said made answer ≡ Err (BadText cause) → ⊥
         by (Ok spec) never e = cc
-        by (Err fault) never e = never (let same : fault ≡ BadText = cc in ap (λ (f : TriggerFault). Err f) same)
+        by (Err fault) never e = never (let same : fault ≡ BadText cause = cc in ap (λ (f : TriggerFault). Err f) same)

@@ -11,7 +11,7 @@ use Rattle.trace_trigger.specs.declared.attribute.Attribute.{Attribute}
 use Rattle.trace_trigger.specs.declared.piece.ListItem.{ListItem}
 use Rattle.trace_trigger.specs.HistSizes.{rounded_size}
 use Rattle.trace_trigger.specs.HistLists.{is_same_topic, first_about, items_of, items_in, value_of, asked_for, action_in, Lists, lists_of, names_of, is_listed, sort_key_of, sort_keys}
-use Rattle.trace_trigger.specs.HistOffsets.{keyless_offsets}
+use Rattle.trace_trigger.specs.private.MistakeOffsets.{keyless_offsets}
 use Rattle.trace_trigger.specs.HistMeanings.{size_of, told_size}
 use Rattle.trace_trigger.specs.HistGrammar.{Setting, Keys, Values, Sort, Size, Name, Asks, IsSet, IsNamed}
 use Rattle.trace_trigger.proofs.CutLemmas.{found_is_cut}

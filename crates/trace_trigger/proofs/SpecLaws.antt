@@ -1,5 +1,5 @@
 -- A text says of a trigger what the grammar says that it does.
-use Rattle.std.proofs.Common.{◌≡◌, refl, ℕ, Bool, true, false, if◌then◌else◌, List, [], ◌∷◌, ◌++◌, map, Option, Some, None, Result, Ok, Err, ap, sym, ◌∙◌, subst, min}
+use Rattle.std.proofs.Common.{◌≡◌, refl, ℕ, Bool, true, false, if◌then◌else◌, List, [], ◌∷◌, ◌++◌, map, Option, Some, None, Result, Ok, Err, ap, sym, ◌∙◌, subst}
 use Rattle.std.specs.List.{AllZip, AllPass}
 use Rattle.trace_format.specs.Definitions.{Definition}
 use Rattle.trace_format.specs.declared.operand.Operand.{Operand}
@@ -7,16 +7,17 @@ use Rattle.trace_filter.specs.Filters.{Parsed}
 use Rattle.trace_lex.proofs.Lists.{BeginsNot}
 use Rattle.trace_trigger.specs.Frames.{is_unblank, after_blanks, filter_of}
 use Rattle.trace_trigger.specs.declared.fault.TriggerFault.{TriggerFault}
-use Rattle.trace_trigger.specs.declared.fault.TriggerFault.TheVariants.{HistSyntax, TooMany}
 use Rattle.trace_format.specs.declared.key.Key.{Key}
 use Rattle.trace_trigger.specs.declared.attribute.Attribute.{Attribute}
 use Rattle.trace_trigger.specs.HistAttributes.{attributes_at}
 use Rattle.trace_trigger.specs.HistPieces.{pieces_of}
 use Rattle.trace_trigger.specs.HistParts.{attributes_of, end_of, tail_of, condition_of}
 use Rattle.trace_trigger.specs.HistLists.{Lists, lists_of, names_of, summed_items, sort_keys}
-use Rattle.trace_trigger.specs.HistOffsets.{attribute_offsets, name_offsets, key_offsets, value_offsets, sort_offsets, list_offsets, keyless_offsets, tail_offsets, wrong_offsets, earlier, least}
+use Rattle.trace_trigger.specs.declared.offset.Mistake.{Mistake}
+use Rattle.trace_trigger.specs.HistOffsets.{mistakes, leftmost}
+use Rattle.trace_trigger.specs.private.MistakeOffsets.{attribute_offsets, name_offsets, key_offsets, value_offsets, sort_offsets, list_offsets, keyless_offsets, tail_offsets, wrong_offsets, earlier, least}
 use Rattle.trace_trigger.specs.TriggerAnswers.{◌>>=◌}
-use Rattle.trace_trigger.specs.HistMeanings.{is_too_many, few, each, key_in, value_source, size_of, sort_rule}
+use Rattle.trace_trigger.specs.HistMeanings.{is_too_many, excess, few, each, key_in, value_source, size_of, sort_rule}
 use Rattle.trace_trigger.specs.HistSpecs.{SpecSeen, key_names}
 use Rattle.trace_trigger.specs.HistTexts.{unless_wrong, read_of, spec_from}
 use Rattle.trace_trigger.specs.HistGrammar.{Setting, AreLawful, IsWritten}
@@ -25,6 +26,7 @@ use Rattle.trace_trigger.proofs.AttributeLaws.{IsRead}
 use Rattle.trace_trigger.proofs.RightLaws.{AreAllRight, all_right}
 use Rattle.trace_trigger.proofs.LawfulLaws.{setting_of, all_read, settings_lawful}
 use Rattle.trace_trigger.proofs.PartLaws.{text_of, start_for, attributes_are, tail_is, HasParts, tail_stops, tail_found, tail_written, written_passes, attributes_read, attributes_written}
+use Rattle.trace_trigger.proofs.MistakeLaws.{none_leftmost, none_least}
 use Rattle.trace_trigger.proofs.MeaningLaws.{bound}
 
 -- ---- what is found in a text that is written so
@@ -124,23 +126,23 @@ right_written text parts none = subst IsSomehowWritten (sym parts.cut) (whole (r
 
 pub read_right : (text : List ℕ) → wrong_offsets text ≡ [] → read_of text ≡ Ok (lists_of (attributes_of text))
 unfolding read_of
-read_right text none = ap (λ (offsets : List ℕ). unless_wrong (least offsets) (lists_of (attributes_of text))) none
+read_right text none = ap (λ (found : Option Mistake). unless_wrong found (lists_of (attributes_of text))) (none_leftmost text (ap least none))
 
--- the first offset that is found is one
-some_least : (offset : ℕ) (rest : Option ℕ) → (at : ℕ) × (earlier (Some offset) rest ≡ Some at)
-some_least offset None = (offset, refl)
-some_least offset (Some other) = (min offset other, refl)
+no_least : (offsets : List ℕ) → least offsets ≡ None → offsets ≡ []
+no_least [] e = refl
+no_least (offset ∷ offsets) e = by (least offsets) e
+  where
+    by : (rest : Option ℕ) → earlier (Some offset) rest ≡ None → offset ∷ offsets ≡ []
+    by None f = absurd (cc)
+    by (Some other) f = absurd (cc)
 
 pub read_wrong : (text : List ℕ) (lists : Lists) → read_of text ≡ Ok lists → wrong_offsets text ≡ []
 unfolding read_of
-read_wrong text lists e = by (wrong_offsets text) refl e
+read_wrong text lists e = by (leftmost (mistakes text)) refl e
   where
-    by : (offsets : List ℕ) → wrong_offsets text ≡ offsets → unless_wrong (least offsets) (lists_of (attributes_of text)) ≡ Ok lists → wrong_offsets text ≡ []
-    by [] f g = f
-    by (offset ∷ offsets) f g =
-        let at = some_least offset (least offsets) in
-        let bad : unless_wrong (least (offset ∷ offsets)) (lists_of (attributes_of text)) ≡ Err (HistSyntax at.0) = ap (λ (o : Option ℕ). unless_wrong o (lists_of (attributes_of text))) at.1 in
-        absurd (cc)
+    by : (found : Option Mistake) → leftmost (mistakes text) ≡ found → unless_wrong found (lists_of (attributes_of text)) ≡ Ok lists → wrong_offsets text ≡ []
+    by None f g = no_least (wrong_offsets text) (none_least text f)
+    by (Some mistake) f g = absurd (cc)
 
 -- ---- what a text says, step by step
 
@@ -173,7 +175,7 @@ module _ (definition : Definition) (text : List ℕ) (lists : Lists) where
   few_lists : (spec : SpecSeen) → (few lists >>= λ ls. spec_from definition text ls) ≡ Ok spec → (is_too_many lists ≡ false) × (spec_from definition text lists ≡ Ok spec)
   few_lists spec e = by (is_too_many lists) refl e
     where
-      by : (b : Bool) → is_too_many lists ≡ b → ((if b then Err TooMany else Ok lists) >>= λ ls. spec_from definition text ls) ≡ Ok spec → (is_too_many lists ≡ false) × (spec_from definition text lists ≡ Ok spec)
+      by : (b : Bool) → is_too_many lists ≡ b → ((if b then Err (excess lists) else Ok lists) >>= λ ls. spec_from definition text ls) ≡ Ok spec → (is_too_many lists ≡ false) × (spec_from definition text lists ≡ Ok spec)
       by true f g = absurd (cc)
       by false f g = (f, g)
 
@@ -205,7 +207,7 @@ module _ (definition : Definition) (text : List ℕ) (lists : Lists) where
   pub saying : (spec : SpecSeen) → IsSaid definition text lists spec → (few lists >>= λ ls. spec_from definition text ls) ≡ Ok spec
   unfolding spec_from
   saying spec is =
-      ap (λ (b : Bool). (if b then Err TooMany else Ok lists) >>= λ ls. spec_from definition text ls) is.few
+      ap (λ (b : Bool). (if b then Err (excess lists) else Ok lists) >>= λ ls. spec_from definition text ls) is.few
       ∙ ap (λ (r : Result (List Key) TriggerFault). r >>= λ keys. each (value_source definition.fields) (summed_items lists.values) >>= λ values. size_of lists.size >>= λ size.
       filter_of definition text (condition_of (tail_of text)) >>= λ only_if. Ok (spec_of_lists keys values size only_if)) is.keys
       ∙ ap (λ (r : Result (List Operand) TriggerFault). r >>= λ values. size_of lists.size >>= λ size.

@@ -135,7 +135,7 @@ about_both OfSize s t e f = (λ i. is_same_topic (is_size s e i) (is_size t f i)
 about_both OfName s t e f = (λ i. is_same_topic (is_naming s e i) (is_naming t f i))
 about_both OfAction s t e f = (λ i. is_same_topic ((is_asked s e).1 i) ((is_asked t f).1 i))
 
-unknown_other : (subject : Subject) (t : Topic) → is_unknown t ≡ true → is_same_topic (topic_for subject) t ≡ false
+pub unknown_other : (subject : Subject) (t : Topic) → is_unknown t ≡ true → is_same_topic (topic_for subject) t ≡ false
 unknown_other OfKeys topic.Unknown e = refl
 unknown_other OfKeys topic.Keys e = absurd (cc)
 unknown_other OfKeys topic.Values e = absurd (cc)

@@ -10,7 +10,9 @@ use Rattle.trace_lex.specs.Blanks.{is_blank, AreBlanks, BeginsUnblank}
 use Rattle.trace_lex.proofs.Lists.{BeginsNot, run_ends}
 use Rattle.trace_trigger.specs.declared.fault.TriggerFault.{TriggerFault}
 use Rattle.trace_trigger.specs.declared.fault.TriggerFault.TheVariants.{BadText}
-use Rattle.trace_trigger.specs.TriggerTexts.{after, condition_after, condition_of}
+use Rattle.trace_trigger.specs.declared.fault.TextCause.TheVariants.{Condition}
+use Rattle.trace_trigger.specs.TriggerAnswers.{IsBadText}
+use Rattle.trace_trigger.specs.TriggerTexts.{after, condition_cause, condition_after, condition_of}
 use Rattle.trace_trigger.specs.Frames.{is_unblank, after_blanks, IsConditional, IsTail}
 use Rattle.trace_trigger.proofs.Cuts.{after_append, after_is, run_dropped, run_passes, run_stops}
 
@@ -58,7 +60,7 @@ module _ (tail : List ℕ) (begins : BeginsNot is_unblank tail) where
   conditional condition text more cut is = by (nat_lt 0 (prefix_len is_blank text)) refl (nat_lt 0 (length (after_blanks text))) refl is
     where
       by : (b : Bool) → nat_lt 0 (prefix_len is_blank text) ≡ b → (c : Bool) → nat_lt 0 (length (after_blanks text)) ≡ c
-          → (if b && c then Ok (Some (after_blanks text)) else Err BadText) ≡ Ok condition → IsTail tail condition
+          → (if b && c then Ok (Some (after_blanks text)) else Err (BadText (condition_cause (after_blanks text)))) ≡ Ok condition → IsTail tail condition
       by false e c f h = absurd (cc)
       by true e false f h = absurd (cc)
       by true e true f h =
@@ -115,22 +117,22 @@ condition_is tail (Some filter) is =
     ap (λ b. if b then Ok None else condition_after (after (codes "if") (after_blanks tail))) not_blank
     ∙ ap (λ (bs : List ℕ). condition_after (after (codes "if") bs)) found
     ∙ ap condition_after (after_append (codes "if") rest)
-    ∙ (λ i. if blanks i && some i then Ok (Some (after_blanks rest)) else Err BadText)
+    ∙ (λ i. if blanks i && some i then Ok (Some (after_blanks rest)) else Err (BadText (condition_cause (after_blanks rest))))
     ∙ ap (λ (bs : List ℕ). Ok (Some bs)) left
 
--- it is refused for one fault only
-bad_after : (rest : Option (List ℕ)) (fault : TriggerFault) → condition_after rest ≡ Err fault → fault ≡ BadText
-bad_after None fault is = cc
+-- it is refused as no trigger's only
+bad_after : (rest : Option (List ℕ)) (fault : TriggerFault) → condition_after rest ≡ Err fault → IsBadText fault
+bad_after None fault is = let same : fault ≡ BadText Condition = cc in (Condition, same)
 bad_after (Some text) fault is = by (nat_lt 0 (prefix_len is_blank text) && nat_lt 0 (length (after_blanks text))) is
   where
-    by : (b : Bool) → (if b then Ok (Some (after_blanks text)) else Err BadText) ≡ Err fault → fault ≡ BadText
+    by : (b : Bool) → (if b then Ok (Some (after_blanks text)) else Err (BadText (condition_cause (after_blanks text)))) ≡ Err fault → IsBadText fault
     by true h = absurd (cc)
-    by false h = cc
+    by false h = let same : fault ≡ BadText (condition_cause (after_blanks text)) = cc in (condition_cause (after_blanks text), same)
 
-pub bad_tail : (tail : List ℕ) (fault : TriggerFault) → condition_of tail ≡ Err fault → fault ≡ BadText
+pub bad_tail : (tail : List ℕ) (fault : TriggerFault) → condition_of tail ≡ Err fault → IsBadText fault
 unfolding condition_of
 bad_tail tail fault is = by (list_all is_blank tail) is
   where
-    by : (b : Bool) → (if b then Ok None else condition_after (after (codes "if") (after_blanks tail))) ≡ Err fault → fault ≡ BadText
+    by : (b : Bool) → (if b then Ok None else condition_after (after (codes "if") (after_blanks tail))) ≡ Err fault → IsBadText fault
     by true h = absurd (cc)
     by false h = bad_after (after (codes "if") (after_blanks tail)) fault h

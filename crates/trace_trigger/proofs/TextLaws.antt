@@ -13,6 +13,7 @@ use Rattle.trace_trigger.specs.HistSpecs.{SpecSeen}
 use Rattle.trace_trigger.specs.HistTexts.{IsHistText, spec_of}
 use Rattle.trace_trigger.specs.declared.fault.TriggerFault.{TriggerFault}
 use Rattle.trace_trigger.specs.declared.fault.TriggerFault.TheVariants.{BadText}
+use Rattle.trace_trigger.specs.declared.fault.TextCause.{TextCause}
 use Rattle.trace_trigger.specs.declared.trigger.SnapshotTrigger.{SnapshotTrigger}
 use Rattle.trace_trigger.specs.declared.trigger.TriggerText.{TriggerText}
 use Rattle.trace_trigger.specs.declared.trigger.TriggerText.TheVariants.{Nothing, AttachSnapshot, RemoveSnapshot, Hist, RemoveHist}
@@ -29,8 +30,8 @@ use Rattle.trace_trigger.proofs.BodyLaws.{IsBody, body_counts, body_conditions, 
 -- ---- the filter
 
 module _ (definition : Definition) (text : List ℕ) where
-  filter_not_bad : (condition : Option (List ℕ)) → filter_of definition text condition ≡ Err BadText → ⊥
-  filter_not_bad condition e = let P : Result (Option Parsed) TriggerFault → Type 0 = λ answer. IsAnyLater answer in subst P e (filter_later definition text condition)
+  pub filter_not_bad : (condition : Option (List ℕ)) (cause : TextCause) → filter_of definition text condition ≡ Err (BadText cause) → ⊥
+  filter_not_bad condition cause e = let P : Result (Option Parsed) TriggerFault → Type 0 = λ answer. IsAnyLater answer in subst P e (filter_later definition text condition)
 
   -- ---- what a written text says, once its filter is read
 
@@ -169,21 +170,22 @@ module _ (definition : Definition) (text : List ℕ) where
     condition : Option (List ℕ)
     is : IsBody body count condition
 
-  body_or_bad : (body : List ℕ) → HasBody body ⊎ (snapshot_trigger_of definition text body ≡ Err BadText)
+  body_or_bad : (body : List ℕ) → HasBody body ⊎ ((cause : TextCause) × (snapshot_trigger_of definition text body ≡ Err (BadText cause)))
   unfolding snapshot_trigger_of
   body_or_bad body = by (count_of (word_of body)) (condition_of (after_word body)) refl refl
     where
       by : (counted : Result (Option ℕ) TriggerFault) (conditional : Result (Option (List ℕ)) TriggerFault) → count_of (word_of body) ≡ counted → condition_of (after_word body) ≡ conditional
-          → HasBody body ⊎ ((count_of (word_of body) >>= λ count. condition_of (after_word body) >>= λ condition. filter_of definition text condition >>= λ only_if. Ok (trigger_as count only_if)) ≡ Err BadText)
-      by (Err fault) conditional e f = inr (rw e (ap (λ (b : TriggerFault). Err b) (bad_word (word_of body) fault e)))
-      by (Ok count) (Err fault) e f = inr (rw (e, f) (ap (λ (b : TriggerFault). Err b) (bad_tail (after_word body) fault f)))
+          → HasBody body ⊎ ((cause : TextCause) × ((count_of (word_of body) >>= λ count. condition_of (after_word body) >>= λ condition. filter_of definition text condition >>= λ only_if. Ok (trigger_as count only_if)) ≡ Err (BadText cause)))
+      by (Err fault) conditional e f = let bad = bad_word (word_of body) fault e in inr (bad.0, rw e (ap (λ (b : TriggerFault). Err b) bad.1))
+      by (Ok count) (Err fault) e f = let bad = bad_tail (after_word body) fault f in inr (bad.0, rw (e, f) (ap (λ (b : TriggerFault). Err b) bad.1))
       by (Ok count) (Ok condition) e f = inl (record { count = count; condition = condition; is = body_is body count condition e f })
 
   -- ---- each text is blank, one of a hist trigger, written so, or badly written
 
   record BadlySaid : Type 0 where
     no_hist : IsHistText text → ⊥
-    is : said_of definition text ≡ Err BadText
+    cause : TextCause
+    is : said_of definition text ≡ Err (BadText cause)
 
   data Kind : Type 0 where
     is_blank_text : AreBlanks text → Kind
@@ -209,18 +211,20 @@ module _ (definition : Definition) (text : List ℕ) where
   apart_kind : IsApart → Kind
   apart_kind apart = by (after (codes "!") text) refl
     where
-      marked_by : (body : List ℕ) → after (codes "!") text ≡ Some body → HasBody body ⊎ (snapshot_trigger_of definition text body ≡ Err BadText) → Kind
+      marked_by : (body : List ℕ) → after (codes "!") text ≡ Some body → HasBody body ⊎ ((cause : TextCause) × (snapshot_trigger_of definition text body ≡ Err (BadText cause))) → Kind
       marked_by body e (inl has) = is_written (marked_so body e has)
       marked_by body e (inr wrong) = is_bad (record {
         no_hist = apart_no_hist apart;
-        is = apart_is (Some body) apart e ∙ ap (λ (r : Result SnapshotTrigger TriggerFault). r >>= λ trigger. Ok RemoveSnapshot) wrong;
+        cause = wrong.0;
+        is = apart_is (Some body) apart e ∙ ap (λ (r : Result SnapshotTrigger TriggerFault). r >>= λ trigger. Ok RemoveSnapshot) wrong.1;
       })
 
-      unmarked_by : after (codes "!") text ≡ None → HasBody text ⊎ (snapshot_trigger_of definition text text ≡ Err BadText) → Kind
+      unmarked_by : after (codes "!") text ≡ None → HasBody text ⊎ ((cause : TextCause) × (snapshot_trigger_of definition text text ≡ Err (BadText cause))) → Kind
       unmarked_by e (inl has) = is_written (unmarked_so has)
       unmarked_by e (inr wrong) = is_bad (record {
         no_hist = apart_no_hist apart;
-        is = apart_is None apart e ∙ ap (λ (r : Result SnapshotTrigger TriggerFault). r >>= λ trigger. Ok (AttachSnapshot trigger)) wrong;
+        cause = wrong.0;
+        is = apart_is None apart e ∙ ap (λ (r : Result SnapshotTrigger TriggerFault). r >>= λ trigger. Ok (AttachSnapshot trigger)) wrong.1;
       })
 
       by : (rest : Option (List ℕ)) → after (codes "!") text ≡ rest → Kind
@@ -277,13 +281,14 @@ module _ (definition : Definition) (text : List ℕ) where
   blanks_say : (said : TriggerText) → AreBlanks text → said_of definition text ≡ Ok said → Nothing ≡ said
   blanks_say said blanks is = let nothing = blanks_say_nothing blanks in cc
 
-  written_never_bad : (removes : Bool) (count : Option ℕ) (read : Result (Option Parsed) TriggerFault) → (read ≡ Err BadText → ⊥) → said_as removes count read ≡ Err BadText → ⊥
-  written_never_bad removes count (Err fault) fine is = let same : fault ≡ BadText = cc in fine (ap (λ (f : TriggerFault). Err f) same)
-  written_never_bad removes count (Ok read) fine is = cc
+  written_never_bad : (removes : Bool) (count : Option ℕ) (read : Result (Option Parsed) TriggerFault) (cause : TextCause) → (read ≡ Err (BadText cause) → ⊥)
+      → said_as removes count read ≡ Err (BadText cause) → ⊥
+  written_never_bad removes count (Err fault) cause fine is = let same : fault ≡ BadText cause = cc in fine (ap (λ (f : TriggerFault). Err f) same)
+  written_never_bad removes count (Ok read) cause fine is = cc
 
-  hist_never_bad : (removes : Bool) (read : Result SpecSeen TriggerFault) → (read ≡ Err BadText → ⊥) → hist_as removes read ≡ Err BadText → ⊥
-  hist_never_bad removes (Err fault) fine is = let same : fault ≡ BadText = cc in fine (ap (λ (f : TriggerFault). Err f) same)
-  hist_never_bad removes (Ok spec) fine is = cc
+  hist_never_bad : (removes : Bool) (read : Result SpecSeen TriggerFault) (cause : TextCause) → (read ≡ Err (BadText cause) → ⊥) → hist_as removes read ≡ Err (BadText cause) → ⊥
+  hist_never_bad removes (Err fault) cause fine is = let same : fault ≡ BadText cause = cc in fine (ap (λ (f : TriggerFault). Err f) same)
+  hist_never_bad removes (Ok spec) cause fine is = cc
 
   -- ---- the laws
 
@@ -296,25 +301,25 @@ module _ (definition : Definition) (text : List ℕ) where
       by is (is_written it) = absurd (of_written Nothing it is)
       by is (is_bad it) = absurd (bad_never Nothing it is)
 
-  pub bad_is_unwritten : (said_of definition text ≡ Err BadText) ↔ IsBad text
-  bad_is_unwritten = (
-    λ is. record {
-      unblank = λ blanks. let nothing = blanks_say_nothing blanks in cc;
-      no_hist = λ begins. let it = of_hist_text begins in hist_never_bad it.removes (spec_of definition text) (never_bad definition text) (sym it.is ∙ is);
-      unwritten = λ removes count condition written. written_never_bad removes count (filter_of definition text condition) (filter_not_bad condition) (sym (written_is removes count condition written) ∙ is);
-    },
-    λ un. by un kind,
-  )
+  pub bad_is_unwritten : ((cause : TextCause) × (said_of definition text ≡ Err (BadText cause))) ↔ IsBad text
+  bad_is_unwritten = (λ is. bad is.0 is.1, λ un. by un kind)
     where
+      bad : (cause : TextCause) → said_of definition text ≡ Err (BadText cause) → IsBad text
+      bad cause is = record {
+        unblank = λ blanks. let nothing = blanks_say_nothing blanks in cc;
+        no_hist = λ begins. let it = of_hist_text begins in hist_never_bad it.removes (spec_of definition text) cause (never_bad definition text cause) (sym it.is ∙ is);
+        unwritten = λ removes count condition written. written_never_bad removes count (filter_of definition text condition) cause (filter_not_bad condition cause) (sym (written_is removes count condition written) ∙ is);
+      }
+
       begun : (removes : Bool) → BeginsHist removes → IsHistText text
       begun false is = inl is
       begun true is = inr is
 
-      by : IsBad text → Kind → said_of definition text ≡ Err BadText
+      by : IsBad text → Kind → (cause : TextCause) × (said_of definition text ≡ Err (BadText cause))
       by un (is_blank_text blanks) = absurd (un.unblank blanks)
       by un (is_hist_text it) = absurd (un.no_hist (begun it.removes it.begins))
       by un (is_written it) = absurd (un.unwritten it.removes it.count it.condition it.written)
-      by un (is_bad it) = it.is
+      by un (is_bad it) = (it.cause, it.is)
 
   -- what a written text attaches or removes
   attached : (trigger : SnapshotTrigger) (removes : Bool) (count : Option ℕ) (condition : Option (List ℕ)) (read : Result (Option Parsed) TriggerFault) → IsWritten text removes count condition → filter_of definition text condition ≡ read

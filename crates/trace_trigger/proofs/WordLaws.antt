@@ -8,6 +8,8 @@ use Rattle.trace_lex.specs.Decimals.{is_digit, value_after, decimal_number, up_t
 use Rattle.trace_trigger.specs.Frames.{is_unblank}
 use Rattle.trace_trigger.specs.declared.fault.TriggerFault.{TriggerFault}
 use Rattle.trace_trigger.specs.declared.fault.TriggerFault.TheVariants.{BadText}
+use Rattle.trace_trigger.specs.declared.fault.TextCause.TheVariants.{Kind, Count, AfterSnapshot}
+use Rattle.trace_trigger.specs.TriggerAnswers.{IsBadText}
 use Rattle.trace_trigger.specs.TriggerTexts.{after, count_from, count_after, count_of}
 use Rattle.trace_trigger.specs.TriggerGrammar.{IsCounted, IsWord}
 use Rattle.trace_trigger.proofs.Cuts.{after_append, after_is}
@@ -20,7 +22,7 @@ counted_from word digits count found None cut number limit is = absurd (cc)
 counted_from word digits count None (Some n) cut number limit is = absurd (cc)
 counted_from word digits count (Some m) (Some n) cut number limit is = by (nat_le m (2 ^ 32 - 1)) refl limit (nat_lt 0 n) refl is
   where
-    by : (b : Bool) → nat_le m (2 ^ 32 - 1) ≡ b → (if b then Some m else None) ≡ Some n → (c : Bool) → nat_lt 0 n ≡ c → (if c then Ok (Some n) else Err BadText) ≡ Ok count → IsWord word count
+    by : (b : Bool) → nat_le m (2 ^ 32 - 1) ≡ b → (if b then Some m else None) ≡ Some n → (c : Bool) → nat_lt 0 n ≡ c → (if c then Ok (Some n) else Err (BadText Count)) ≡ Ok count → IsWord word count
     by false e f c g h = absurd (cc)
     by true e f false g h = absurd (cc)
     by true e f true g h =
@@ -36,7 +38,7 @@ read_after word count (Some []) e is =
     subst (IsWord word) it (after_is (codes "snapshot") word [] e)
 read_after word count (Some (b ∷ digits)) e is = by (b == 58) refl is
   where
-    by : (c : Bool) → (b == 58) ≡ c → (if c then count_from (up_to (2 ^ 32 - 1) (decimal_number digits)) else Err BadText) ≡ Ok count → IsWord word count
+    by : (c : Bool) → (b == 58) ≡ c → (if c then count_from (up_to (2 ^ 32 - 1) (decimal_number digits)) else Err (BadText AfterSnapshot)) ≡ Ok count → IsWord word count
     by false f h = absurd (cc)
     by true f h =
         let cut : word ≡ codes "snapshot:" ++ digits = after_is (codes "snapshot") word (b ∷ digits) e ∙ ap (λ c. codes "snapshot" ++ c ∷ digits) (eqb-true b 58 f) in
@@ -55,27 +57,27 @@ count_is word (Some n) is =
     let limited : up_to (2 ^ 32 - 1) (Some n) ≡ Some n = rw (le-leb n (2 ^ 32 - 1) is.most) refl in
     let least : nat_lt 0 n ≡ true = lt-ltb 0 n (omega (arith, is.least)) in
     ap (λ (w : List ℕ). count_after (after (codes "snapshot") w)) is.cut ∙ ap count_after (after_append (codes "snapshot") (58 ∷ is.digits))
-    ∙ ap (λ o. count_from (up_to (2 ^ 32 - 1) o)) is.number ∙ ap count_from limited ∙ ap (λ b. if b then Ok (Some n) else Err BadText) least
+    ∙ ap (λ o. count_from (up_to (2 ^ 32 - 1) o)) is.number ∙ ap count_from limited ∙ ap (λ b. if b then Ok (Some n) else Err (BadText Count)) least
 
--- a word is refused for one fault only
-bad_from : (limited : Option ℕ) (fault : TriggerFault) → count_from limited ≡ Err fault → fault ≡ BadText
-bad_from None fault is = cc
+-- a word is refused as no trigger's only
+bad_from : (limited : Option ℕ) (fault : TriggerFault) → count_from limited ≡ Err fault → IsBadText fault
+bad_from None fault is = let same : fault ≡ BadText Count = cc in (Count, same)
 bad_from (Some n) fault is = by (nat_lt 0 n) is
   where
-    by : (b : Bool) → (if b then Ok (Some n) else Err BadText) ≡ Err fault → fault ≡ BadText
+    by : (b : Bool) → (if b then Ok (Some n) else Err (BadText Count)) ≡ Err fault → IsBadText fault
     by true h = absurd (cc)
-    by false h = cc
+    by false h = let same : fault ≡ BadText Count = cc in (Count, same)
 
-bad_after : (rest : Option (List ℕ)) (fault : TriggerFault) → count_after rest ≡ Err fault → fault ≡ BadText
-bad_after None fault is = cc
+bad_after : (rest : Option (List ℕ)) (fault : TriggerFault) → count_after rest ≡ Err fault → IsBadText fault
+bad_after None fault is = let same : fault ≡ BadText Kind = cc in (Kind, same)
 bad_after (Some []) fault is = absurd (cc)
 bad_after (Some (b ∷ digits)) fault is = by (b == 58) is
   where
-    by : (c : Bool) → (if c then count_from (up_to (2 ^ 32 - 1) (decimal_number digits)) else Err BadText) ≡ Err fault → fault ≡ BadText
+    by : (c : Bool) → (if c then count_from (up_to (2 ^ 32 - 1) (decimal_number digits)) else Err (BadText AfterSnapshot)) ≡ Err fault → IsBadText fault
     by true h = bad_from (up_to (2 ^ 32 - 1) (decimal_number digits)) fault h
-    by false h = cc
+    by false h = let same : fault ≡ BadText AfterSnapshot = cc in (AfterSnapshot, same)
 
-pub bad_word : (word : List ℕ) (fault : TriggerFault) → count_of word ≡ Err fault → fault ≡ BadText
+pub bad_word : (word : List ℕ) (fault : TriggerFault) → count_of word ≡ Err fault → IsBadText fault
 unfolding count_of
 bad_word word fault is = bad_after (after (codes "snapshot") word) fault is
 

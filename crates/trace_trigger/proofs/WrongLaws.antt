@@ -13,7 +13,8 @@ use Rattle.trace_trigger.specs.declared.piece.ListItem.{ListItem}
 use Rattle.trace_trigger.specs.HistAttributes.{attribute_of}
 use Rattle.trace_trigger.specs.HistParts.{attributes_of, end_of, tail_of, is_condition, condition_of, offset_in}
 use Rattle.trace_trigger.specs.HistLists.{first_about, items_in, Lists, lists_of}
-use Rattle.trace_trigger.specs.HistOffsets.{wrong_after, attribute_offsets, name_offsets, is_wrong_key, is_wrong_value, key_offsets, value_offsets, is_wrong_sort, sort_offsets, list_offsets, keyless_offsets, tail_offsets, wrong_offsets}
+use Rattle.trace_trigger.specs.HistOffsets.{is_wrong_key, is_wrong_value, is_wrong_sort}
+use Rattle.trace_trigger.specs.private.MistakeOffsets.{wrong_after, attribute_offsets, name_offsets, key_offsets, value_offsets, sort_offsets, list_offsets, keyless_offsets, tail_offsets, wrong_offsets}
 use Rattle.trace_trigger.specs.HistGrammar.{Subject, OfKeys, OfValues, OfSort, OfSize, OfName, OfAction}
 use Rattle.trace_trigger.specs.HistFaultOffsets.{Cut, BeginsBlank, IsAt, IsAbout, IsList, IsWrongItem, WrongName, WrongItem, WrongTail, IsWrongAt}
 use Rattle.trace_trigger.proofs.CutLemmas.{located, cut_pieces}
@@ -166,7 +167,7 @@ module _ (begin : ℕ) (parts : List (List ℕ)) where
   some_located end at [] some = absurd (omega (arith, some))
   some_located end at (item ∷ items) some = refl
 
-  keyless_sound : (end offset : ℕ) → Member offset (keyless_offsets end lists.keys) → AllByRecursion (λ attribute. IsAbout OfKeys attribute → ⊥) parts × (offset ≡ end)
+  pub keyless_sound : (end offset : ℕ) → Member offset (keyless_offsets end lists.keys) → AllByRecursion (λ attribute. IsAbout OfKeys attribute → ⊥) parts × (offset ≡ end)
   unfolding lists_of
   keyless_sound end offset is = by (keys_list begin parts)
     where
@@ -216,10 +217,10 @@ module _ (text : List ℕ) (cut : Cut text) where
       ap attributes_of cut.cut ∙ attributes_are cut.removes cut.word cut.tail passes stops
       ∙ ap (λ (pieces : List ListItem). map attribute_of pieces) (cut_pieces 58 start cut.word cut.attributes cut.parts)
 
-  tail_there : tail_of text ≡ after_blanks cut.tail
+  pub tail_there : tail_of text ≡ after_blanks cut.tail
   tail_there = ap tail_of cut.cut ∙ tail_is cut.removes cut.word cut.tail passes stops
 
-  end_there : end_of text ≡ start + length cut.word
+  pub end_there : end_of text ≡ start + length cut.word
   end_there = ap end_of cut.cut ∙ end_is cut.removes cut.word cut.tail passes stops
 
   abbrev all_offsets : List ℕ
@@ -236,7 +237,7 @@ module _ (text : List ℕ) (cut : Cut text) where
   whole_length =
       omega (arith, ap length cut.cut, length-append (mark cut.removes ++ codes "hist:" ++ cut.word) cut.tail, length-append (mark cut.removes ++ codes "hist:") cut.word)
 
-  tail_sound : (offset : ℕ) → Member offset (tail_offsets text (after_blanks cut.tail)) → WrongTail cut offset
+  pub tail_sound : (offset : ℕ) → Member offset (tail_offsets text (after_blanks cut.tail)) → WrongTail cut offset
   tail_sound offset is = by (nat_lt 0 (length (after_blanks cut.tail)) && not (is_condition (after_blanks cut.tail))) refl is
     where
       here : (p : ℕ) → Member offset (p ∷ []) → offset ≡ p

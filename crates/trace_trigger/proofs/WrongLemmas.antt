@@ -5,7 +5,7 @@ use Rattle.std.proofs.lemmas.Bool.{or_parts, or_from}
 use Rattle.std.proofs.lemmas.List.Elements.{All-from_recursion, recursion_from_All}
 use Rattle.std.proofs.lemmas.List.Folds.{list_any-append}
 use Rattle.std.proofs.lemmas.List.Kept.{AllPairs-cons}
-use Rattle.trace_trigger.specs.HistOffsets.{wrong_after}
+use Rattle.trace_trigger.specs.private.MistakeOffsets.{wrong_after}
 
 -- ---- all, and each with those after it
 

@@ -6,7 +6,8 @@ use Rattle.trace_trigger.specs.declared.attribute.Topic.TheVariants as topic
 use Rattle.trace_trigger.specs.declared.attribute.Attribute.{Attribute}
 use Rattle.trace_trigger.specs.HistAttributes.{head_len, attribute_of}
 use Rattle.trace_trigger.specs.HistLists.{is_same_topic}
-use Rattle.trace_trigger.specs.HistOffsets.{wrong_after, is_bad_name, name_offsets}
+use Rattle.trace_trigger.specs.HistOffsets.{is_bad_name}
+use Rattle.trace_trigger.specs.private.MistakeOffsets.{wrong_after, name_offsets}
 use Rattle.trace_trigger.specs.HistGrammar.{OfName, HasValue}
 use Rattle.trace_trigger.specs.HistFaultOffsets.{IsAt}
 use Rattle.trace_trigger.proofs.HeadLemmas.{topic_in, value_in, value_read, read_value}

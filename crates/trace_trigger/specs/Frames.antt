@@ -8,7 +8,8 @@ use Rattle.trace_filter.specs.Filters.{Parsed, IsFilter, answer_of, parsed_of}
 use Rattle.trace_filter.specs.declared.fault.FilterFault.{FilterFault}
 use Rattle.trace_filter.specs.declared.fault.FilterFault.TheVariants as filter
 use Rattle.trace_trigger.specs.declared.fault.TriggerFault.{TriggerFault}
-use Rattle.trace_trigger.specs.declared.fault.TriggerFault.TheVariants.{TooMany, FilterSyntax, NoSuchField, WrongOperator, Memory}
+use Rattle.trace_trigger.specs.declared.fault.TriggerFault.TheVariants.{FilterTooLong, FilterTooDeep, FilterSyntax, NoSuchField, WrongOperator, Memory}
+use Rattle.trace_trigger.specs.declared.fault.OperatorCause.TheVariants.{Compared}
 
 abbrev pub mark : Bool → List ℕ
 mark true = codes "!"
@@ -48,10 +49,11 @@ IsReadAs definition (Some condition) (Some filter) = IsFilter definition conditi
 
 -- a filter's fault, at offsets that count from so many bytes before the filter
 abbrev pub moved : ℕ → FilterFault → TriggerFault
-moved before filter.TooMany = TooMany
-moved before (filter.FilterSyntax at) = FilterSyntax (before + at)
+moved before filter.TooLong = FilterTooLong
+moved before filter.TooDeep = FilterTooDeep
+moved before (filter.FilterSyntax at cause) = FilterSyntax (before + at) cause
 moved before (filter.NoSuchField at) = NoSuchField (before + at)
-moved before (filter.WrongOperator at) = WrongOperator (before + at)
+moved before (filter.WrongOperator at) = WrongOperator (before + at) Compared
 moved before filter.Memory = Memory
 
 abbrev pub filter_read : ℕ → Result Parsed FilterFault → Result (Option Parsed) TriggerFault
@@ -65,8 +67,9 @@ filter_of definition text (Some condition) = filter_read (length text - length c
 
 -- a filter's fault has its offset in a text of this length
 abbrev pub IsWithin : ℕ → FilterFault → Type 0
-IsWithin len filter.TooMany = Unit {0}
-IsWithin len (filter.FilterSyntax at) = at ≤ len
+IsWithin len filter.TooLong = Unit {0}
+IsWithin len filter.TooDeep = Unit {0}
+IsWithin len (filter.FilterSyntax at cause) = at ≤ len
 IsWithin len (filter.NoSuchField at) = at ≤ len
 IsWithin len (filter.WrongOperator at) = at ≤ len
 IsWithin len filter.Memory = Unit {0}

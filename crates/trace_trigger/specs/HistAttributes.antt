@@ -12,8 +12,7 @@ use Rattle.trace_trigger.specs.HistPieces.{pieces_of}
 -- the head of an attribute ends with the first `=` (61); without one it is all
 abbrev pub head_len : List ℕ → ℕ
 head_len written = if nat_lt (prefix_len (is_not 61) written) (length written)
-    then prefix_len (is_not 61) written + 1
-    else prefix_len (is_not 61) written
+    then prefix_len (is_not 61) written + 1 else prefix_len (is_not 61) written
 
 -- attributes without a value
 abbrev pub asked_by : List ℕ → Topic
@@ -27,8 +26,7 @@ is_values head = (bytes_eq head (codes "values=") || bytes_eq head (codes "vals=
 
 -- what an attribute with this head is about
 abbrev pub topic_of : List ℕ → Topic
-topic_of head = if bytes_eq head (codes "keys=") || bytes_eq head (codes "key=") then Keys
-    else if is_values head then Values
+topic_of head = if bytes_eq head (codes "keys=") || bytes_eq head (codes "key=") then Keys else if is_values head then Values
     else if bytes_eq head (codes "sort=") then Sort
     else if bytes_eq head (codes "size=") then Size
     else if bytes_eq head (codes "name=") then Name

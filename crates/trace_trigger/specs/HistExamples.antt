@@ -7,7 +7,10 @@ use Rattle.trace_format.specs.Definitions.{Definition}
 use Rattle.trace_format.specs.declared.operand.Operand.{Operand}
 use Rattle.trace_format.specs.declared.operand.Operand.TheVariants.{Pid, Cpu, Field}
 use Rattle.trace_trigger.specs.declared.fault.TriggerFault.{TriggerFault}
-use Rattle.trace_trigger.specs.declared.fault.TriggerFault.TheVariants.{HistSyntax, TooMany, NoSuchField, WrongOperator, BadSize, FilterSyntax}
+use Rattle.trace_trigger.specs.declared.fault.TriggerFault.TheVariants.{HistSyntax, TooManyKeys, TooManyValues, TooManySortKeys, NoSuchField, WrongOperator, BadSize, FilterSyntax}
+use Rattle.trace_trigger.specs.declared.fault.OperatorCause.TheVariants.{Compared, Modified, Summed}
+use Rattle.trace_trigger.specs.declared.fault.HistCause.TheVariants as cause
+use Rattle.trace_filter.specs.declared.fault.FilterCause.TheVariants as filter
 use Rattle.trace_trigger.specs.declared.spec.Action.TheVariants.{Attach, Pause, Continue, Clear}
 use Rattle.trace_format.specs.declared.key.Key.{Key}
 use Rattle.trace_format.specs.declared.modifier.Modifier.{Modifier}
@@ -149,76 +152,82 @@ accepted_of_move =
 
 -- ---- what is refused
 
--- a string is refused at the leftmost offset where it breaks the grammar, the first word's end among them if there are no keys
+-- a string is refused at the leftmost offset where it breaks the grammar, the first word's end among them if there are no keys; and with what is wrong
+-- there, which at that end is an empty attribute or item, if one is there
 abbrev pub wrong_attributes : List Case
 wrong_attributes =
-    codes "hist:" gives Err (HistSyntax 5)
-    ∷ codes "hist::keys=n" gives Err (HistSyntax 5)
-    ∷ codes "hist:keys=n:" gives Err (HistSyntax 12)
-    ∷ codes "hist:foo=1:keys=n" gives Err (HistSyntax 5)
-    ∷ codes "hist:keys=n:pause=1" gives Err (HistSyntax 12)
-    ∷ codes "hist:keys" gives Err (HistSyntax 5)
-    ∷ codes "hist:keys=n:size=x" gives Err (HistSyntax 12)
-    ∷ codes "hist:keys=n:key=n" gives Err (HistSyntax 12)
-    ∷ codes "hist:keys=n:pause:clear" gives Err (HistSyntax 18)
-    ∷ codes "hist:vals=n" gives Err (HistSyntax 11)
-    ∷ codes "hist:vals=n x" gives Err (HistSyntax 11)
-    ∷ codes "hist:keys=n x" gives Err (HistSyntax 12)
-    ∷ codes "!hist:keys=n  if " gives Err (HistSyntax 14)
+    codes "hist:" gives Err (HistSyntax 5 cause.Unknown)
+    ∷ codes "hist:vals=n:" gives Err (HistSyntax 12 cause.Unknown)
+    ∷ codes "hist::keys=n" gives Err (HistSyntax 5 cause.Unknown)
+    ∷ codes "hist:keys=n:" gives Err (HistSyntax 12 cause.Unknown)
+    ∷ codes "hist:foo=1:keys=n" gives Err (HistSyntax 5 cause.Unknown)
+    ∷ codes "hist:keys=n:pause=1" gives Err (HistSyntax 12 cause.Unknown)
+    ∷ codes "hist:keys" gives Err (HistSyntax 5 cause.Unknown)
+    ∷ codes "hist:keys=n:size=x" gives Err (HistSyntax 12 cause.Size)
+    ∷ codes "hist:keys=n:size=128:size=128" gives Err (HistSyntax 21 cause.Size)
+    ∷ codes "hist:keys=n:key=n" gives Err (HistSyntax 12 cause.Repeated)
+    ∷ codes "hist:keys=n:pause:clear" gives Err (HistSyntax 18 cause.Action)
+    ∷ codes "hist:vals=n" gives Err (HistSyntax 11 cause.NoKeys)
+    ∷ codes "hist:vals=n x" gives Err (HistSyntax 11 cause.NoKeys)
+    ∷ codes "hist:keys=n x" gives Err (HistSyntax 12 cause.Condition)
+    ∷ codes "!hist:keys=n  if " gives Err (HistSyntax 14 cause.Condition)
     ∷ []
 
 -- a table's name that is none, at its first byte. A second one is wrong at the attribute's, and a name cannot be sorted by
 abbrev pub wrong_table_names : List Case
 wrong_table_names =
-    codes "hist:keys=n:name=9x" gives Err (HistSyntax 17)
-    ∷ codes "!hist:keys=n:name=" gives Err (HistSyntax 18)
-    ∷ codes "hist:keys=n:name= x" gives Err (HistSyntax 17)
-    ∷ codes "hist:name=a,b:keys=n" gives Err (HistSyntax 10)
-    ∷ codes "hist:keys=n:name=a=b:foo" gives Err (HistSyntax 17)
-    ∷ codes "hist:name=abcdefghijklmnopqrstuvwxyz_123456:keys=n" gives Err (HistSyntax 10)
-    ∷ codes "hist:foo:keys=n:name=9x" gives Err (HistSyntax 5)
-    ∷ codes "hist:keys=n:name" gives Err (HistSyntax 12)
-    ∷ codes "hist:keys=n:name=a:name=a" gives Err (HistSyntax 19)
-    ∷ codes "hist:keys=n:name=a:name=9x" gives Err (HistSyntax 19)
-    ∷ codes "hist:keys=n:name=9x:name=a" gives Err (HistSyntax 17)
-    ∷ codes "hist:keys=n:name=t:sort=t" gives Err (HistSyntax 24)
+    codes "hist:keys=n:name=9x" gives Err (HistSyntax 17 cause.Name)
+    ∷ codes "!hist:keys=n:name=" gives Err (HistSyntax 18 cause.Name)
+    ∷ codes "hist:keys=n:name= x" gives Err (HistSyntax 17 cause.Name)
+    ∷ codes "hist:name=a,b:keys=n" gives Err (HistSyntax 10 cause.Name)
+    ∷ codes "hist:keys=n:name=a=b:foo" gives Err (HistSyntax 17 cause.Name)
+    ∷ codes "hist:name=abcdefghijklmnopqrstuvwxyz_123456:keys=n" gives Err (HistSyntax 10 cause.Name)
+    ∷ codes "hist:foo:keys=n:name=9x" gives Err (HistSyntax 5 cause.Unknown)
+    ∷ codes "hist:keys=n:name" gives Err (HistSyntax 12 cause.Unknown)
+    ∷ codes "hist:keys=n:name=a:name=a" gives Err (HistSyntax 19 cause.Repeated)
+    ∷ codes "hist:keys=n:name=a:name=9x" gives Err (HistSyntax 19 cause.Repeated)
+    ∷ codes "hist:keys=n:name=9x:name=a" gives Err (HistSyntax 17 cause.Name)
+    ∷ codes "hist:keys=n:name=t:sort=t" gives Err (HistSyntax 24 (cause.Sort true))
     ∷ []
 
 abbrev pub wrong_items : List Case
 wrong_items =
-    codes "hist:keys=" gives Err (HistSyntax 10)
-    ∷ codes "!hist:keys=n,9x" gives Err (HistSyntax 13)
-    ∷ codes "hist:keys=n,n" gives Err (HistSyntax 12)
-    ∷ codes "hist:keys=n.log2,n.hex" gives Err (HistSyntax 17)
-    ∷ codes "hist:keys=n:vals=n.hex" gives Err (HistSyntax 17)
-    ∷ codes "hist:keys=n.log2:sort=n.log2" gives Err (HistSyntax 22)
-    ∷ codes "hist:keys=n:vals=,n" gives Err (HistSyntax 17)
-    ∷ codes "hist:sort=n" gives Err (HistSyntax 10)
-    ∷ codes "hist:sort=m:keys=n:keys=m" gives Err (HistSyntax 10)
-    ∷ codes "hist:keys=n:sort=n,n.descending" gives Err (HistSyntax 19)
-    ∷ codes "hist:keys=n:sort=n.upwards" gives Err (HistSyntax 17)
+    codes "hist:keys=" gives Err (HistSyntax 10 (cause.Key true))
+    ∷ codes "!hist:keys=n,9x" gives Err (HistSyntax 13 (cause.Key false))
+    ∷ codes "hist:keys=n,n" gives Err (HistSyntax 12 (cause.Key false))
+    ∷ codes "hist:keys=n.log2,n.hex" gives Err (HistSyntax 17 (cause.Key false))
+    ∷ codes "hist:keys=n:vals=n.hex" gives Err (HistSyntax 17 (cause.Value true))
+    ∷ codes "hist:keys=n.log2:sort=n.log2" gives Err (HistSyntax 22 (cause.Sort true))
+    ∷ codes "hist:keys=n:vals=,n" gives Err (HistSyntax 17 (cause.Value true))
+    ∷ codes "hist:vals=n," gives Err (HistSyntax 12 (cause.Value false))
+    ∷ codes "hist:sort=n" gives Err (HistSyntax 10 (cause.Sort true))
+    ∷ codes "hist:sort=m:keys=n:keys=m" gives Err (HistSyntax 10 (cause.Sort true))
+    ∷ codes "hist:keys=n:sort=n,n.descending" gives Err (HistSyntax 19 (cause.Sort false))
+    ∷ codes "hist:keys=n:sort=n.upwards" gives Err (HistSyntax 17 (cause.Sort true))
     ∷ []
 
 -- what is no modifier; the key's name may be sorted by all the same
 abbrev pub wrong_modifiers : List Case
 wrong_modifiers =
-    codes "hist:keys=n.foo" gives Err (HistSyntax 10)
-    ∷ codes "hist:sort=n:keys=n.foo" gives Err (HistSyntax 17)
-    ∷ codes "hist:keys=n." gives Err (HistSyntax 10)
-    ∷ codes "hist:keys=.hex" gives Err (HistSyntax 10)
-    ∷ codes "hist:keys=common_pid,n.hex.hex" gives Err (HistSyntax 21)
-    ∷ codes "hist:keys=n.buckets=" gives Err (HistSyntax 10)
-    ∷ codes "hist:keys=n.buckets=0" gives Err (HistSyntax 10)
-    ∷ codes "hist:keys=n.buckets=010" gives Err (HistSyntax 10)
-    ∷ codes "hist:keys=n.buckets=4294967296" gives Err (HistSyntax 10)
+    codes "hist:keys=n.foo" gives Err (HistSyntax 10 (cause.Key true))
+    ∷ codes "hist:sort=n:keys=n.foo" gives Err (HistSyntax 17 (cause.Key true))
+    ∷ codes "hist:keys=n." gives Err (HistSyntax 10 (cause.Key true))
+    ∷ codes "hist:keys=.hex" gives Err (HistSyntax 10 (cause.Key true))
+    ∷ codes "hist:keys=common_pid,n.hex.hex" gives Err (HistSyntax 21 (cause.Key false))
+    ∷ codes "hist:keys=n.buckets=" gives Err (HistSyntax 10 (cause.Key true))
+    ∷ codes "hist:keys=n.buckets=0" gives Err (HistSyntax 10 (cause.Key true))
+    ∷ codes "hist:keys=n.buckets=010" gives Err (HistSyntax 10 (cause.Key true))
+    ∷ codes "hist:keys=n.buckets=4294967296" gives Err (HistSyntax 10 (cause.Key true))
     ∷ []
 
 -- too much of something comes before the names that the event does not have
 abbrev pub too_many : List Case
 too_many =
-    codes "hist:keys=n,common_pid,common_cpu,x" gives Err TooMany
-    ∷ codes "hist:keys=n:vals=a,b,hitcount,c,d" gives Err TooMany
-    ∷ codes "hist:keys=n,common_pid:sort=n,common_pid,hitcount" gives Err TooMany
+    codes "hist:keys=n,common_pid,common_cpu,x" gives Err TooManyKeys
+    ∷ codes "hist:keys=n:vals=a,b,hitcount,c,d" gives Err TooManyValues
+    ∷ codes "hist:keys=n,common_pid:sort=n,common_pid,hitcount" gives Err TooManySortKeys
+    ∷ codes "hist:sort=n,a,b:vals=a,b,c,d:keys=n,a,b,c" gives Err TooManyKeys
+    ∷ codes "hist:sort=n,a,b:vals=a,b,c,d:keys=n" gives Err TooManyValues
     ∷ []
 
 -- the leftmost wrong key comes before the leftmost wrong value, then the size, then the filter
@@ -230,21 +239,21 @@ wrong_names =
     ∷ codes "hist:keys=n:size=64 if z == 1" gives Err BadSize
     ∷ codes "hist:keys=n:size=131073" gives Err BadSize
     ∷ codes "hist:keys=n:size=18446744073709551616" gives Err BadSize
-    ∷ codes "hist:keys=n if n == " gives Err (FilterSyntax 20)
+    ∷ codes "hist:keys=n if n == " gives Err (FilterSyntax 20 filter.Value)
     ∷ codes "hist:keys=n if z == 1" gives Err (NoSuchField 15)
-    ∷ codes "!hist:keys=n  if\tn ~ 1" gives Err (WrongOperator 19)
+    ∷ codes "!hist:keys=n  if\tn ~ 1" gives Err (WrongOperator 19 Compared)
     ∷ []
 
 -- a string is in no bucket, and cannot be summed
 abbrev pub wrong_keys_of_move : List Case
 wrong_keys_of_move =
-    codes "hist:keys=who.hex" gives Err (WrongOperator 10)
-    ∷ codes "hist:keys=d.buckets=10,who.log2,x" gives Err (WrongOperator 23)
+    codes "hist:keys=who.hex" gives Err (WrongOperator 10 Modified)
+    ∷ codes "hist:keys=d.buckets=10,who.log2,x" gives Err (WrongOperator 23 Modified)
     ∷ codes "hist:keys=x.hex,who.hex" gives Err (NoSuchField 10)
     ∷ []
 
 abbrev pub wrong_values_of_move : List Case
 wrong_values_of_move =
-    codes "hist:keys=who:vals=d,who,x" gives Err (WrongOperator 21)
+    codes "hist:keys=who:vals=d,who,x" gives Err (WrongOperator 21 Summed)
     ∷ codes "hist:keys=who:vals=x,who" gives Err (NoSuchField 19)
     ∷ []

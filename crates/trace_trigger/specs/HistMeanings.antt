@@ -6,7 +6,8 @@ use Rattle.trace_format.specs.declared.event.Field.{Field}
 use Rattle.trace_format.specs.declared.operand.Operand.{Operand}
 use Rattle.trace_format.specs.Operands.{operand_named, is_text}
 use Rattle.trace_trigger.specs.declared.fault.TriggerFault.{TriggerFault}
-use Rattle.trace_trigger.specs.declared.fault.TriggerFault.TheVariants.{TooMany, NoSuchField, WrongOperator, BadSize}
+use Rattle.trace_trigger.specs.declared.fault.TriggerFault.TheVariants.{TooManyKeys, TooManyValues, TooManySortKeys, NoSuchField, WrongOperator, BadSize}
+use Rattle.trace_trigger.specs.declared.fault.OperatorCause.TheVariants.{Modified, Summed}
 use Rattle.trace_format.specs.declared.key.Key.{Key}
 use Rattle.trace_format.specs.declared.modifier.Modifier.TheVariants.{Plain}
 use Rattle.trace_trigger.specs.declared.spec.SortKey.{SortKey}
@@ -28,8 +29,13 @@ summed_len values = length (summed_items values)
 abbrev pub is_too_many : Lists → Bool
 is_too_many lists = (nat_lt 3 (length lists.keys) || nat_lt 3 (summed_len lists.values)) || nat_lt 2 (length lists.sort)
 
+-- of what there are too many: keys, or else values, or else sort keys
+abbrev pub excess : Lists → TriggerFault
+excess lists = if nat_lt 3 (length lists.keys) then TooManyKeys
+    else if nat_lt 3 (summed_len lists.values) then TooManyValues else TooManySortKeys
+
 abbrev pub few : Lists → Result Lists TriggerFault
-few lists = if is_too_many lists then Err TooMany else Ok lists
+few lists = if is_too_many lists then Err (excess lists) else Ok lists
 
 -- ---- keys and values
 
@@ -51,8 +57,7 @@ key_as item operand = record {
 abbrev pub key_meant : ListItem → Option Operand → Result Key TriggerFault
 key_meant item None = Err (NoSuchField item.at)
 key_meant item (Some operand) = if is_text operand && not (bytes_eq (item_suffix item.bytes) [])
-    then Err (WrongOperator item.at)
-    else Ok (key_as item operand)
+    then Err (WrongOperator item.at Modified) else Ok (key_as item operand)
 
 abbrev pub key_in : List Field → ListItem → Result Key TriggerFault
 key_in fields item = key_meant item (operand_named fields (item_name item.bytes))
@@ -60,7 +65,7 @@ key_in fields item = key_meant item (operand_named fields (item_name item.bytes)
 -- a value is a number
 abbrev pub value_meant : ℕ → Option Operand → Result Operand TriggerFault
 value_meant at None = Err (NoSuchField at)
-value_meant at (Some operand) = if is_text operand then Err (WrongOperator at) else Ok operand
+value_meant at (Some operand) = if is_text operand then Err (WrongOperator at Summed) else Ok operand
 
 abbrev pub value_source : List Field → ListItem → Result Operand TriggerFault
 value_source fields item = value_meant item.at (operand_named fields item.bytes)

@@ -12,5 +12,4 @@ lengthened at byte (piece ∷ pieces) = record { at = at; bytes = byte ∷ piece
 abbrev pub pieces_of : ℕ → ℕ → List ℕ → List ListItem
 pieces_of separator at [] = record { at = at; bytes = [] } ∷ []
 pieces_of separator at (byte ∷ bytes) = if byte == separator
-    then record { at = at; bytes = [] } ∷ pieces_of separator (at + 1) bytes
-    else lengthened at byte (pieces_of separator (at + 1) bytes)
+    then record { at = at; bytes = [] } ∷ pieces_of separator (at + 1) bytes else lengthened at byte (pieces_of separator (at + 1) bytes)

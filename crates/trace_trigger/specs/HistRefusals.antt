@@ -1,5 +1,5 @@
 -- Why a trigger string is refused for an event (histogram.rst, "hist triggers"), in the order in which the refusals are looked for. Nothing in this
--- file goes over the string. That `HistTexts` says the same is stated in `HistLaws`.
+-- file goes over the string, but what is wrong where it breaks the grammar is told by `HistOffsets`. That `HistTexts` says the same is stated in `HistLaws`.
 use Rattle.std.specs.Prelude.{◌≡◌, ◌≢◌, ◌⊎◌, ℕ, ◌-◌, ◌<◌, true, false, codes, List, [], length, Option, None, Some}
 use Rattle.std.specs.List.{All, Contains}
 use Rattle.trace_format.specs.Definitions.{Definition}
@@ -8,8 +8,11 @@ use Rattle.trace_format.specs.Operands.{operand_named, is_text}
 use Rattle.trace_filter.specs.declared.fault.FilterFault.{FilterFault}
 use Rattle.trace_filter.specs.Filters.{IsRefused}
 use Rattle.trace_trigger.specs.declared.fault.TriggerFault.{TriggerFault}
-use Rattle.trace_trigger.specs.declared.fault.TriggerFault.TheVariants.{HistSyntax, TooMany, NoSuchField, WrongOperator, BadSize}
+use Rattle.trace_trigger.specs.declared.fault.TriggerFault.TheVariants.{HistSyntax, TooManyKeys, TooManyValues, TooManySortKeys, NoSuchField, WrongOperator, BadSize}
+use Rattle.trace_trigger.specs.declared.fault.OperatorCause.TheVariants.{Modified, Summed}
+use Rattle.trace_trigger.specs.declared.fault.HistCause.{HistCause}
 use Rattle.trace_trigger.specs.declared.spec.SortKey.{SortKey}
+use Rattle.trace_trigger.specs.HistOffsets.{hist_cause}
 use Rattle.trace_trigger.specs.HistSizes.{rounded_size}
 use Rattle.trace_trigger.specs.Frames.{moved}
 use Rattle.trace_trigger.specs.HistGrammar.{Setting, Keys, Values, Sort, Size, Subject, OfKeys, OfValues, IsItem, IsWritten, IsSet, summed_names, IsValueOf}
@@ -17,11 +20,24 @@ use Rattle.trace_trigger.specs.HistFaultOffsets.{Cut, IsAt, IsList, items_offset
 
 -- ---- over the limits
 
--- over three keys, over three values besides `hitcount`, or over two names to sort by
+-- over three keys, over three values besides `hitcount`, over two names to sort by
+abbrev pub HasManyKeys : List Setting → Type 0
+HasManyKeys settings = (keys : List (List ℕ)) × Contains settings (Keys keys) × (3 < length keys)
+
+abbrev pub HasManyValues : List Setting → Type 0
+HasManyValues settings = (listed : List (List ℕ)) × Contains settings (Values listed) × (3 < length (summed_names listed))
+
+abbrev pub HasManySortKeys : List Setting → Type 0
+HasManySortKeys settings = (keys : List SortKey) × Contains settings (Sort keys) × (2 < length keys)
+
 abbrev pub IsOver : List Setting → Type 0
-IsOver settings = ((keys : List (List ℕ)) × Contains settings (Keys keys) × (3 < length keys))
-    ⊎ (((listed : List (List ℕ)) × Contains settings (Values listed) × (3 < length (summed_names listed)))
-    ⊎ ((keys : List SortKey) × Contains settings (Sort keys) × (2 < length keys)))
+IsOver settings = HasManyKeys settings ⊎ (HasManyValues settings ⊎ HasManySortKeys settings)
+
+-- what there are too many of: keys, or else values, or else names to sort by
+pub data IsOverBy (settings : List Setting) (fault : TriggerFault) : Type 0 where
+  ByKeys : HasManyKeys settings → fault ≡ TooManyKeys → IsOverBy settings fault
+  ByValues : (HasManyKeys settings → ⊥) → HasManyValues settings → fault ≡ TooManyValues → IsOverBy settings fault
+  BySortKeys : (HasManyKeys settings → ⊥) → (HasManyValues settings → ⊥) → HasManySortKeys settings → fault ≡ TooManySortKeys → IsOverBy settings fault
 
 -- ---- names that the event does not have, and strings where numbers are due
 
@@ -54,7 +70,7 @@ pub record CannotBeKey (definition : Definition) (item : List ℕ) (offset : ℕ
   pub cut : IsItem item name suffix
   pub wrong : ((operand_named definition.fields name ≡ None) × (fault ≡ NoSuchField offset))
       ⊎ ((operand : Operand) × (operand_named definition.fields name ≡ Some operand) × (is_text operand ≡ true)
-      × (suffix ≢ []) × (fault ≡ WrongOperator offset))
+      × (suffix ≢ []) × (fault ≡ WrongOperator offset Modified))
 
 -- the first key that cannot be one has this fault
 pub record IsWrongKey (definition : Definition) (text : List ℕ) (fault : TriggerFault) : Type 0 where
@@ -69,7 +85,7 @@ pub record IsWrongKey (definition : Definition) (text : List ℕ) (fault : Trigg
 -- a value means nothing, or it is a string
 abbrev pub CannotBeValue : Definition → List ℕ → ℕ → TriggerFault → Type 0
 CannotBeValue definition name offset fault = ((operand_named definition.fields name ≡ None) × (fault ≡ NoSuchField offset))
-    ⊎ ((operand : Operand) × (operand_named definition.fields name ≡ Some operand) × (is_text operand ≡ true) × (fault ≡ WrongOperator offset))
+    ⊎ ((operand : Operand) × (operand_named definition.fields name ≡ Some operand) × (is_text operand ≡ true) × (fault ≡ WrongOperator offset Summed))
 
 -- the first value that cannot be one has this fault
 pub record IsWrongValue (definition : Definition) (text : List ℕ) (fault : TriggerFault) : Type 0 where
@@ -97,7 +113,7 @@ IsSized settings size = (entries : ℕ) × IsSet settings Size 2048 entries × (
 -- ---- refusals of a string that is written so
 
 pub data IsRefusal (definition : Definition) (text : List ℕ) (settings : List Setting) (condition : Option (List ℕ)) (fault : TriggerFault) : Type 0 where
-  ForMany : IsOver settings → fault ≡ TooMany → IsRefusal definition text settings condition fault
+  ForMany : IsOverBy settings fault → IsRefusal definition text settings condition fault
   ForKey : (IsOver settings → ⊥) → IsWrongKey definition text fault → IsRefusal definition text settings condition fault
   ForValue : (IsOver settings → ⊥) → HaveKeys definition settings → IsWrongValue definition text fault → IsRefusal definition text settings condition fault
   ForSize : (IsOver settings → ⊥) → HaveKeys definition settings → HaveValues definition settings → IsSized settings None → fault ≡ BadSize
@@ -114,4 +130,5 @@ pub record IsWrittenAndRefused (definition : Definition) (text : List ℕ) (faul
 -- ---- all refusals
 
 abbrev pub IsRefusedAs : Definition → List ℕ → TriggerFault → Type 0
-IsRefusedAs definition text fault = ((at : ℕ) × (fault ≡ HistSyntax at) × IsLeftmostWrong text at) ⊎ IsWrittenAndRefused definition text fault
+IsRefusedAs definition text fault = ((at : ℕ) × (cause : HistCause) × (fault ≡ HistSyntax at cause) × IsLeftmostWrong text at × (hist_cause text at ≡ Some cause))
+    ⊎ IsWrittenAndRefused definition text fault

@@ -4,11 +4,12 @@ use Rattle.trace_format.specs.Definitions.{Definition}
 use Rattle.trace_trigger.specs.HistSpecs.{SpecSeen, key_names}
 use Rattle.trace_trigger.specs.declared.fault.TriggerFault.{TriggerFault}
 use Rattle.trace_trigger.specs.declared.fault.TriggerFault.TheVariants.{HistSyntax}
+use Rattle.trace_trigger.specs.declared.offset.Mistake.{Mistake}
 use Rattle.trace_trigger.specs.Frames.{filter_of}
 use Rattle.trace_trigger.specs.TriggerAnswers.{◌>>=◌}
 use Rattle.trace_trigger.specs.HistParts.{attributes_of, tail_of, condition_of}
 use Rattle.trace_trigger.specs.HistLists.{Lists, lists_of, names_of, summed_items, sort_keys}
-use Rattle.trace_trigger.specs.HistOffsets.{wrong_offsets, least}
+use Rattle.trace_trigger.specs.HistOffsets.{mistakes, leftmost}
 use Rattle.trace_trigger.specs.HistMeanings.{few, each, key_in, value_source, size_of, sort_rule}
 
 -- a string that says something of a hist trigger
@@ -17,13 +18,13 @@ IsHistText text = (take 5 text ≡ codes "hist:") ⊎ (take 6 text ≡ codes "!h
 
 -- ---- the grammar
 
-abbrev pub unless_wrong : Option ℕ → Lists → Result Lists TriggerFault
+abbrev pub unless_wrong : Option Mistake → Lists → Result Lists TriggerFault
 unless_wrong None lists = Ok lists
-unless_wrong (Some at) lists = Err (HistSyntax at)
+unless_wrong (Some mistake) lists = Err (HistSyntax mistake.at mistake.cause)
 
 -- what the attributes say, unless the string breaks the grammar
 unfoldable pub read_of : List ℕ → Result Lists TriggerFault
-read_of text = unless_wrong (least (wrong_offsets text)) (lists_of (attributes_of text))
+read_of text = unless_wrong (leftmost (mistakes text)) (lists_of (attributes_of text))
 
 -- ---- the whole string
 

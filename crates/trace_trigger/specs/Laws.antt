@@ -8,10 +8,12 @@ use Rattle.trace_trigger.specs.HistSpecs.{SpecSeen}
 use Rattle.trace_trigger.specs.HistTexts.{IsHistText, spec_of}
 use Rattle.trace_trigger.specs.declared.fault.TriggerFault.{TriggerFault}
 use Rattle.trace_trigger.specs.declared.fault.TriggerFault.TheVariants.{BadText}
+use Rattle.trace_trigger.specs.declared.fault.TextCause.{TextCause}
 use Rattle.trace_trigger.specs.declared.trigger.SnapshotTrigger.{SnapshotTrigger}
 use Rattle.trace_trigger.specs.declared.trigger.TriggerText.TheVariants.{Nothing, AttachSnapshot, RemoveSnapshot, Hist, RemoveHist}
 use Rattle.trace_trigger.specs.Frames.{moved}
-use Rattle.trace_trigger.specs.TriggerTexts.{said_of}
+use Rattle.trace_trigger.specs.TextCauses.{IsBadFor}
+use Rattle.trace_trigger.specs.TriggerTexts.{said_of, body_of}
 use Rattle.trace_trigger.specs.TriggerGrammar.{IsWritten, Writes}
 
 -- a text says nothing exactly where it is blanks
@@ -60,7 +62,11 @@ pub record IsBad (text : List ℕ) : Type 0 where
   pub unwritten : IsUnwritten text
 
 abbrev pub BadTextIsUnwritten : Type 0
-BadTextIsUnwritten = (definition : Definition) → (text : List ℕ) → (said_of definition text ≡ Err BadText) ↔ IsBad text
+BadTextIsUnwritten = (definition : Definition) → (text : List ℕ) → ((cause : TextCause) × (said_of definition text ≡ Err (BadText cause))) ↔ IsBad text
+
+-- and it is wrong for the cause that is told
+abbrev pub BadTextHasCause : Type 0
+BadTextHasCause = (definition : Definition) → (text : List ℕ) → (cause : TextCause) → said_of definition text ≡ Err (BadText cause) → IsBadFor (body_of text) cause
 
 -- a text that is written as one of a snapshot trigger is refused as its filter is, at the same byte, counted from the start of the whole text
 abbrev pub FilterFaultIsMoved : Type 0

@@ -3,9 +3,11 @@ pub mod FittingSpecs
 pub mod Frames
 pub mod TriggerAnswers
 pub mod TriggerTexts
+pub mod TextCauses
 pub mod TriggerGrammar
 pub mod Laws
 pub mod HistAttributes
+pub mod HistCauses
 pub mod HistExamples
 pub mod HistFaultOffsets
 pub mod HistGrammar

@@ -10,6 +10,8 @@ use Rattle.trace_trigger.specs.TriggerAnswers.{◌>>=◌}
 use Rattle.trace_trigger.specs.HistTexts.{spec_of}
 use Rattle.trace_trigger.specs.declared.fault.TriggerFault.{TriggerFault}
 use Rattle.trace_trigger.specs.declared.fault.TriggerFault.TheVariants.{BadText}
+use Rattle.trace_trigger.specs.declared.fault.TextCause.{TextCause}
+use Rattle.trace_trigger.specs.declared.fault.TextCause.TheVariants.{Kind, Count, AfterSnapshot, Condition, Filter}
 use Rattle.trace_trigger.specs.declared.trigger.SnapshotTrigger.{SnapshotTrigger}
 use Rattle.trace_trigger.specs.declared.trigger.TriggerText.{TriggerText}
 use Rattle.trace_trigger.specs.declared.trigger.TriggerText.TheVariants.{Nothing, AttachSnapshot, RemoveSnapshot, Hist, RemoveHist}
@@ -34,14 +36,14 @@ after_word text = drop (prefix_len is_unblank text) text
 
 -- from 1 to 2^32 - 1
 abbrev pub count_from : Option ℕ → Result (Option ℕ) TriggerFault
-count_from None = Err BadText
-count_from (Some n) = if nat_lt 0 n then Ok (Some n) else Err BadText
+count_from None = Err (BadText Count)
+count_from (Some n) = if nat_lt 0 n then Ok (Some n) else Err (BadText Count)
 
--- nothing, or a `:` (58) and a decimal number
+-- after `snapshot`: nothing, or a `:` (58) and a decimal number
 abbrev pub count_after : Option (List ℕ) → Result (Option ℕ) TriggerFault
-count_after None = Err BadText
+count_after None = Err (BadText Kind)
 count_after (Some []) = Ok None
-count_after (Some (b ∷ digits)) = if b == 58 then count_from (up_to (2 ^ 32 - 1) (decimal_number digits)) else Err BadText
+count_after (Some (b ∷ digits)) = if b == 58 then count_from (up_to (2 ^ 32 - 1) (decimal_number digits)) else Err (BadText AfterSnapshot)
 
 -- how often a trigger of this word takes a snapshot: `snapshot` without end, `snapshot:N` at most N times
 unfoldable pub count_of : List ℕ → Result (Option ℕ) TriggerFault
@@ -49,10 +51,16 @@ count_of word = count_after (after (codes "snapshot") word)
 
 -- ---- what follows the word
 
+-- without a filter, and otherwise without a blank before it
+abbrev pub condition_cause : List ℕ → TextCause
+condition_cause [] = Filter
+condition_cause (b ∷ bs) = Condition
+
 -- blanks, and what is not blank
 abbrev pub condition_after : Option (List ℕ) → Result (Option (List ℕ)) TriggerFault
-condition_after None = Err BadText
-condition_after (Some text) = if nat_lt 0 (prefix_len is_blank text) && nat_lt 0 (length (after_blanks text)) then Ok (Some (after_blanks text)) else Err BadText
+condition_after None = Err (BadText Condition)
+condition_after (Some text) = if nat_lt 0 (prefix_len is_blank text) && nat_lt 0 (length (after_blanks text))
+    then Ok (Some (after_blanks text)) else Err (BadText (condition_cause (after_blanks text)))
 
 -- the text of a filter, if there is one: nothing but blanks, or blanks, `if`, blanks and that text
 unfoldable pub condition_of : List ℕ → Result (Option (List ℕ)) TriggerFault
@@ -79,8 +87,7 @@ snapshot_said definition text = said_after definition text (after (codes "!") te
 
 -- what a text says of an event's triggers, or why it is refused
 unfoldable pub said_of : Definition → List ℕ → Result TriggerText TriggerFault
-said_of definition text =
-    if list_all is_blank text then Ok Nothing
+said_of definition text = if list_all is_blank text then Ok Nothing
     else if begins (codes "hist:") text then (spec_of definition text >>= λ spec. Ok (Hist spec))
     else if begins (codes "!hist:") text then (spec_of definition text >>= λ spec. Ok (RemoveHist spec))
     else snapshot_said definition text

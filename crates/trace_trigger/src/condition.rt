@@ -4,6 +4,7 @@ ghost use Rattle.std.specs.Prelude.{◌≡◌, ◌≢◌, ◌≤◌, Err, IfSome
 ghost use Rattle.std.specs.Option.{option_copied};
 ghost use Rattle.trace_trigger.specs.Frames.{filter_of};
 ghost use Rattle.trace_trigger.specs.TriggerAnswers.{IsAnswered};
+ghost use Rattle.trace_trigger.specs.declared.fault.TextCause.{TextCause};
 
 use crate::fault::TriggerFault;
 use std::alloc::Global;
@@ -20,7 +21,7 @@ pub(crate) fn read_filter(
 ) -> Result<Option<Filter>, TriggerFault>
     requires { IfSome condition (λ filter. length filter.now ≤ length text.now) }
     ensures exact { IsAnswered result (filter_of event.now text.now (option_copied condition.entry)) }
-    ensures later { result ≢ Err TriggerFault.BadText }
+    ensures later { (cause : TextCause) → result ≢ Err (TriggerFault.BadText cause) }
     ensures memory { result ≡ Err TriggerFault.Memory → IsSome condition.entry }
 {
     let Some(condition) = condition else {

@@ -1,6 +1,6 @@
 //! What the definitions of hist triggers' texts mean. Each function does nothing: its contract is a theorem.
 
-ghost use Rattle.trace_trigger.specs.HistLaws.{OkIsWritten, SyntaxIsLeftmost, SyntaxIsUnwritten, RefusalIsAsWritten, RefusalIsNoBadText};
+ghost use Rattle.trace_trigger.specs.HistLaws.{OkIsWritten, SyntaxIsLeftmost, LeftmostHasCause, CauseIsOfGrammar, SyntaxIsUnwritten, RefusalIsAsWritten, RefusalIsNoBadText};
 ghost use Rattle.trace_trigger.specs.SameLaws.{SameIsDecided};
 ghost use Rattle.trace_trigger.specs.FittingLaws.{FittingSpecsCountAlike, FittingSpecsOfOneEventReadAlike, FittingIsDecided, FittingIsReflexive, FittingIsSymmetric, FittingIsTransitive};
 ghost use Rattle.trace_trigger.specs.HistExamples.{tick, move, AreRead, accepted as accepted_of_tick, accepted_of_move, wrong_attributes, wrong_table_names, wrong_items, wrong_modifiers, too_many, wrong_names, wrong_keys_of_move, wrong_values_of_move};
@@ -8,12 +8,14 @@ ghost use Rattle.trace_trigger.specs.HistExamples.{tick, move, AreRead, accepted
 /// A string says this of a hist trigger of an event exactly if it can be written so: attributes that each set something, in any order, each at
 /// most once, the keys always; within the limits, with names of the event, and with a filter of it, if with any. It is refused for its syntax
 /// exactly if it cannot be written so, whatever the event, at the leftmost offset where it is wrong: an attribute, a table's name, an item of a
-/// list, the first word's end without keys, or what follows the word. If it can be written so, it is refused exactly for the first cause that
-/// there is: too many names, the first key that is none or a string with a modifier, the first value that is none or a string, the size, the
-/// filter. It is never refused as a string that is no trigger's.
+/// list, the first word's end without keys, or what follows the word. The cause told is that of an element that is wrong there. If it can be written
+/// so, it is refused exactly for the first cause that there is: too many names, the first key that is none or a string with a modifier, the first
+/// value that is none or a string, the size, the filter. It is never refused as a string that is no trigger's.
 pub fn hist_triggers_are_as_written()
     ensures ok { OkIsWritten }
     ensures leftmost { SyntaxIsLeftmost }
+    ensures caused { LeftmostHasCause }
+    ensures cause { CauseIsOfGrammar }
     ensures unwritten { SyntaxIsUnwritten }
     ensures refused { RefusalIsAsWritten }
     ensures known { RefusalIsNoBadText }

@@ -17,7 +17,7 @@ mod spec;
 mod trigger;
 mod written_lists;
 
-pub use fault::TriggerFault;
+pub use fault::{HistCause, OperatorCause, TextCause, TriggerFault};
 pub use spec::{Action, HistSpec, SortKey};
 pub use trace_format::{Key, Modifier, SortRule, SortSource};
 pub use trigger::{SnapshotTrigger, TriggerText};

@@ -8,7 +8,7 @@ ghost use Rattle.trace_trigger.specs.HistLists as lists;
 ghost use Rattle.trace_trigger.specs.HistSpecs.{key_names};
 ghost use Rattle.trace_trigger.specs.TriggerAnswers.{IsAnswered, IsTold};
 
-use crate::fault::TriggerFault;
+use crate::fault::{OperatorCause, TriggerFault};
 use crate::parts::is_word;
 use crate::piece::ListItem;
 use crate::size::rounded_size;
@@ -54,6 +54,20 @@ pub(crate) fn is_too_many(written: &WrittenLists) -> bool
         || written.sort.len() > MOST_SORT_KEYS
 }
 
+/// What there are too many of: keys, or else values, or else sort keys.
+#[cold]
+pub(crate) fn excess(written: &WrittenLists) -> TriggerFault
+    ensures { result ≡ meanings.excess written.now }
+{
+    if written.keys.len() > MOST_NAMES {
+        TriggerFault::TooManyKeys
+    } else if summed_len(&written.values) > MOST_NAMES {
+        TriggerFault::TooManyValues
+    } else {
+        TriggerFault::TooManySortKeys
+    }
+}
+
 /// What a key means. It may be a number, or a string if it has no modifier.
 fn key_operand(fields: &[Field], key: &ListItem) -> Result<Operand, TriggerFault>
     ensures { MatchResult result
@@ -63,7 +77,10 @@ fn key_operand(fields: &[Field], key: &ListItem) -> Result<Operand, TriggerFault
     let written = key.bytes.as_bytes();
     match Operand::named(fields, item_name(written)) {
         Some(operand) if operand.is_text() && !item_suffix(written).is_empty() => {
-            Err(TriggerFault::WrongOperator { at: key.at })
+            Err(TriggerFault::WrongOperator {
+                at: key.at,
+                cause: OperatorCause::Modified,
+            })
         }
         Some(operand) => Ok(operand),
         None => Err(TriggerFault::NoSuchField { at: key.at }),
@@ -113,7 +130,10 @@ fn value_source(fields: &[Field], value: &ListItem) -> Result<Operand, TriggerFa
     ensures { result ≡ meanings.value_source fields.now value.now }
 {
     match Operand::named(fields, value.bytes.as_bytes()) {
-        Some(operand) if operand.is_text() => Err(TriggerFault::WrongOperator { at: value.at }),
+        Some(operand) if operand.is_text() => Err(TriggerFault::WrongOperator {
+            at: value.at,
+            cause: OperatorCause::Summed,
+        }),
         Some(operand) => Ok(operand),
         None => Err(TriggerFault::NoSuchField { at: value.at }),
     }

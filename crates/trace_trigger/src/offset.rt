@@ -1,4 +1,4 @@
-//! Where a trigger string breaks the grammar.
+//! Where a trigger string breaks the grammar, and what is wrong there.
 
 ghost use Rattle.std.specs.Prelude.{◌≡◌, ◌≤◌, ◌++◌, length};
 ghost use Rattle.std.specs.List.{All};
@@ -8,6 +8,7 @@ ghost use Rattle.trace_trigger.specs.HistAttributes.{IsLocated};
 ghost use Rattle.trace_trigger.specs.HistOffsets as offsets;
 
 use crate::attribute::{Attribute, Topic};
+use crate::fault::HistCause;
 use crate::hist_parts::condition_of;
 use crate::piece::ListItem;
 use crate::written_lists::{
@@ -16,13 +17,20 @@ use crate::written_lists::{
 use trace_format::Modifier;
 use trace_lex::{all_digits, is_name};
 
-/// The earlier of two offsets, if there are any.
-fn earlier(left: Option<usize>, right: Option<usize>) -> Option<usize>
-    ensures { result ≡ offsets.earlier left right }
+/// What breaks the grammar, and its offset.
+#[derive(Clone, Copy)]
+pub(crate) struct Mistake {
+    pub(crate) at: usize,
+    pub(crate) cause: HistCause,
+}
+
+/// The mistake further left, if there is one; of two at one offset, the first given.
+fn further_left(left: Option<Mistake>, right: Option<Mistake>) -> Option<Mistake>
+    ensures { result ≡ offsets.further_left left right }
 {
     match (left, right) {
-        (Some(left), Some(right)) => Some(left.min(right)),
-        (Some(left), None) => Some(left),
+        (Some(left), Some(right)) if right.at < left.at => Some(right),
+        (Some(left), _) => Some(left),
         (None, right) => right,
     }
 }
@@ -65,18 +73,34 @@ fn is_wrong_attribute(before: &[Attribute], attribute: &Attribute) -> bool
     is_unknown(attribute.topic) || is_repeated(before, attribute) || is_bad_size(attribute)
 }
 
-/// The first offset of an attribute that is wrong.
-#[tactic(auto, unfolding(crate::specs::HistOffsets::attribute_offsets))]
-fn attribute_offset(attributes: &[Attribute]) -> Option<usize>
-    ensures { result ≡ offsets.least (offsets.attribute_offsets attributes.now) }
+/// Why an attribute on this topic is wrong.
+fn attribute_cause(topic: Topic) -> HistCause
+    ensures { result ≡ offsets.attribute_cause topic }
 {
-    let mut offset = None;
+    match topic {
+        Topic::Unknown => HistCause::Unknown,
+        Topic::Size => HistCause::Size,
+        Topic::Asked(_) => HistCause::Action,
+        Topic::Keys | Topic::Values | Topic::Sort | Topic::Name => HistCause::Repeated,
+    }
+}
+
+/// The leftmost attribute that is wrong.
+#[tactic(auto, unfolding(crate::specs::HistOffsets::attribute_mistakes))]
+fn wrong_attribute(attributes: &[Attribute]) -> Option<Mistake>
+    ensures { result ≡ offsets.leftmost (offsets.attribute_mistakes attributes.now) }
+{
+    let mut found = None;
     for (index, attribute) in attributes.iter().enumerate() {
         if is_wrong_attribute(&attributes[..index], attribute) {
-            offset = earlier(offset, Some(attribute.at));
+            let mistake = Mistake {
+                at: attribute.at,
+                cause: attribute_cause(attribute.topic),
+            };
+            found = further_left(found, Some(mistake));
         }
     }
-    offset
+    found
 }
 
 /// Whether an attribute is a table's name that is none.
@@ -86,19 +110,30 @@ fn is_bad_name(attribute: &Attribute) -> bool
     is_same_topic(Topic::Name, attribute.topic) && !is_name(attribute.value.as_bytes())
 }
 
-/// The first offset of a table's name that is none.
-#[tactic(auto, unfolding(crate::specs::HistOffsets::name_offsets))]
-fn name_offset(attributes: &[Attribute]) -> Option<usize>
+/// The leftmost table's name that is none.
+#[tactic(auto, unfolding(crate::specs::HistOffsets::name_mistakes))]
+fn wrong_name(attributes: &[Attribute]) -> Option<Mistake>
     requires { All IsLocated attributes.now }
-    ensures { result ≡ offsets.least (offsets.name_offsets attributes.now) }
+    ensures { result ≡ offsets.leftmost (offsets.name_mistakes attributes.now) }
 {
-    let mut offset = None;
+    let mut found = None;
     for attribute in attributes {
         if is_bad_name(attribute) {
-            offset = earlier(offset, Some(attribute.at + attribute.skip));
+            let mistake = Mistake {
+                at: attribute.at + attribute.skip,
+                cause: HistCause::Name,
+            };
+            found = further_left(found, Some(mistake));
         }
     }
-    offset
+    found
+}
+
+/// Whether an item is the first of its list, by those before it.
+fn is_first(before: &[ListItem]) -> bool
+    ensures { result ≡ offsets.is_first before.now }
+{
+    before.is_empty()
 }
 
 /// Whether a key has no name, has another suffix than a modifier, or has a name that stands in the list before.
@@ -110,18 +145,30 @@ fn is_wrong_key(before: &[ListItem], item: &ListItem) -> bool
     !is_name(name) || Modifier::read(item_suffix(written)).is_none() || is_named(before, name)
 }
 
-/// The first offset of a key that is wrong.
-#[tactic(auto, unfolding(crate::specs::HistOffsets::key_offsets))]
-fn key_offset(keys: &[ListItem]) -> Option<usize>
-    ensures { result ≡ offsets.least (offsets.key_offsets keys.now) }
+fn key_mistake(before: &[ListItem], item: &ListItem) -> Mistake
+    ensures { result ≡ offsets.key_mistake before.now item.now }
 {
-    let mut offset = None;
+    Mistake {
+        at: item.at,
+        cause: HistCause::Key {
+            is_first: is_first(before),
+        },
+    }
+}
+
+/// The leftmost key that is wrong.
+#[tactic(auto, unfolding(crate::specs::HistOffsets::key_mistakes))]
+fn wrong_key(keys: &[ListItem]) -> Option<Mistake>
+    ensures { result ≡ offsets.leftmost (offsets.key_mistakes keys.now) }
+{
+    let mut found = None;
     for (index, item) in keys.iter().enumerate() {
-        if is_wrong_key(&keys[..index], item) {
-            offset = earlier(offset, Some(item.at));
+        let before = &keys[..index];
+        if is_wrong_key(before, item) {
+            found = further_left(found, Some(key_mistake(before, item)));
         }
     }
-    offset
+    found
 }
 
 /// Whether a value is no name, or one that stands in the list before.
@@ -132,18 +179,30 @@ fn is_wrong_value(before: &[ListItem], item: &ListItem) -> bool
     !is_name(name) || is_listed(before, name)
 }
 
-/// The first offset of a value that is wrong.
-#[tactic(auto, unfolding(crate::specs::HistOffsets::value_offsets))]
-fn value_offset(values: &[ListItem]) -> Option<usize>
-    ensures { result ≡ offsets.least (offsets.value_offsets values.now) }
+fn value_mistake(before: &[ListItem], item: &ListItem) -> Mistake
+    ensures { result ≡ offsets.value_mistake before.now item.now }
 {
-    let mut offset = None;
+    Mistake {
+        at: item.at,
+        cause: HistCause::Value {
+            is_first: is_first(before),
+        },
+    }
+}
+
+/// The leftmost value that is wrong.
+#[tactic(auto, unfolding(crate::specs::HistOffsets::value_mistakes))]
+fn wrong_value(values: &[ListItem]) -> Option<Mistake>
+    ensures { result ≡ offsets.leftmost (offsets.value_mistakes values.now) }
+{
+    let mut found = None;
     for (index, item) in values.iter().enumerate() {
-        if is_wrong_value(&values[..index], item) {
-            offset = earlier(offset, Some(item.at));
+        let before = &values[..index];
+        if is_wrong_value(before, item) {
+            found = further_left(found, Some(value_mistake(before, item)));
         }
     }
-    offset
+    found
 }
 
 /// Whether a sort key can't be sorted by, has another suffix than a direction, or has a name that stands in the list before.
@@ -156,65 +215,87 @@ fn is_wrong_sort(written: &WrittenLists, before: &[ListItem], item: &ListItem) -
         || is_named(before, name)
 }
 
-/// The first offset of a sort key that is wrong.
-#[tactic(auto, using(crate::proofs::WrongOffsets::from_wrong, crate::proofs::WrongOffsets::from_right, crate::proofs::WrongOffsets::from_end), unfolding(crate::specs::HistOffsets::sort_offsets))]
-fn sort_offset(written: &WrittenLists) -> Option<usize>
-    ensures { result ≡ offsets.least (offsets.sort_offsets written.now) }
+fn sort_mistake(before: &[ListItem], item: &ListItem) -> Mistake
+    ensures { result ≡ offsets.sort_mistake before.now item.now }
 {
-    let mut offset = None;
+    Mistake {
+        at: item.at,
+        cause: HistCause::Sort {
+            is_first: is_first(before),
+        },
+    }
+}
+
+/// The leftmost sort key that is wrong.
+#[tactic(auto, using(crate::proofs::Mistakes::from_wrong, crate::proofs::Mistakes::from_right, crate::proofs::Mistakes::from_end), unfolding(crate::specs::HistOffsets::sort_mistakes))]
+fn wrong_sort(written: &WrittenLists) -> Option<Mistake>
+    ensures { result ≡ offsets.leftmost (offsets.sort_mistakes written.now) }
+{
+    let mut found = None;
     for (index, item) in written.sort.iter().enumerate() {
-        if is_wrong_sort(written, &written.sort[..index], item) {
-            offset = earlier(offset, Some(item.at));
+        let before = &written.sort[..index];
+        if is_wrong_sort(written, before, item) {
+            found = further_left(found, Some(sort_mistake(before, item)));
         }
     }
-    offset
+    found
 }
 
-/// The first offset of an item that is wrong.
-#[tactic(auto, using(crate::proofs::WrongOffsets::least_append))]
-fn list_offset(written: &WrittenLists) -> Option<usize>
-    ensures { result ≡ offsets.least (offsets.list_offsets written.now) }
+/// The leftmost item that is wrong.
+#[tactic(auto, using(crate::proofs::Mistakes::leftmost_append))]
+fn wrong_item(written: &WrittenLists) -> Option<Mistake>
+    ensures { result ≡ offsets.leftmost (offsets.list_mistakes written.now) }
 {
-    let names = earlier(key_offset(&written.keys), value_offset(&written.values));
-    earlier(names, sort_offset(written))
+    let names = further_left(wrong_key(&written.keys), wrong_value(&written.values));
+    further_left(names, wrong_sort(written))
 }
 
-/// The offset of the first word's end, if there are no keys.
-fn keyless_offset(end: usize, keys: &[ListItem]) -> Option<usize>
-    ensures { result ≡ offsets.least (offsets.keyless_offsets end keys.now) }
+/// That there are no keys, at the first word's end.
+fn lack_of_keys(end: usize, keys: &[ListItem]) -> Option<Mistake>
+    ensures { result ≡ offsets.leftmost (offsets.keyless_mistakes end keys.now) }
 {
-    if keys.is_empty() { Some(end) } else { None }
-}
-
-/// The offset of what follows the first word, unless it is a condition or there is nothing.
-fn tail_offset(text: &[u8], tail: &[u8]) -> Option<usize>
-    requires { length tail.now ≤ length text.now }
-    ensures { result ≡ offsets.least (offsets.tail_offsets text.now tail.now) }
-{
-    if !tail.is_empty() && condition_of(tail).is_none() {
-        Some(text.len() - tail.len())
+    if keys.is_empty() {
+        Some(Mistake {
+            at: end,
+            cause: HistCause::NoKeys,
+        })
     } else {
         None
     }
 }
 
-/// The first offset at which a string breaks the grammar, if it does: given where its first word ends, what follows that and blanks, and the
-/// attributes with what they say.
-#[tactic(auto, using(crate::proofs::WrongOffsets::least_append))]
-pub(crate) fn wrong_offset(
+/// What follows the first word, unless it is a condition or there is nothing.
+fn wrong_tail(text: &[u8], tail: &[u8]) -> Option<Mistake>
+    requires { length tail.now ≤ length text.now }
+    ensures { result ≡ offsets.leftmost (offsets.tail_mistakes text.now tail.now) }
+{
+    if !tail.is_empty() && condition_of(tail).is_none() {
+        Some(Mistake {
+            at: text.len() - tail.len(),
+            cause: HistCause::Condition,
+        })
+    } else {
+        None
+    }
+}
+
+/// The first mistake of a string, if it breaks the grammar: given where its first word ends, what follows that and blanks, and the attributes with
+/// what they say.
+#[tactic(auto, using(crate::proofs::Mistakes::leftmost_append))]
+pub(crate) fn leftmost_mistake(
     text: &[u8],
     end: usize,
     tail: &[u8],
     attributes: &[Attribute],
     written: &WrittenLists,
-) -> Option<usize>
+) -> Option<Mistake>
     requires tail { length tail.now ≤ length text.now }
     requires located { All IsLocated attributes.now }
-    ensures { result ≡ offsets.least (offsets.attribute_offsets attributes.now ++ offsets.name_offsets attributes.now ++ offsets.list_offsets written.now
-        ++ offsets.keyless_offsets end written.now.keys ++ offsets.tail_offsets text.now tail.now) }
+    ensures { result ≡ offsets.leftmost (offsets.attribute_mistakes attributes.now ++ offsets.name_mistakes attributes.now
+        ++ offsets.list_mistakes written.now ++ offsets.keyless_mistakes end written.now.keys ++ offsets.tail_mistakes text.now tail.now) }
 {
-    let attributed = earlier(attribute_offset(attributes), name_offset(attributes));
-    let listed = earlier(attributed, list_offset(written));
-    let worded = earlier(listed, keyless_offset(end, &written.keys));
-    earlier(worded, tail_offset(text, tail))
+    let attributed = further_left(wrong_attribute(attributes), wrong_name(attributes));
+    let listed = further_left(attributed, wrong_item(written));
+    let worded = further_left(listed, lack_of_keys(end, &written.keys));
+    further_left(worded, wrong_tail(text, tail))
 }

@@ -7,8 +7,9 @@ ghost use Rattle.trace_lex.specs.Blanks as blanks;
 ghost use Rattle.trace_lex.specs.Decimals as decimals;
 ghost use Rattle.trace_trigger.specs.Frames as frames;
 ghost use Rattle.trace_trigger.specs.TriggerTexts as texts;
+ghost use Rattle.trace_trigger.specs.TriggerAnswers.{IsBadText};
 
-use crate::fault::TriggerFault;
+use crate::fault::{TextCause, TriggerFault};
 use trace_lex::{blanks_len, decimal_number, is_blank, rest_of};
 
 /// Whether a text has nothing but blanks.
@@ -54,32 +55,38 @@ pub(crate) fn cut_word(text: &[u8]) -> (&[u8], &[u8])
 #[tactic(auto, unfolding(crate::specs::TriggerTexts::count_of))]
 pub(crate) fn count_of(word: &[u8]) -> Result<Option<u32>, TriggerFault>
     ensures value { result ≡ texts.count_of word.now }
-    ensures bad { IfErr result (λ fault. fault ≡ TriggerFault.BadText) }
+    ensures bad { IfErr result IsBadText }
 {
     match word.strip_prefix(b"snapshot".as_slice()) {
         Some(rest) => count_after(rest),
-        None => Err(TriggerFault::BadText),
+        None => Err(TriggerFault::BadText {
+            cause: TextCause::Kind,
+        }),
     }
 }
 
 fn count_after(rest: &[u8]) -> Result<Option<u32>, TriggerFault>
     ensures value { result ≡ texts.count_after (Some rest.now) }
-    ensures bad { IfErr result (λ fault. fault ≡ TriggerFault.BadText) }
+    ensures bad { IfErr result IsBadText }
 {
     match rest {
         [] => Ok(None),
         [b':', digits @ ..] => count_from(digits),
-        _ => Err(TriggerFault::BadText),
+        _ => Err(TriggerFault::BadText {
+            cause: TextCause::AfterSnapshot,
+        }),
     }
 }
 
 fn count_from(digits: &[u8]) -> Result<Option<u32>, TriggerFault>
     ensures value { result ≡ texts.count_from (decimals.up_to (2 ^ 32 - 1) (decimals.decimal_number digits.now)) }
-    ensures bad { IfErr result (λ fault. fault ≡ TriggerFault.BadText) }
+    ensures bad { IfErr result IsBadText }
 {
     match decimal_number(digits, u64::from(u32::MAX)) {
         Some(count) if count > 0 => Ok(Some(count as u32)),
-        _ => Err(TriggerFault::BadText),
+        _ => Err(TriggerFault::BadText {
+            cause: TextCause::Count,
+        }),
     }
 }
 
@@ -95,7 +102,7 @@ pub(crate) fn after_blanks(text: &[u8]) -> &[u8]
 #[tactic(auto, unfolding(crate::specs::TriggerTexts::condition_of))]
 pub(crate) fn condition_of(text: &[u8]) -> Result<Option<&[u8]>, TriggerFault>
     ensures value { MatchResult result (λ condition. texts.condition_of text.now ≡ Ok (option_copied condition)) (λ fault. texts.condition_of text.now ≡ Err fault) }
-    ensures bad { IfErr result (λ fault. fault ≡ TriggerFault.BadText) }
+    ensures bad { IfErr result IsBadText }
     ensures bound { IfOk result (λ condition. IfSome condition (λ filter. length filter.now ≤ length text.now)) }
 {
     if is_blank_text(text) {
@@ -103,19 +110,34 @@ pub(crate) fn condition_of(text: &[u8]) -> Result<Option<&[u8]>, TriggerFault>
     }
     match after_blanks(text).strip_prefix(b"if".as_slice()) {
         Some(rest) => Ok(Some(condition_after(rest)?)),
-        None => Err(TriggerFault::BadText),
+        None => Err(TriggerFault::BadText {
+            cause: TextCause::Condition,
+        }),
+    }
+}
+
+/// Why this is no condition, of which what follows `if` and blanks is given.
+fn condition_cause(filter: &[u8]) -> TextCause
+    ensures { result ≡ texts.condition_cause filter.now }
+{
+    if filter.is_empty() {
+        TextCause::Filter
+    } else {
+        TextCause::Condition
     }
 }
 
 fn condition_after(text: &[u8]) -> Result<&[u8], TriggerFault>
     ensures value { MatchResult result (λ filter. texts.condition_after (Some text.now) ≡ Ok (Some filter.now)) (λ fault. texts.condition_after (Some text.now) ≡ Err fault) }
-    ensures bad { IfErr result (λ fault. fault ≡ TriggerFault.BadText) }
+    ensures bad { IfErr result IsBadText }
     ensures bound { IfOk result (λ filter. length filter.now ≤ length text.now) }
 {
     let filter = after_blanks(text);
     if blanks_len(text) > 0 && !filter.is_empty() {
         Ok(filter)
     } else {
-        Err(TriggerFault::BadText)
+        Err(TriggerFault::BadText {
+            cause: condition_cause(filter),
+        })
     }
 }

@@ -14,7 +14,7 @@ use crate::condition::read_filter;
 use crate::fault::TriggerFault;
 use crate::hist_parts::start_of;
 use crate::meaning::{keys_of, names_of, size_of, sort_of, summed, value_sources};
-use crate::offset::wrong_offset;
+use crate::offset::{Mistake, leftmost_mistake};
 use crate::spec::{HistSpec, SortKey};
 use crate::written_lists::WrittenLists;
 use std::alloc::{AllocError, Global};
@@ -24,7 +24,7 @@ use trace_format::{EventDef, Key, Operand, SortRule, Text};
 
 /// What the attributes of a string say, unless the string breaks the grammar. They are cut out already, and so is the tail, which is what follows
 /// the first word and blanks.
-#[tactic(auto, unfolding(crate::specs::HistTexts::read_of, crate::specs::HistOffsets::wrong_offsets, crate::specs::HistParts::attributes_of))]
+#[tactic(auto, unfolding(crate::specs::HistTexts::read_of, crate::specs::HistOffsets::mistakes, crate::specs::HistParts::attributes_of))]
 pub(crate) fn read_written(
     alloc: Global,
     text: &[u8],
@@ -42,8 +42,8 @@ pub(crate) fn read_written(
     let start = start_of(text);
     let attributes = attributes_at(alloc, start, word)?;
     let written = WrittenLists::of(alloc, &attributes)?;
-    match wrong_offset(text, start + word.len(), tail, &attributes, &written) {
-        Some(at) => Err(TriggerFault::HistSyntax { at }),
+    match leftmost_mistake(text, start + word.len(), tail, &attributes, &written) {
+        Some(Mistake { at, cause }) => Err(TriggerFault::HistSyntax { at, cause }),
         None => Ok(written),
     }
 }

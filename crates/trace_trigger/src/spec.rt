@@ -3,6 +3,7 @@
 ghost use Rattle.std.specs.Prelude.{◌≡◌, ◌≢◌, ◌↔◌, ◌≤◌, Option, Some, None, Err, IsTrue, length, option_copied, bytes_eq};
 ghost use Rattle.std.specs.Bool.{beq};
 ghost use Rattle.trace_trigger.specs.TriggerAnswers.{IsAnswered};
+ghost use Rattle.trace_trigger.specs.declared.fault.TextCause.{TextCause};
 ghost use Rattle.trace_trigger.specs.HistSpecs.{written_of};
 ghost use Rattle.trace_trigger.specs.HistTexts.{IsHistText, spec_of};
 ghost use Rattle.trace_trigger.specs.SameSpecs.{IsSame, is_same, same_sort_key, same_text, is_passed, filter_text};
@@ -11,7 +12,7 @@ ghost use Rattle.std.specs.Cmp.Lexicographic.{pointwise};
 
 use crate::fault::TriggerFault;
 use crate::hist_parts::{condition_of, cut};
-use crate::meaning::is_too_many;
+use crate::meaning::{excess, is_too_many};
 use crate::read::{read_written, spec_from};
 use std::alloc::Global;
 use std::marker::Model;
@@ -106,12 +107,12 @@ impl HistSpec {
         // It is what the definition gives, unless memory is refused.
         ensures exact { IsAnswered result (spec_of event.now text.now) }
         // It is never refused as a string that is no trigger's.
-        ensures known { result ≢ Err TriggerFault.BadText }
+        ensures known { (cause : TextCause) → result ≢ Err (TriggerFault.BadText cause) }
     {
         let (word, tail) = cut(text);
         let written = read_written(alloc, text, word, tail)?;
         if is_too_many(&written) {
-            return Err(TriggerFault::TooMany);
+            return Err(excess(&written));
         }
         spec_from(alloc, text, written, condition_of(tail), event)
     }

@@ -2,6 +2,7 @@
 
 ghost use Rattle.std.specs.Prelude.{◌≡◌, ◌⊎◌, true, ◌≤◌, Err, length};
 ghost use Rattle.trace_trigger.specs.TriggerAnswers.{IsAnswered};
+ghost use Rattle.trace_trigger.specs.declared.fault.TextCause.{TextCause};
 ghost use Rattle.trace_trigger.specs.TriggerTexts.{is_hist_text, IsFilterWritten, HasFilter, after_word, condition_of, snapshot_trigger_of, snapshot_said, said_of};
 
 use crate::condition::read_filter;
@@ -43,8 +44,8 @@ impl TriggerText {
     pub fn parse(alloc: Global, text: &[u8], event: &EventDef) -> Result<TriggerText, TriggerFault>
         // It is what the definition gives, unless memory is refused.
         ensures exact { IsAnswered result (said_of event.now text.now) }
-        // That a text is written wrong is told even where memory would be refused.
-        ensures early { said_of event.now text.now ≡ Err TriggerFault.BadText → result ≡ Err TriggerFault.BadText }
+        // That a text is written wrong, and why, is told even where memory would be refused.
+        ensures early { (cause : TextCause) → said_of event.now text.now ≡ Err (TriggerFault.BadText cause) → result ≡ Err (TriggerFault.BadText cause) }
         // Memory is taken for a filter and for a hist trigger alone.
         ensures memory { result ≡ Err TriggerFault.Memory → HasFilter text.now ⊎ (is_hist_text text.now ≡ true) }
     {
@@ -71,7 +72,7 @@ impl TriggerText {
 #[tactic(auto, unfolding(crate::specs::TriggerTexts::snapshot_said))]
 fn read_snapshot(alloc: Global, text: &[u8], event: &EventDef) -> Result<TriggerText, TriggerFault>
     ensures exact { IsAnswered result (snapshot_said event.now text.now) }
-    ensures early { snapshot_said event.now text.now ≡ Err TriggerFault.BadText → result ≡ Err TriggerFault.BadText }
+    ensures early { (cause : TextCause) → snapshot_said event.now text.now ≡ Err (TriggerFault.BadText cause) → result ≡ Err (TriggerFault.BadText cause) }
     ensures memory { result ≡ Err TriggerFault.Memory → HasFilter text.now }
 {
     match text.strip_prefix(b"!".as_slice()) {
@@ -96,7 +97,7 @@ fn read_trigger(
 ) -> Result<SnapshotTrigger, TriggerFault>
     requires { length body.now ≤ length text.now }
     ensures exact { IsAnswered result (snapshot_trigger_of event.now text.now body.now) }
-    ensures early { snapshot_trigger_of event.now text.now body.now ≡ Err TriggerFault.BadText → result ≡ Err TriggerFault.BadText }
+    ensures early { (cause : TextCause) → snapshot_trigger_of event.now text.now body.now ≡ Err (TriggerFault.BadText cause) → result ≡ Err (TriggerFault.BadText cause) }
     ensures memory { result ≡ Err TriggerFault.Memory → IsFilterWritten (condition_of (after_word body.now)) }
 {
     let (word, rest) = cut_word(body);

@@ -79,6 +79,7 @@ fn boxed(alloc: Global, config: Config, limit: u64) -> Option<Box<Console, Globa
 
 /// Opens a handle: a tracer of which nothing was asked. A handle that is open stays as it is.
 #[unsafe(no_mangle)]
+#[tactic(auto, unfolding(trace_command::specs::Refusals::number_of))]
 pub extern "C" fn tracectl_open(alloc: Global, handle: &mut Handle, settings: &Settings) -> u32
     ensures open { console_of handle.old ≢ None → (result ≡ 201) × (console_of handle.new ≡ console_of handle.old) }
     ensures made { result ≡ 0 → WasAsked (opened (config_of settings.now) (limit_of settings.now)) (console_of handle.new)

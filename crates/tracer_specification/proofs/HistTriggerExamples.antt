@@ -14,7 +14,7 @@ use Rattle.trace_filter.specs.Values.{holds_of}
 use Rattle.trace_hist.specs.Groups.{grouped}
 use Rattle.trace_trigger.specs.HistLists.{lists_of}
 use Rattle.trace_trigger.specs.HistParts.{attributes_of, tail_of}
-use Rattle.trace_trigger.specs.HistOffsets.{attribute_offsets, key_offsets, name_offsets, value_offsets, sort_offsets, wrong_offsets}
+use Rattle.trace_trigger.specs.HistOffsets.{attribute_mistakes, name_mistakes, key_mistakes, value_mistakes, sort_mistakes, mistakes}
 use Rattle.trace_trigger.specs.Frames.{filter_of}
 use Rattle.trace_trigger.specs.HistTexts.{read_of, spec_from, spec_of}
 use Rattle.hist_entries.specs.PrintOrder.{printed}
@@ -52,7 +52,7 @@ pub record AreAnswered : Type 0 where
 
 pub examples-are_answered : AreAnswered
 unfolding head_bytes head_of timestamp account readings_of stats_of cut step definition_of value_of row_of answer_of operand_named filter_step
-    piece_of holds_of grouped lists_of attributes_of tail_of attribute_offsets name_offsets key_offsets value_offsets sort_offsets wrong_offsets read_of
+    piece_of holds_of grouped lists_of attributes_of tail_of attribute_mistakes name_mistakes key_mistakes value_mistakes sort_mistakes mistakes read_of
     filter_of spec_from spec_of printed is_same is_fitting entry_line hist_head total_line totals_text one_hist hist_text stats_line stats_text lists_text hist_line trigger_line available_triggers
     trigger_text count_of condition_of snapshot_said said_of said_trigger top_file option_file events_file system_file cpu_file event_file mount_point
     below_mount_point address_of instance_of emission_answer declaration_answer switch_answer filter_answer tracing_answer snapshot_answer trigger_answer

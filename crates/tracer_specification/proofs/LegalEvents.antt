@@ -8,7 +8,7 @@ use Rattle.std.proofs.lemmas.Option.{none-some, same_Some}
 use Rattle.trace_format.specs.Catalogs.{id_of, event_of, id_for, IsEvent, AreEvents}
 use Rattle.trace_format.specs.Cells.{record_size_of}
 use Rattle.trace_format.specs.Definitions.{Definition, IsDefinition}
-use Rattle.trace_format.specs.Reading.{Standing, step, start, finish, reading, definition_of}
+use Rattle.trace_format.specs.Reading.{Standing, step, start, finish, reading, definition_of, cause_in}
 use Rattle.trace_format.specs.Words.{Spot, spots_of}
 use Rattle.trace_format.specs.declared.fault.CatalogFault.TheVariants as catalog
 use Rattle.trace_format.proofs.CatalogLemmas.{found_event, new_event}
@@ -104,7 +104,7 @@ added-is_new g past event defined done =
 
     by : (there many full big : Bool) → is_some (id_of events event.name) ≡ there → nat_lt 16 (length event.fields) ≡ many
         → nat_le 64 (length events) ≡ full → nat_lt g.page_bytes (record_size_of event) ≡ big
-        → IsOk (added_answer (if there then Err catalog.EventExists else if many then Err catalog.TooMany else if full then Err catalog.TooMany else if big then Err catalog.TooBig else Ok (length events + 1)))
+        → IsOk (added_answer (if there then Err catalog.EventExists else if many then Err catalog.TooManyFields else if full then Err catalog.TooManyEvents else if big then Err catalog.TooBig else Ok (length events + 1)))
         → IsNew g past event
     by true many full big a b c e done = absurd (false≢true done)
     by false true full big a b c e done = absurd (false≢true done)
@@ -129,7 +129,7 @@ declared-is_new g past (WriteFile instance (Some SyntheticEvents) append text) e
     by_busy true defined d = absurd (false≢true d)
     by_busy false defined d = added-is_new g past event defined d
 
-    by : (read : Result Definition ℕ) → definition_of text ≡ read → IsOk (read_declaration_answer g past append read) → result_ok read ≡ Some event → IsNew g past event
+    by : (read : Result Definition ℕ) → definition_of text ≡ read → IsOk (read_declaration_answer g past append (cause_in text) read) → result_ok read ≡ Some event → IsNew g past event
     by (Err at) was d e = absurd (none-some event e)
     by (Ok found) was d e =
         let same : found ≡ event = same_Some _ _ e in

@@ -9,9 +9,10 @@ use Rattle.trace_filter.specs.Filters.{Parsed, answer_of}
 use Rattle.trace_format.specs.Catalogs.{id_for}
 use Rattle.trace_format.specs.Cells.{Cells}
 use Rattle.trace_format.specs.Definitions.{Definition}
-use Rattle.trace_format.specs.Reading.{definition_of}
+use Rattle.trace_format.specs.Reading.{definition_of, cause_in}
 use Rattle.trace_format.specs.Rows.{row_of}
 use Rattle.trace_format.specs.declared.fault.CatalogFault.{CatalogFault}
+use Rattle.trace_format.specs.declared.fault.DeclarationCause.{DeclarationCause}
 use Rattle.trace_format.specs.declared.fault.CatalogFault.TheVariants as catalogs
 use Rattle.trace_format.specs.declared.pair.Pair.{Pair}
 use Rattle.trace_lex.specs.Names.{is_name}
@@ -56,24 +57,30 @@ either false x y p q = q
 
 cataloged : (fault : CatalogFault) → (fault ≡ catalogs.Memory → ⊥) → IsOwn (Err (refusal_of_catalog fault))
 cataloged catalogs.EventExists some = tt
-cataloged catalogs.TooMany some = tt
+cataloged catalogs.TooManyFields some = tt
+cataloged catalogs.TooManyEvents some = tt
 cataloged catalogs.TooBig some = tt
 cataloged catalogs.Memory some = some refl
 
 filtered : (fault : FilterFault) → (fault ≡ filters.Memory → ⊥) → IsOwn (Err (refusal_of_filter fault))
-filtered filters.TooMany some = tt
-filtered (filters.FilterSyntax at) some = tt
+filtered filters.TooLong some = tt
+filtered filters.TooDeep some = tt
+filtered (filters.FilterSyntax at cause) some = tt
 filtered (filters.NoSuchField at) some = tt
 filtered (filters.WrongOperator at) some = tt
 filtered filters.Memory some = some refl
 
 triggered : (fault : TriggerFault) → (fault ≡ faults.Memory → ⊥) → IsOwn (Err (refusal_of_trigger fault))
-triggered faults.BadText some = tt
-triggered faults.TooMany some = tt
-triggered (faults.FilterSyntax at) some = tt
+triggered (faults.BadText cause) some = tt
+triggered faults.FilterTooLong some = tt
+triggered faults.FilterTooDeep some = tt
+triggered faults.TooManyKeys some = tt
+triggered faults.TooManyValues some = tt
+triggered faults.TooManySortKeys some = tt
+triggered (faults.FilterSyntax at cause) some = tt
 triggered (faults.NoSuchField at) some = tt
-triggered (faults.WrongOperator at) some = tt
-triggered (faults.HistSyntax at) some = tt
+triggered (faults.WrongOperator at cause) some = tt
+triggered (faults.HistSyntax at cause) some = tt
 triggered faults.BadSize some = tt
 triggered faults.Memory some = some refl
 
@@ -84,14 +91,14 @@ added : (r : Result ℕ CatalogFault) → (r ≡ Err catalogs.Memory → ⊥) �
 added (Ok id) none = tt
 added (Err fault) none = cataloged fault (λ e. none (ap (λ (f : CatalogFault). Err f) e))
 
-declared : (g : Config) (past : List Request) (append : Bool) (r : Result Definition ℕ) → IsOwn (read_declaration_answer g past append r)
-declared g past append (Ok definition) = either (not append && nat_lt 0 (length (declared_events past))) _ _ tt
+declared : (g : Config) (past : List Request) (append : Bool) (cause : DeclarationCause) (r : Result Definition ℕ) → IsOwn (read_declaration_answer g past append cause r)
+declared g past append cause (Ok definition) = either (not append && nat_lt 0 (length (declared_events past))) _ _ tt
     (added (id_for (declared_events past) definition g.page_bytes) (adding_takes_none (declared_events past) definition g.page_bytes))
-declared g past append (Err at) = tt
+declared g past append cause (Err at) = tt
 
 declaration : (g : Config) (past : List Request) (append : Bool) (text : List ℕ) → IsOwn (declaration_answer g past append text)
 unfolding declaration_answer
-declaration g past append text = declared g past append (definition_of text)
+declaration g past append text = declared g past append (cause_in text) (definition_of text)
 
 taken : (r : Result Parsed FilterFault) → (r ≡ Err filters.Memory → ⊥) → IsOwn (taken_answer r)
 taken (Ok filter) none = tt

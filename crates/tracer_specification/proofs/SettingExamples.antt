@@ -5,7 +5,7 @@ use Rattle.trace_record.specs.Record.{head_bytes, head_of, timestamp}
 use Rattle.page_ring.specs.Account.{account, readings_of, stats_of}
 use Rattle.page_ring.specs.Cut.{cut}
 use Rattle.trace_buffer.specs.Orders.{merged}
-use Rattle.trace_format.specs.Reading.{step, definition_of}
+use Rattle.trace_format.specs.Reading.{step, definition_of, cause_in}
 use Rattle.trace_format.specs.Rows.{value_of, row_of}
 use Rattle.trace_filter.specs.Filters.{answer_of}
 use Rattle.trace_format.specs.Operands.{operand_named}
@@ -39,7 +39,7 @@ pub record AreAnswered : Type 0 where
   pub full : IsAnswered short full_history
 
 pub examples-are_answered : AreAnswered
-unfolding head_bytes head_of timestamp account readings_of stats_of cut merged step definition_of value_of row_of answer_of operand_named filter_step
+unfolding head_bytes head_of timestamp account readings_of stats_of cut merged step definition_of cause_in value_of row_of answer_of operand_named filter_step
     piece_of holds_of taken_lines pipe_text trace_text declaration_text field_text layout_line field_line common_pid_line
     format_text line_start cell_text row_line record_line stats_line stats_text
     lost_line trace_title trace_head top_file option_file events_file system_file cpu_file event_file mount_point below_mount_point address_of

@@ -16,12 +16,14 @@ use Rattle.trace_lex.specs.Blanks.{is_blank}
 use Rattle.trace_lex.specs.Decimals.{decimal_number, up_to}
 use Rattle.trace_trigger.specs.HistTexts.{IsHistText, spec_of}
 use Rattle.trace_trigger.specs.HistGrammar.{Setting}
-use Rattle.trace_trigger.specs.HistRefusals.{IsRefusedAs, IsRefusal, ForMany, ForKey, ForValue, ForSize, ForFilter, CannotBeValue}
+use Rattle.trace_trigger.specs.HistRefusals.{IsRefusedAs, IsRefusal, ForMany, ForKey, ForValue, ForSize, ForFilter, CannotBeValue, IsOverBy, ByKeys, ByValues, BySortKeys}
 use Rattle.trace_trigger.proofs.CauseLaws.{refusal_is_as_written}
 use Rattle.trace_trigger.proofs.Cuts.{so_begins}
 use Rattle.trace_trigger.specs.Frames.{after_blanks, moved, filter_read, filter_of}
 use Rattle.trace_trigger.specs.TriggerAnswers.{◌>>=◌}
 use Rattle.trace_trigger.specs.TriggerTexts.{said_of, after, word_of, after_word, count_from, count_after, count_of, condition_after, condition_of, snapshot_trigger_of, said_after, snapshot_said, begins}
+use Rattle.trace_trigger.specs.declared.fault.OperatorCause.TheVariants.{Modified, Summed}
+use Rattle.trace_trigger.specs.declared.fault.TextCause.{TextCause}
 use Rattle.trace_trigger.specs.declared.fault.TriggerFault.{TriggerFault}
 use Rattle.trace_trigger.specs.declared.fault.TriggerFault.TheVariants as faults
 use Rattle.trace_trigger.specs.declared.trigger.TriggerText.TheVariants as texts
@@ -34,8 +36,8 @@ adding_takes_none events definition page_bytes =
   where
     by : (known wide many big : Bool)
         → (if known then Err catalogs.EventExists
-        else if wide then Err catalogs.TooMany
-        else if many then Err catalogs.TooMany
+        else if wide then Err catalogs.TooManyFields
+        else if many then Err catalogs.TooManyEvents
         else if big then Err catalogs.TooBig
         else Ok (length events + 1)) ≡ Err catalogs.Memory → ⊥
     by true wide many big e = cc
@@ -50,28 +52,34 @@ filter_takes_none event text e = (refusal_is_answered event text filters.Memory)
 -- ---- hist triggers
 
 hist_refused : (definition : Definition) (text : List ℕ) → IsRefusedAs definition text faults.Memory → ⊥
-hist_refused definition text (inl (at, same, is)) = cc
+hist_refused definition text (inl h) = let same : faults.Memory ≡ faults.HistSyntax h.0 h.1 = h.2 in cc
 hist_refused definition text (inr is) = by is.refusal
   where
     value : (name : List ℕ) (offset : ℕ) → CannotBeValue definition name offset faults.Memory → ⊥
     value name offset (inl h) = let same : faults.Memory ≡ faults.NoSuchField offset = h.1 in cc
-    value name offset (inr h) = let same : faults.Memory ≡ faults.WrongOperator offset = h.3 in cc
+    value name offset (inr h) = let same : faults.Memory ≡ faults.WrongOperator offset Summed = h.3 in cc
 
     condition : (filter : List ℕ) (before : ℕ) (told : FilterFault) → IsRefused definition filter told → faults.Memory ≡ moved before told → ⊥
-    condition filter before filters.TooMany is same = cc
-    condition filter before (filters.FilterSyntax at) is same = cc
+    condition filter before filters.TooLong is same = cc
+    condition filter before filters.TooDeep is same = cc
+    condition filter before (filters.FilterSyntax at cause) is same = cc
     condition filter before (filters.NoSuchField at) is same = cc
     condition filter before (filters.WrongOperator at) is same = cc
     condition filter before filters.Memory is same = is
 
+    many : {settings : List Setting} → IsOverBy settings faults.Memory → ⊥
+    many (ByKeys over same) = cc
+    many (ByValues keys over same) = cc
+    many (BySortKeys keys values over same) = cc
+
     by : {settings : List Setting} {only_if : Option (List ℕ)} → IsRefusal definition text settings only_if faults.Memory → ⊥
-    by (ForMany over same) = cc
+    by (ForMany over) = many over
     by (ForKey within is) = key is.wrong.wrong
       where
         key : ((operand_named definition.fields is.wrong.name ≡ None) × (faults.Memory ≡ faults.NoSuchField is.offset))
-            ⊎ ((operand : Operand) × (operand_named definition.fields is.wrong.name ≡ Some operand) × (is_text operand ≡ true) × (is.wrong.suffix ≢ []) × (faults.Memory ≡ faults.WrongOperator is.offset)) → ⊥
+            ⊎ ((operand : Operand) × (operand_named definition.fields is.wrong.name ≡ Some operand) × (is_text operand ≡ true) × (is.wrong.suffix ≢ []) × (faults.Memory ≡ faults.WrongOperator is.offset Modified)) → ⊥
         key (inl h) = let same : faults.Memory ≡ faults.NoSuchField is.offset = h.1 in cc
-        key (inr h) = let same : faults.Memory ≡ faults.WrongOperator is.offset = h.4 in cc
+        key (inr h) = let same : faults.Memory ≡ faults.WrongOperator is.offset Modified = h.4 in cc
     by (ForValue within keys is) = value is.name is.offset is.wrong
     by (ForSize within keys values size same) = cc
     by (ForFilter within keys values size sized filter at told refused same) = condition filter _ told refused same
@@ -81,7 +89,7 @@ hist_takes_none definition text is e = hist_refused definition text ((refusal_is
 
 -- ---- triggers for snapshots
 
-bad_text : {A : Type 0} → ◌≡◌ {A = Result A TriggerFault} (Err faults.BadText) (Err faults.Memory) → ⊥
+bad_text : {A : Type 0} {cause : TextCause} → ◌≡◌ {A = Result A TriggerFault} (Err (faults.BadText cause)) (Err faults.Memory) → ⊥
 bad_text e = cc
 
 no_fault : {A : Type 0} (a : A) → ◌≡◌ {A = Result A TriggerFault} (Ok a) (Err faults.Memory) → ⊥
@@ -126,8 +134,9 @@ only_if_takes_none definition text (Some condition) e = by (answer_of definition
   where
     by : (r : Result Parsed FilterFault) → (r ≡ Err filters.Memory → ⊥) → filter_read (length text - length condition) r ≡ Err faults.Memory → ⊥
     by (Ok read) never h = cc
-    by (Err filters.TooMany) never h = cc
-    by (Err (filters.FilterSyntax at)) never h = cc
+    by (Err filters.TooLong) never h = cc
+    by (Err filters.TooDeep) never h = cc
+    by (Err (filters.FilterSyntax at cause)) never h = cc
     by (Err (filters.NoSuchField at)) never h = cc
     by (Err (filters.WrongOperator at)) never h = cc
     by (Err filters.Memory) never h = never refl

@@ -1,8 +1,10 @@
 -- Scripts of hist triggers with the answers that the definitions give them, worked by hand (histogram.rst, "hist triggers"). The checker computes
 -- them.
 use Rattle.std.specs.Prelude.{ℕ, pos, List, [], ◌∷◌, ◌++◌, Err, codes}
+use Rattle.trace_trigger.specs.declared.fault.HistCause.TheVariants.{NoKeys, Name}
 use Rattle.trace_command.specs.Commands.{Command}
 use Rattle.trace_command.specs.declared.command.CommandOf.TheVariants.{Emit, Mkdir, Rmdir}
+use Rattle.trace_command.specs.declared.refusal.Limit.TheVariants.{Keys, Triggers}
 use Rattle.trace_command.specs.declared.refusal.Refusal.TheVariants.{NotWritable, BadValue, NoSuchField, HistSyntax, BadSize, TriggerExists, NoSuchTrigger, TooMany}
 use Rattle.tracer_specification.specs.Examples.{Turn, ◌gives◌, echo, append, cat, take, pair, tick, done, shows, with_tick, counted}
 use Rattle.tracer_specification.specs.SnapshotExamples.{freed, trigger_file, in_instance}
@@ -74,10 +76,10 @@ refused_hist_triggers =
     with_tick (anew (codes "hist:keys=n:size=64") gives Err BadSize
     ∷ anew (codes "hist:keys=n:size=131073") gives Err BadSize
     ∷ anew (codes "hist:keys=n:size=131072") gives done
-    ∷ anew (codes "hist:vals=n") gives Err (HistSyntax 11)
+    ∷ anew (codes "hist:vals=n") gives Err (HistSyntax 11 NoKeys)
     ∷ anew (codes "hist:keys=n,z") gives Err (NoSuchField 12)
     ∷ append (codes "four u8 a; u8 b; u8 c; u8 d") (codes "synthetic_events") gives done
-    ∷ echo (codes "hist:keys=a,b,c,d") (codes "events/synthetic/four/trigger") gives Err TooMany
+    ∷ echo (codes "hist:keys=a,b,c,d") (codes "events/synthetic/four/trigger") gives Err (TooMany Keys)
     ∷ cat trigger_file gives shows (codes "hist:keys=n:vals=hitcount:sort=hitcount:size=131072 [active]" ∷ [])
     ∷ [])
 
@@ -188,11 +190,11 @@ four_triggers =
     ∷ more (codes "hist:keys=common_pid") gives done
     ∷ more (codes "hist:keys=common_cpu") gives done
     ∷ more (codes "hist:keys=n,common_pid") gives done
-    ∷ more (codes "hist:keys=n,common_cpu") gives Err TooMany
-    ∷ more (codes "snapshot") gives Err TooMany
+    ∷ more (codes "hist:keys=n,common_cpu") gives Err (TooMany Triggers)
+    ∷ more (codes "snapshot") gives Err (TooMany Triggers)
     ∷ more (codes "!hist:keys=common_cpu") gives done
     ∷ more (codes "snapshot") gives done
-    ∷ more (codes "hist:keys=common_cpu") gives Err TooMany
+    ∷ more (codes "hist:keys=common_cpu") gives Err (TooMany Triggers)
     ∷ more (codes "hist:keys=n:pause") gives done
     ∷ anew (codes "hist:keys=common_cpu") gives done
     ∷ cat trigger_file
@@ -260,7 +262,7 @@ shared_table =
     ∷ append (codes "!hist:keys=n:name=both if n > 1") tock_trigger_file gives done
     ∷ more (codes "hist:keys=n:name=both:size=256") gives done
     ∷ cat hist_file gives shows (no_histogram (codes "hist:name=both:keys=n:vals=hitcount:sort=hitcount:size=256 [active]"))
-    ∷ more (codes "hist:keys=n:name=9x") gives Err (HistSyntax 17)
+    ∷ more (codes "hist:keys=n:name=9x") gives Err (HistSyntax 17 Name)
     ∷ [])
 
 -- An emission that meets two triggers of one table brings two rows. Where `>` takes all triggers of a table away, a new one of that name need not fit.
@@ -287,7 +289,7 @@ refused_by_two_rules =
     ∷ more (codes "hist:keys=common_cpu") gives done
     ∷ more (codes "snapshot") gives done
     ∷ more (codes "hist:keys=n:name=t") gives Err TriggerExists
-    ∷ more (codes "hist:keys=n,common_pid:name=t") gives Err TooMany
+    ∷ more (codes "hist:keys=n,common_pid:name=t") gives Err (TooMany Triggers)
     ∷ more (codes "!snapshot") gives done
     ∷ more (codes "hist:keys=n,common_pid:name=t") gives Err TriggerExists
     ∷ [])

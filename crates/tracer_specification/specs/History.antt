@@ -14,9 +14,10 @@ use Rattle.trace_lex.specs.Names.{is_name}
 use Rattle.trace_format.specs.Catalogs.{id_for}
 use Rattle.trace_format.specs.Cells.{Cells}
 use Rattle.trace_format.specs.Definitions.{Definition}
-use Rattle.trace_format.specs.Reading.{definition_of}
+use Rattle.trace_format.specs.Reading.{definition_of, cause_in}
 use Rattle.trace_format.specs.Rows.{row_of}
 use Rattle.trace_format.specs.declared.fault.CatalogFault.{CatalogFault}
+use Rattle.trace_format.specs.declared.fault.DeclarationCause.{DeclarationCause}
 use Rattle.trace_format.specs.declared.pair.Pair.{Pair}
 use Rattle.trace_trigger.specs.TriggerTexts.{said_of}
 use Rattle.trace_trigger.specs.declared.fault.TriggerFault.{TriggerFault}
@@ -34,6 +35,7 @@ use Rattle.trace_command.specs.declared.command.Config.{Config}
 use Rattle.trace_command.specs.declared.command.Entry.{Entry}
 use Rattle.trace_command.specs.declared.command.Reply.{Reply}
 use Rattle.trace_command.specs.declared.command.Reply.TheVariants.{Done, Text}
+use Rattle.trace_command.specs.declared.refusal.Limit.TheVariants as limit
 use Rattle.trace_command.specs.declared.refusal.Refusal.{Refusal}
 use Rattle.trace_command.specs.declared.refusal.Refusal.TheVariants.{NoSuchFile, NotReadable, NotWritable, BadValue, NoSuchEvent, BadDefinition, TriggerExists, NoSuchTrigger, TooMany, InstanceExists, NoSuchInstance, Busy, NoSuchCpu, BadRow, HistoryFull}
 
@@ -64,13 +66,13 @@ abbrev pub new_event_answer : Config → List Request → Bool → Definition �
 new_event_answer g past append definition =
     if not append && nat_lt 0 (length (declared_events past)) then Err Busy else added_answer (id_for (declared_events past) definition g.page_bytes)
 
--- a declaration: first its text, which is refused at the place where it is wrong
-abbrev pub read_declaration_answer : Config → List Request → Bool → Result Definition ℕ → Result Reply Refusal
-read_declaration_answer g past append (Ok definition) = new_event_answer g past append definition
-read_declaration_answer g past append (Err at) = Err (BadDefinition at)
+-- a declaration: first its text, which is refused at the place where it is wrong, for this cause
+abbrev pub read_declaration_answer : Config → List Request → Bool → DeclarationCause → Result Definition ℕ → Result Reply Refusal
+read_declaration_answer g past append cause (Ok definition) = new_event_answer g past append definition
+read_declaration_answer g past append cause (Err at) = Err (BadDefinition at cause)
 
 unfoldable pub declaration_answer : Config → List Request → Bool → List ℕ → Result Reply Refusal
-declaration_answer g past append text = read_declaration_answer g past append (definition_of text)
+declaration_answer g past append text = read_declaration_answer g past append (cause_in text) (definition_of text)
 
 -- a switch: 0 or 1
 unfoldable pub switch_answer : List ℕ → Result Reply Refusal
@@ -125,7 +127,7 @@ trigger_count (Some t) hists = length hists + 1
 
 -- one more trigger
 abbrev pub room_answer : Option Trigger → List HistTrigger → Result Reply Refusal
-room_answer attached hists = if nat_lt (trigger_count attached hists) most_triggers then Ok Done else Err TooMany
+room_answer attached hists = if nat_lt (trigger_count attached hists) most_triggers then Ok Done else Err (TooMany limit.Triggers)
 
 -- what is asked of a hist trigger that is attached
 abbrev pub asked_answer : Action → Result Reply Refusal
@@ -246,7 +248,7 @@ unfoldable pub named_answer : List Request → List ℕ → Result Reply Refusal
 named_answer past name =
     if not (is_name name) then Err BadValue
     else (if is_there (Some name) past then Err InstanceExists
-    else (if nat_lt (length (instance_names past)) most_instances then Ok Done else Err TooMany))
+    else (if nat_lt (length (instance_names past)) most_instances then Ok Done else Err (TooMany limit.Instances)))
 
 abbrev pub make_answer : List Request → Option (List ℕ) → Result Reply Refusal
 make_answer past None = Err NoSuchFile

@@ -1,10 +1,13 @@
 -- Scripts of settings and refusals with the answers that the definitions give them, worked by hand (ftrace.rst, "The File System", "Instances";
 -- events.rst, "Using Event Tracing", "Event filtering"). The checker computes them.
 use Rattle.std.specs.Prelude.{ℕ, pos, List, [], ◌∷◌, ◌++◌, map, Result, Err, codes}
+use Rattle.trace_format.specs.declared.fault.DeclarationCause.TheVariants.{FieldType}
+use Rattle.trace_trigger.specs.declared.fault.OperatorCause.TheVariants.{Compared}
 use Rattle.trace_command.specs.Commands.{Command}
 use Rattle.trace_command.specs.declared.command.CommandOf.TheVariants.{Emit, Mkdir, Rmdir}
 use Rattle.trace_command.specs.declared.command.Config.{Config}
 use Rattle.trace_command.specs.declared.command.Reply.{Reply}
+use Rattle.trace_command.specs.declared.refusal.Limit.TheVariants.{Instances}
 use Rattle.trace_command.specs.declared.refusal.Refusal.{Refusal}
 use Rattle.trace_command.specs.declared.refusal.Refusal.TheVariants.{NoSuchFile, NotReadable, NotWritable, BadValue, NoSuchEvent, EventExists, BadDefinition, TooBig, WrongOperator, TooMany, InstanceExists, NoSuchInstance, Busy, NoSuchCpu, BadRow, HistoryFull}
 use Rattle.tracer_specification.specs.Examples.{Turn, ◌gives◌, echo, append, cat, take, pair, tick, done, shows, with_tick, traced}
@@ -79,7 +82,7 @@ filters_of_all =
     ∷ cat tick_filter gives reads (codes "n > 5")
     ∷ cat tock_filter gives reads (codes "none")
     ∷ echo (codes "m > 3") all_filters gives done
-    ∷ echo (codes "n ~ 1") all_filters gives Err (WrongOperator 2)
+    ∷ echo (codes "n ~ 1") all_filters gives Err (WrongOperator 2 Compared)
     ∷ cat tick_filter gives reads (codes "n > 5")
     ∷ cat tock_filter gives reads (codes "m > 3")
     ∷ echo (codes "0") all_filters gives done
@@ -211,7 +214,7 @@ refused_in_order =
     ∷ echo (codes "1") (codes "events/synthetic/tick/format") gives Err NotWritable
     ∷ echo (codes "2") (codes "events/synthetic/none/enable") gives Err NoSuchEvent
     ∷ take 1 all_filters gives Err NotReadable
-    ∷ echo (codes "tick u65 n") (codes "synthetic_events") gives Err (BadDefinition 5)
+    ∷ echo (codes "tick u65 n") (codes "synthetic_events") gives Err (BadDefinition 5 FieldType)
     ∷ echo (codes "tick u64 n") (codes "synthetic_events") gives Err Busy
     ∷ append (codes "tick char t[64]") (codes "synthetic_events") gives Err EventExists
     ∷ append (codes "wide char t[64]") (codes "synthetic_events") gives Err TooBig
@@ -222,7 +225,7 @@ refused_in_order =
 abbrev pub eight_instances : List Turn
 eight_instances =
     map (λ (letter : ℕ). Mkdir (codes "instances/" ++ letter ∷ []) gives done) (codes "abcdefg")
-    ++ Mkdir (codes "instances/h") gives Err TooMany
+    ++ Mkdir (codes "instances/h") gives Err (TooMany Instances)
     ∷ Mkdir (codes "instances/a") gives Err InstanceExists
     ∷ Mkdir (codes "instances/9") gives Err BadValue
     ∷ Mkdir (codes "a") gives Err NoSuchFile
@@ -230,7 +233,7 @@ eight_instances =
     ∷ Rmdir (codes "instances/h") gives Err NoSuchInstance
     ∷ Rmdir (codes "instances/c") gives done
     ∷ Mkdir (codes "instances/h") gives done
-    ∷ Mkdir (codes "instances/i") gives Err TooMany
+    ∷ Mkdir (codes "instances/i") gives Err (TooMany Instances)
     ∷ cat (codes "instances/c/tracing_on") gives Err NoSuchInstance
     ∷ cat (codes "instances/h/tracing_on") gives reads (codes "1")
     ∷ cat (codes "instances/h/synthetic_events") gives Err NoSuchFile

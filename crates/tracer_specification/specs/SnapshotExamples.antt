@@ -1,8 +1,11 @@
 -- Scripts of snapshots and triggers with the answers that the definitions give them, worked by hand (ftrace.rst, "Snapshot"; events.rst, "Event
 -- triggers", "snapshot"). The checker computes them.
 use Rattle.std.specs.Prelude.{ℕ, List, [], ◌∷◌, ◌++◌, Err, codes}
+use Rattle.trace_filter.specs.declared.fault.FilterCause.TheVariants.{Value}
+use Rattle.trace_trigger.specs.declared.fault.OperatorCause.TheVariants.{Compared}
+use Rattle.trace_trigger.specs.declared.fault.TextCause.TheVariants.{Kind, Count, Filter}
 use Rattle.trace_command.specs.declared.command.CommandOf.TheVariants.{Mkdir, Rmdir}
-use Rattle.trace_command.specs.declared.refusal.Refusal.TheVariants.{BadValue, NoSuchEvent, FilterSyntax, NoSuchField, WrongOperator, TriggerExists, NoSuchTrigger, Busy}
+use Rattle.trace_command.specs.declared.refusal.Refusal.TheVariants.{BadValue, BadTrigger, NoSuchEvent, FilterSyntax, NoSuchField, WrongOperator, TriggerExists, NoSuchTrigger, Busy}
 use Rattle.tracer_specification.specs.Examples.{Turn, ◌gives◌, echo, append, cat, take, tick, done, shows, with_tick, traced, counted}
 
 -- what a side of one CPU shows that one record came to
@@ -101,12 +104,12 @@ trigger_of_disabled_event =
 -- what is written as no trigger is refused before the event's triggers are looked at; blanks change nothing
 abbrev pub refused_triggers : List Turn
 refused_triggers =
-    with_tick (echo (codes " snapshot") trigger_file gives Err BadValue
-    ∷ echo (codes "! snapshot") trigger_file gives Err BadValue
-    ∷ echo (codes "snapshot:0") trigger_file gives Err BadValue
-    ∷ echo (codes "snapshot if") trigger_file gives Err BadValue
-    ∷ echo (codes "snapshot if n == ") trigger_file gives Err (FilterSyntax 17)
-    ∷ echo (codes "snapshot if n ~ 1") trigger_file gives Err (WrongOperator 14)
+    with_tick (echo (codes " snapshot") trigger_file gives Err (BadTrigger Kind)
+    ∷ echo (codes "! snapshot") trigger_file gives Err (BadTrigger Kind)
+    ∷ echo (codes "snapshot:0") trigger_file gives Err (BadTrigger Count)
+    ∷ echo (codes "snapshot if") trigger_file gives Err (BadTrigger Filter)
+    ∷ echo (codes "snapshot if n == ") trigger_file gives Err (FilterSyntax 17 Value)
+    ∷ echo (codes "snapshot if n ~ 1") trigger_file gives Err (WrongOperator 14 Compared)
     ∷ echo (codes "!snapshot if z == 1") trigger_file gives Err (NoSuchField 13)
     ∷ echo (codes "!snapshot") trigger_file gives Err NoSuchTrigger
     ∷ echo (codes "snapshot") (codes "events/synthetic/none/trigger") gives Err NoSuchEvent

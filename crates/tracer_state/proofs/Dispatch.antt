@@ -4,7 +4,7 @@ use Rattle.std.proofs.lemmas.Bool.{ltb-false, leb-false}
 use Rattle.trace_format.specs.Catalogs.{AreEvents, id_for, id_of}
 use Rattle.trace_format.specs.Cells.{record_size_of}
 use Rattle.trace_format.specs.Definitions.{Definition, IsDefinition}
-use Rattle.trace_format.specs.Reading.{definition_of}
+use Rattle.trace_format.specs.Reading.{definition_of, cause_in}
 use Rattle.trace_format.specs.declared.fault.CatalogFault.TheVariants as catalog
 use Rattle.trace_format.proofs.CatalogLemmas.{new_event}
 use Rattle.trace_command.specs.Paths as paths
@@ -150,7 +150,7 @@ fresh_event g past event id defined is =
 
     by : (there many full big : Bool) → is_some (id_of events event.name) ≡ there → nat_lt 16 (length event.fields) ≡ many
         → nat_le 64 (length events) ≡ full → nat_lt g.page_bytes (record_size_of event) ≡ big
-        → (if there then Err catalog.EventExists else if many then Err catalog.TooMany else if full then Err catalog.TooMany else if big then Err catalog.TooBig else Ok (length events + 1)) ≡ Ok id
+        → (if there then Err catalog.EventExists else if many then Err catalog.TooManyFields else if full then Err catalog.TooManyEvents else if big then Err catalog.TooBig else Ok (length events + 1)) ≡ Ok id
         → IsFresh g past event
     by true many full big a b c e done = absurd (cc)
     by false true full big a b c e done = absurd (cc)
@@ -182,7 +182,7 @@ new-answers : (g : Config) (state : State) (past : List Request) (name : Option 
 unfolding declaration_answer
 new-answers g state past name append text event stands is read free =
     let same : (not append && nat_lt 0 (length (declared_events past))) ≡ false = rw (← stands.events) free in
-    answered-there g past name (write_answer g name past append text) paths.SyntheticEvents is refl ∙ ap (read_declaration_answer g past append) read
+    answered-there g past name (write_answer g name past append text) paths.SyntheticEvents is refl ∙ ap (read_declaration_answer g past append (cause_in text)) read
     ∙ rw (same, stands.events) refl
 
 pub added : (g : Config) (state : State) (past : List Request) (name : Option (List ℕ)) (append : Bool) (text : List ℕ) (event : Definition)

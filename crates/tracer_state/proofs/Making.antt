@@ -11,6 +11,7 @@ use Rattle.trace_format.specs.Definitions.{Definition}
 use Rattle.trace_command.specs.Requests.{Request, MakeInstance, RemoveInstance}
 use Rattle.trace_command.specs.declared.command.Config.{Config}
 use Rattle.trace_command.specs.declared.command.Reply.TheVariants.{Done}
+use Rattle.trace_command.specs.declared.refusal.Limit.TheVariants.{Instances}
 use Rattle.trace_command.specs.declared.refusal.Refusal.TheVariants.{BadValue, InstanceExists, Memory, NoSuchInstance, TooMany}
 use Rattle.tracer_specification.specs.History.{named_answer}
 use Rattle.tracer_specification.specs.Settings.{declared_events, instance_names, is_enabled, is_there, kept_filter, makes}
@@ -101,12 +102,12 @@ module _ {g : Config} {state : State} {past : List Request} {path : Option (List
   many_names : length state.instances.items ≡ suc (length (instance_names past))
   many_names = length-names_of state.instances.items (instance_names past) path_is.stands.names
 
-  pub make-too_many : 8 ≤ length state.instances.items → IsPrepared g past (MakeInstance path) state (Err TooMany)
+  pub make-too_many : 8 ≤ length state.instances.items → IsPrepared g past (MakeInstance path) state (Err (TooMany Instances))
   unfolding named_answer
   make-too_many many =
       let full : 7 ≤ length (instance_names past) = omega (arith, many_names, many) in
       let no : ltb (length (instance_names past)) 7 ≡ false = grind (arith, nat_tests) in
-      rw path_is.is (refused TooMany (named_answer past name) (rw (path_is.good, path_is.new, no) refl))
+      rw path_is.is (refused (TooMany Instances) (named_answer past name) (rw (path_is.good, path_is.new, no) refl))
 
   can_be_made : length state.instances.items < 8 → named_answer past name ≡ Ok Done
   unfolding named_answer

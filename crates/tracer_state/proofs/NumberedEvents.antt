@@ -113,7 +113,7 @@ no-memory g past name cpu pairs k inside there =
 pub no-row : (g : Config) (past : List Request) (name : List ℕ) (cpu : ℕ) (pairs : List Pair) (k : NumberedEvent) (refused : RowFault) → cpu < g.cpus
     → event_named name past ≡ Some k → IsBuilt (Err refused) (row_of k.event pairs)
     → IsRefusal (refusal_of_row refused) (emission_answer g past name cpu pairs)
-no-row g past name cpu pairs k (fault.BadRow field) inside there built =
+no-row g past name cpu pairs k (fault.BadRow field cause) inside there built =
     let is : emission_answer g past name cpu pairs ≡ Err (BadRow field) = bad-row g past name cpu pairs k field inside there built in
     (λ other. is, λ early. is)
 no-row g past name cpu pairs k fault.Memory inside there built = no-memory g past name cpu pairs k inside there

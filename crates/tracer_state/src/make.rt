@@ -12,7 +12,7 @@ ghost use Rattle.tracer_state.specs.States.{StandsFor, IsPrepared, IsUsable, Tak
 use crate::change::Change;
 use crate::state::{Named, Prepared, State};
 use std::alloc::{AllocError, Global};
-use trace_command::{Config, Refusal, Reply, instance_of};
+use trace_command::{Config, Limit, Refusal, Reply, instance_of};
 use trace_instance::{INSTANCES, Instance};
 use trace_lex::{Text, is_name};
 
@@ -54,7 +54,9 @@ impl State {
             return Err(Refusal::InstanceExists);
         }
         if self.instances.len() >= INSTANCES {
-            return Err(Refusal::TooMany);
+            return Err(Refusal::TooMany {
+                limit: Limit::Instances,
+            });
         }
         let named = new_instance(alloc, config, name, self.catalog.len())?;
         let boxed = Box::new(alloc, named)?;

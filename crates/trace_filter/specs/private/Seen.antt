@@ -6,7 +6,11 @@ use Rattle.trace_filter.specs.declared.token.Token as token
 use Rattle.trace_filter.specs.declared.token.Token.TheVariants as tokens
 use Rattle.trace_filter.specs.declared.token.ReadToken as pieces
 use Rattle.trace_filter.specs.declared.token.Spot as spots
-use Rattle.trace_filter.specs.Tokens.{Literal, Word, Quoted, Token, Open, Close, Bang, AndAnd, OrOr, Compare, Name, Value, Illegible, ReadToken, is_comparison, spots_from}
+use Rattle.trace_filter.specs.Tokens.{Literal, Word, Quoted, Token, Open, Close, Bang, AndAnd, OrOr, Compare, Name, Value, Illegible, ReadToken, is_comparison, Spot, spots_from}
+use Rattle.trace_filter.specs.declared.fault.FilterCause.{FilterCause}
+use Rattle.trace_filter.specs.declared.syntax.Verdict.{Verdict}
+use Rattle.trace_filter.specs.declared.syntax.Verdict.TheVariants.{Fine, TooDeep, WrongAt}
+use Rattle.trace_filter.specs.FilterCauses.{cause_at}
 
 abbrev pub literal_of : literal.Literal → Literal
 literal_of (literals.Word bytes) = Word bytes.now
@@ -33,4 +37,11 @@ pub record IsPiece (piece : ReadToken) (found : pieces.ReadToken) (rest : List �
 pub record IsNextToken (text : List ℕ) (start : ℕ) (value_due : Bool) (found : spots.Spot) : Type 0 where
   pub spots : spots_from value_due 0 start (drop start text) ≡ record { at = found.at; token = token_of found.token } ∷ spots_from (is_comparison (token_of found.token)) 0 found.end (drop found.end text)
   pub within : found.end ≤ length text
-  pub forward : start < found.end
+  pub after : start ≤ found.at
+  pub forward : found.at < found.end
+
+-- where a verdict tells an offset, the cause is the one there
+abbrev pub IsCauseOf : List Spot → Verdict → FilterCause → Type 0
+IsCauseOf spots Fine cause = Unit {0}
+IsCauseOf spots TooDeep cause = Unit {0}
+IsCauseOf spots (WrongAt at) cause = cause ≡ cause_at spots at

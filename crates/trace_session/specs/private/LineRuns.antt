@@ -1,6 +1,8 @@
 -- What a single line comes to, in one word: once its outcome is known, and from its command on.
 use Rattle.std.specs.Prelude.{◌≡◌, ℕ, Bool, List, [], ◌∷◌, ◌++◌, Option, Result, IfOk, IsSome, OnOk, OnErr, IsErrOf}
+use Rattle.ticket_lock.specs.declared.views.View.{View}
 use Rattle.trace_command.specs.declared.command.Config.{Config}
+use Rattle.trace_command.specs.declared.command.Entry.{Entry}
 use Rattle.script_reader.specs.Items.{Single}
 use Rattle.script_reader.specs.Sources.{HasRisen}
 use Rattle.script_reader.specs.declared.stop.Stop.{Stop}
@@ -8,6 +10,7 @@ use Rattle.script_reader.specs.declared.stop.Stop.TheVariants.{Memory, Stopped, 
 use Rattle.trace_script.specs.declared.outcome.Outcome.{Outcome}
 use Rattle.trace_session.specs.Devices.{AppendsFront, Passes}
 use Rattle.trace_session.specs.Heard.{Heard, Hears, IsWrittenFirst, heard_of}
+use Rattle.trace_session.specs.Passes.{IsSessionPass, progress_of}
 use Rattle.trace_session.specs.Sessions.{Progress, turn_of, text_of, status_of}
 use Rattle.trace_session.specs.declared.status.Status.{Status}
 use Rattle.trace_session.specs.private.StepFronts.{PassesItem, AppendsItem}
@@ -49,3 +52,9 @@ pub record IsLineRun (wants : Bool) (number : ℕ) (line : List ℕ) (seated : C
   pub flushed : IfOk result (λ status. IsSome old.heard → IsWrittenFirst wants status → new.waits ≡ [])
   pub unheard : OnErr result (new.heard ≡ old.heard)
   pub heard : (g : Config) → seated g → OnOk result (Hears old.heard new.heard (heard_of number line (turn_of g before line).outcome new.bytes ∷ []))
+
+-- and the same with the views of the pass before it and after it, which is still a session's
+abbrev pub RunsLine : Bool → ℕ → List ℕ → View Entry → View Entry → Outlet → Outlet → Result Status Stop → Type 0
+RunsLine wants number line view after old new result =
+    ((g : Config) → IsSessionPass g view → IsSessionPass g after)
+    × IsLineRun wants number line (λ g. IsSessionPass g view) (progress_of view) (progress_of after) old new result

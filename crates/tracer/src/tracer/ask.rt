@@ -15,9 +15,9 @@ use tracer_state::ValuesEmission;
 impl Tracer {
     /// Runs a command, or refuses it. The answer is the one that the commands done before it give. A refused command changes nothing.
     ///
-    /// If an allocation is refused, `Memory` may replace the answer, but never `NoSuchFile`, `NotReadable`, `NotWritable`, `BadValue`, `NoSuchEvent`,
-    /// `InstanceExists`, `NoSuchInstance` or `NoSuchCpu`, and never a refusal of a command that allocates late (`TakesMemoryLate`): `rmdir`, or a
-    /// write of anything but a declaration, a filter that doesn't clear, a trigger with a filter, or a hist trigger. Of these a command that takes no
+    /// If an allocation is refused, `Memory` may replace the answer, but never `NoSuchFile`, `NotReadable`, `NotWritable`, `BadValue`, `BadTrigger`,
+    /// `NoSuchEvent`, `InstanceExists`, `NoSuchInstance` or `NoSuchCpu`, and never a refusal of a command that allocates late (`TakesMemoryLate`): `rmdir`,
+    /// or a write of anything but a declaration, a filter that doesn't clear, a trigger with a filter, or a hist trigger. Of these a command that takes no
     /// memory at all (`TakesNoMemory`) has just its answer: any but a trigger that is attached, and a snapshot that needs a spare side.
     #[inline(always)]
     pub fn ask(&mut self, command: &Command<'_>) -> Result<Reply, Refusal>

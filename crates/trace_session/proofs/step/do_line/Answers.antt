@@ -8,9 +8,11 @@ use Rattle.trace_session.specs.Sessions.{turn_of}
 use Rattle.trace_session.proofs.SingleLines.{line_run}
 use Rattle.trace_session.proofs.step.do_line.Goals as goal
 
-pub returns-in_default-clause-run : goal.returns-in_default-clause-run
-returns-in_default-clause-run g c =
-    line_run g.W.Sink.wants_first c.args.line.number c.args.line.text.now (λ (config : Config). IsSessionPass config (view_of c.args.pass)) (progress_of (view_of c.args.pass))
-    (progress_of (view_of c.args.pass)) c.unasked-outcome.result
-    (λ config seat. c.unasked-outcome.ensures config (progress_of (view_of c.args.pass)) c.args.line.text.now (λ command. search rules) (search rules))
-    _ _ c.give.result c.give.ensures
+pub returns-in_default-clause-ran : goal.returns-in_default-clause-ran
+returns-in_default-clause-ran g c = (
+  λ config seat. seat,
+  line_run g.W.Sink.wants_first c.args.line.number c.args.line.text.now (λ (config : Config). IsSessionPass config (view_of c.args.pass)) (progress_of (view_of c.args.pass))
+      (progress_of (view_of c.args.pass)) c.unasked-outcome.result
+      (λ config seat. c.unasked-outcome.ensures config (progress_of (view_of c.args.pass)) c.args.line.text.now (λ command. search rules) (search rules))
+      _ _ c.give.result c.give.ensures,
+)

@@ -74,24 +74,28 @@ returns-in-Ok g c =
     let told = c.give_part.ensures in
     record {
       of = ran.of;
-      session = ran.session;
-      done = part_done g.W.Sink.wants_first seated threads before after written.text.items written.status c.hears.result written.outcomes.items gave c.give_part.result
-          (contents c.args.writer.now) (contents c.give_part.new.writer) c.args.replies.now c.give_part.new.replies
-          (heard c.args.writer.now) (heard c.give_part.new.writer) c.args.part.number c.args.part.text.now
-          told.status told.written c.hears.ensures told.heard told.all;
-      failures = told.failures;
-      memory = λ is. absurd (told.memory is);
-      unfailed = λ is. absurd (told.memory is);
-      stopped = λ is. absurd (told.stopped is);
-      passed = on_ok c.give_part.result (rw c.in-Ok.is at ran.gate);
-      passed_device = λ _. rw c.in-Ok.is at ran.gate;
-      part = λ is. absurd (told.stopped is);
-      unwritten = λ is. absurd (told.stopped is);
-      «open» = λ _ is. told.stopped is;
-      risen = λ is. (told.device is).0;
-      device = λ is. part_cut g.W.Sink.wants_first seated threads before after written.text.items written.status c.hears.result written.outcomes.items gave
-          (contents c.args.writer.now) (contents c.give_part.new.writer) c.args.replies.now (told.device is).1;
-      unheard = told.unheard;
+      ran = (
+        ran.session,
+        record {
+          done = part_done g.W.Sink.wants_first seated threads before after written.text.items written.status c.hears.result written.outcomes.items gave c.give_part.result
+              (contents c.args.writer.now) (contents c.give_part.new.writer) c.args.replies.now c.give_part.new.replies
+              (heard c.args.writer.now) (heard c.give_part.new.writer) c.args.part.number c.args.part.text.now
+              told.status told.written c.hears.ensures told.heard told.all;
+          failures = told.failures;
+          memory = λ is. absurd (told.memory is);
+          unfailed = λ is. absurd (told.memory is);
+          stopped = λ is. absurd (told.stopped is);
+          passed = on_ok c.give_part.result (rw c.in-Ok.is at ran.gate);
+          passed_device = λ _. rw c.in-Ok.is at ran.gate;
+          part = λ is. absurd (told.stopped is);
+          unwritten = λ is. absurd (told.stopped is);
+          «open» = λ _ is. told.stopped is;
+          risen = λ is. (told.device is).0;
+          device = λ is. part_cut g.W.Sink.wants_first seated threads before after written.text.items written.status c.hears.result written.outcomes.items gave
+              (contents c.args.writer.now) (contents c.give_part.new.writer) c.args.replies.now (told.device is).1;
+          unheard = told.unheard;
+        },
+      );
     }
 
 pub returns-in-Err : goal.returns-in-Err
@@ -100,18 +104,22 @@ returns-in-Err g c =
     let nothing = Passes_nothing (g.W.Sink.contents c.args.writer.now) c.args.replies.now in
     record {
       of = ran.of;
-      session = ran.session;
-      done = tt;
-      failures = tt;
-      memory = λ _. nothing;
-      unfailed = λ _. refl;
-      stopped = λ _. nothing;
-      passed = tt;
-      passed_device = λ is. absurd (ran.device (c.in-Err.is ∙ ap (λ (stop : Stop). Err stop) (stop_is (Err c.in-Err.stop) c.in-Err.stop Device refl is)));
-      part = λ is. ran.stopped (c.in-Err.is ∙ ap (λ (stop : Stop). Err stop) (stop_is (Err c.in-Err.stop) c.in-Err.stop Stopped refl is));
-      unwritten = λ _. refl;
-      «open» = λ gate is. ran.«open» gate (c.in-Err.is ∙ ap (λ (stop : Stop). Err stop) (stop_is (Err c.in-Err.stop) c.in-Err.stop Stopped refl is));
-      risen = λ is. absurd (ran.device (c.in-Err.is ∙ ap (λ (stop : Stop). Err stop) (stop_is (Err c.in-Err.stop) c.in-Err.stop Device refl is)));
-      device = λ is. absurd (ran.device (c.in-Err.is ∙ ap (λ (stop : Stop). Err stop) (stop_is (Err c.in-Err.stop) c.in-Err.stop Device refl is)));
-      unheard = refl;
+      ran = (
+        ran.session,
+        record {
+          done = tt;
+          failures = tt;
+          memory = λ _. nothing;
+          unfailed = λ _. refl;
+          stopped = λ _. nothing;
+          passed = tt;
+          passed_device = λ is. absurd (ran.device (c.in-Err.is ∙ ap (λ (stop : Stop). Err stop) (stop_is (Err c.in-Err.stop) c.in-Err.stop Device refl is)));
+          part = λ is. ran.stopped (c.in-Err.is ∙ ap (λ (stop : Stop). Err stop) (stop_is (Err c.in-Err.stop) c.in-Err.stop Stopped refl is));
+          unwritten = λ _. refl;
+          «open» = λ gate is. ran.«open» gate (c.in-Err.is ∙ ap (λ (stop : Stop). Err stop) (stop_is (Err c.in-Err.stop) c.in-Err.stop Stopped refl is));
+          risen = λ is. absurd (ran.device (c.in-Err.is ∙ ap (λ (stop : Stop). Err stop) (stop_is (Err c.in-Err.stop) c.in-Err.stop Device refl is)));
+          device = λ is. absurd (ran.device (c.in-Err.is ∙ ap (λ (stop : Stop). Err stop) (stop_is (Err c.in-Err.stop) c.in-Err.stop Device refl is)));
+          unheard = refl;
+        },
+      );
     }

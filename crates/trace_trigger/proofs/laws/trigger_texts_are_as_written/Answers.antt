@@ -1,4 +1,5 @@
 use Rattle.trace_trigger.proofs.TextLaws.{nothing_is_blanks, attach_is_written, remove_is_written, hist_is_read, remove_hist_is_read, hist_fault_is_told, bad_is_unwritten, filter_fault_is_moved}
+use Rattle.trace_trigger.proofs.TextCauses.{bad_text_has_cause}
 use Rattle.trace_trigger.proofs.laws.trigger_texts_are_as_written.Goals as goal
 
 pub returns-clause-nothing : goal.returns-clause-nothing
@@ -12,6 +13,9 @@ returns-clause-remove c = λ definition text. remove_is_written definition text
 
 pub returns-clause-bad : goal.returns-clause-bad
 returns-clause-bad c = λ definition text. bad_is_unwritten definition text
+
+pub returns-clause-cause : goal.returns-clause-cause
+returns-clause-cause c = λ definition text why. bad_text_has_cause definition text why
 
 pub returns-clause-filter : goal.returns-clause-filter
 returns-clause-filter c = λ definition text removes count condition fault. filter_fault_is_moved definition text removes count condition fault

@@ -25,7 +25,7 @@ returns-clause-exact c =
     c.in_ok-steps.ensures.steps ∙ (λ i. moves_from (c.fields.ensures.fields i) operands.Pid comparisons.Eq (tokens_of (spots_from false 0 0 (c.trim_end-body.ensures i)))) in
     let short : length (trimmed c.args.text.now) ≤ 1024 = omega (arith, c.if-trimmed-gt-LONGEST.false, ap length (c.trim-trimmed.ensures)) in
     let fine : reading start (spots_of c.args.text.now) (length c.args.text.now) ≡ Fine =
-    ap (λ w. reading start (spots_from false 0 0 w) (length c.args.text.now)) (sym c.trim_end-body.ensures) ∙ sym c.read_syntax.ensures ∙ c.in-Fine.is in
+    ap (λ w. reading start (spots_from false 0 0 w) (length c.args.text.now)) (sym c.trim_end-body.ensures) ∙ sym c.read_syntax-verdict.ensures.verdict ∙ c.in-Fine.is in
     let fits : first_fault c.args.def.now.fields operands.Pid (spots_of c.args.text.now) ≡ None = (λ i. first_fault (sym c.fields.ensures.fields i) operands.Pid (spots_from false 0 0 (sym c.trim_end-body.ensures i))) ∙ c.in_ok-steps.ensures.fits in
     filter_made c.args.def.now c.args.text.now c.in_ok-from_slice.field-0.items (map move_of c.in_ok-steps.steps.items) items_is moves_is short fine fits
 
@@ -33,7 +33,7 @@ pub returns-in_err-steps-clause-exact : goal.returns-in_err-steps-clause-exact
 returns-in_err-steps-clause-exact c =
     let short : length (trimmed c.args.text.now) ≤ 1024 = omega (arith, c.if-trimmed-gt-LONGEST.false, ap length (c.trim-trimmed.ensures)) in
     let fine : reading start (spots_of c.args.text.now) (length c.args.text.now) ≡ Fine =
-    ap (λ w. reading start (spots_from false 0 0 w) (length c.args.text.now)) (sym c.trim_end-body.ensures) ∙ sym c.read_syntax.ensures ∙ c.in-Fine.is in
+    ap (λ w. reading start (spots_from false 0 0 w) (length c.args.text.now)) (sym c.trim_end-body.ensures) ∙ sym c.read_syntax-verdict.ensures.verdict ∙ c.in-Fine.is in
     let same : first_fault c.fields.result.now operands.Pid (spots_from false 0 0 c.trim_end-body.result.now) ≡ first_fault c.args.def.now.fields operands.Pid (spots_of c.args.text.now) =
     (λ i. first_fault (c.fields.ensures.fields i) operands.Pid (spots_from false 0 0 (c.trim_end-body.ensures i))) in
     let p = err_from_is_err_and c.from_residual.result c.from_residual.ensures.1 in

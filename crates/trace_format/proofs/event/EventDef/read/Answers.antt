@@ -2,14 +2,18 @@ use Rattle.std.proofs.Common.{◌≡◌, ◌^◌, ◌<◌, List, length, Some, o
 use Rattle.trace_format.specs.declared.event.Field.{Field}
 use Rattle.trace_format.specs.Definitions.{Definition}
 use Rattle.trace_format.specs.Words.{spots_of}
-use Rattle.trace_format.specs.Reading.{reading, finish, definition_of}
+use Rattle.trace_format.specs.Reading.{reading, finish, definition_of, cause_from, cause_in}
 use Rattle.trace_format.specs.private.PayloadSizes.{IsPayloadSize}
 use Rattle.trace_format.proofs.Verdicts.{read_declared}
 use Rattle.trace_format.proofs.event.EventDef.read.Goals as goal
 
 pub loop-word-init : goal.loop-word-init
-unfolding definition_of
-loop-word-init c = (omega arith, ap (λ s. reading s (spots_of c.args.text.now) (length c.args.text.now)) c.new-reader.ensures)
+unfolding definition_of cause_in
+loop-word-init c = (
+  omega arith,
+  ap (λ s. reading s (spots_of c.args.text.now) (length c.args.text.now)) c.new-reader.ensures,
+  ap (λ s. cause_from s (spots_of c.args.text.now)) c.new-reader.ensures,
+)
 
 -- what was read is declared, and so it is a definition
 pub invariant_of-result : goal.invariant_of-result

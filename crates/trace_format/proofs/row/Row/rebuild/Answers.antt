@@ -1,6 +1,7 @@
 use Rattle.std.proofs.Common.{map, Ok, Err}
 use Rattle.trace_format.specs.Cells.{Cells, datum_of}
-use Rattle.trace_format.proofs.PairLemmas.{build_map, build_names, build_only, build_refused}
+use Rattle.trace_format.proofs.PairLemmas.{build_map, build_names, build_only}
+use Rattle.trace_format.proofs.RowCauseLemmas.{build_refused}
 use Rattle.trace_format.proofs.row.Row.rebuild.Goals as goal
 
 pub returns-in-Ok-clause-map : goal.returns-in-Ok-clause-map
@@ -24,4 +25,4 @@ returns-in-Err-clause-only c =
 
 pub returns-in-Err-clause-refused : goal.returns-in-Err-clause-refused
 returns-in-Err-clause-refused c =
-    build_refused c.args.def.now c.args.pairs.now (Err c.in-Err.fault) c.in-Err.ensures.exact c.fill.ensures.definition
+    build_refused c.args.def.now c.fill.ensures.definition c.args.pairs.now (Err c.in-Err.fault) c.in-Err.ensures.exact

@@ -1,4 +1,5 @@
 use Rattle.std.proofs.Common.{◌≡◌, ◌∙◌, true, false, None, Some, Err, option_copied, sym, ap, rules}
+use Rattle.trace_command.specs.declared.refusal.Limit.TheVariants.{Triggers}
 use Rattle.trace_command.specs.declared.refusal.Refusal.TheVariants.{TooMany}
 use Rattle.trace_instance.specs.private.Attaching as attaching
 use Rattle.trace_instance.specs.private.Attaching.{same_left}
@@ -22,7 +23,7 @@ pub returns-in_err-check_room : goal.returns-in_err-check_room
 returns-in_err-check_room c =
     let none : same_left c.args.spec c.args.self c.args.written.append ≡ None = search (rules, c.matching.ensures) in
     let attaches : attaching.attaches c.args.spec.action ≡ true = search rules in
-    let out : c.from_residual.result ≡ Err TooMany = search rules in
+    let out : c.from_residual.result ≡ Err (TooMany Triggers) = search rules in
     rw out (ask-full c.args.spec c.args.self c.args.written none attaches c.in_err-check_room.ensures.full.1)
 
 pub returns-in-Some-named_by : goal.returns-in-Some-named_by

@@ -1,6 +1,7 @@
 use Rattle.std.proofs.Common.{◌≡◌, ◌∙◌, ◌⊎◌, inl, inr, true, false, Ok, Err, is_some, ap, rules}
 use Rattle.trace_command.specs.Refusals.{refusal_of_trigger}
 use Rattle.trace_trigger.specs.TriggerTexts.{HasFilter, is_hist_text, said_of}
+use Rattle.trace_trigger.specs.declared.fault.TextCause.{TextCause}
 use Rattle.trace_trigger.specs.declared.fault.TriggerFault.TheVariants as fault
 use Rattle.trace_trigger.specs.declared.trigger.TriggerText.TheVariants as said
 use Rattle.trace_instance.proofs.Answering.{text-detaches, text-lacks, text-nothing, text-refused}
@@ -10,7 +11,7 @@ use Rattle.trace_instance.proofs.attach.EventTriggers.written.Goals as goal
 pub returns-in_err-parse-clause-change : goal.returns-in_err-parse-clause-change
 returns-in_err-parse-clause-change c =
     let faulty = c.in_err-parse.field-0.0 in
-    let told : (said_of c.args.event.now c.args.written.text.now ≡ Err fault.BadText → faulty ≡ fault.BadText) = search rules in
+    let told : ((cause : TextCause) → said_of c.args.event.now c.args.written.text.now ≡ Err (fault.BadText cause) → faulty ≡ fault.BadText cause) = search rules in
     let out : c.from_residual.result ≡ Err (refusal_of_trigger faulty) = search rules in
     rw out (text-refused c.args.event.now c.args.self c.args.written faulty c.in_err-parse.ensures.exact told)
 
