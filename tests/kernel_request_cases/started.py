@@ -8,7 +8,7 @@ import fuse
 from kernel_request_cases.sizes import every_node
 
 MODE, UID, GID = 9, 11, 12  # in a fuse_attr
-SECONDS = 20
+SECONDS = 100
 FULL = "/dev/full"
 BEGIN = fuse.request(fuse.INIT, 2, 0, b"\x07\0\0\0\x1f\0\0\0" + bytes(8))
 

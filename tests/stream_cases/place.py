@@ -11,7 +11,7 @@ SERVER = os.environ.get("SERVER", "")
 CLIENTS = Path(__file__).resolve().parent.parent / "stream_clients"
 TICK = "events/synthetic/tick/"
 INJECT = TICK + "inject"
-SECONDS = 20
+SECONDS = 100
 RECORD = re.compile(rb"^ *\d+ \[\d+\] \d+: tick: n=(\d+)$", re.M)
 CFLAGS = ["-std=gnu11", "-O1", "-Wall", "-Wextra"]
 
@@ -92,7 +92,7 @@ def resident():
     return int(re.search(r"VmRSS:\s*(\d+)", Path("/proc/%s/status" % SERVER).read_text())[1]) * 1024
 
 
-def wait_until(is_so, seconds=10):
+def wait_until(is_so, seconds=60):
     until = time.monotonic() + seconds
     while not is_so():
         assert time.monotonic() < until, "it did not come to that in %d seconds" % seconds

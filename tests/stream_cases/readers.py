@@ -22,7 +22,7 @@ WHOLE = {
     "dd of megabytes": ('dd if="$1" bs=1M status=none', "dd"),
     "head -c": ('head -c 9999999 "$1"', "head"),
     "tail -n +1": ('tail -n +1 "$1"', "tail"),
-    "tail -n +1 -f": ('timeout 0.3 tail -n +1 -f "$1" || [ $? -eq 124 ]', "timeout"),
+    "tail -n +1 -f": ('timeout 3 tail -n +1 -f "$1" || [ $? -eq 124 ]', "timeout"),
 }
 
 # These take as much as they were told, of a text that may have grown since. GNU tar says so by a status of 1; `less` may end at any multiple of 8,192
