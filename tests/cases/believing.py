@@ -110,6 +110,7 @@ READINGS = (
 CAUSES = {
     ("trace_format", "fault"): ("DeclarationCause", "RowCause"),
     ("trace_format", "Reading"): ("cause_in",),
+    ("trace_format", "Rows"): ("pair_cause",),
     ("trace_filter", "fault"): ("FilterCause",),
     ("trace_filter", "FilterCauses"): ("cause_at",),
     ("trace_trigger", "fault"): ("TextCause", "OperatorCause", "HistCause"),

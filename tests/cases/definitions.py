@@ -25,6 +25,7 @@ BOUND = re.compile(r"λ ([^.]*)\.|[({]((?:[a-z]\w* )+):|let (\w+)[ :]|[{;,] (\w+
 # Types with private fields, each with the function that returns what contracts see of it. So it need not be believed how that is made of the fields.
 RETURNED_BY = {
     ("trace_lex", "Text"): "as_bytes",
+    ("trace_format", "BoxedBadRow"): "get",
     ("trace_command", "Pairs"): "as_slice",
     ("command_log", "Entries"): "into_vec",
     ("trace_book", "Book"): "entries",

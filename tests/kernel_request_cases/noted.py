@@ -7,7 +7,8 @@ from kernel_request_cases.tracer import Tracer
 WHO = "events/synthetic/who/"
 INJECT = WHO + "inject"
 PAIRS, NO_FIELD, REPEATED = "expected `NAME=VALUE ..`", "the event has no field of this name", "the field is repeated"
-NO_NUMBER, NO_STRING = "its value is no number of the field's type", "its value is too long, or has a byte that is not from 0x20 to 0x7e"
+NO_NUMBER, NOT_IN_RANGE = "its value is no number from -2^63 to 2^64 - 1", "its value is out of the range of its type"
+TOO_LONG = "its value is too long"
 ONLY_NOP, FIXED = "expected `nop`, the only tracer", "expected the size that it has: sizes are fixed"
 AN_EVENT, ANY = "expected an event, as `synthetic:EVENT`, that is declared", None
 SHOWN = 256  # bytes of a line
@@ -17,8 +18,8 @@ REFUSED = [
     *((INJECT, "hello", PAIRS, 0), (INJECT, "n=1 hello", PAIRS, 4), (INJECT, "  n", PAIRS, 2)),
     *((INJECT, "x=1", NO_FIELD, 0), (INJECT, "n=1  x=1 b=1", NO_FIELD, 5), (INJECT, "common_pid=1", NO_FIELD, 0)),
     *((INJECT, "n=1 n=2", REPEATED, 4), (INJECT, "who=a n=1 who=b", REPEATED, 10)),
-    *((INJECT, "n=y", NO_NUMBER, 0), (INJECT, "b=1 n=-1", NO_NUMBER, 4), (INJECT, "n=1 b=256", NO_NUMBER, 4), (INJECT, "n=", NO_NUMBER, 0)),
-    (INJECT, "n=1 who=12345678", NO_STRING, 4),
+    *((INJECT, "n=y", NO_NUMBER, 0), (INJECT, "n=", NO_NUMBER, 0), (INJECT, "b=1 n=-1", NOT_IN_RANGE, 4), (INJECT, "n=1 b=256", NOT_IN_RANGE, 4)),
+    *((INJECT, "n=1 who=12345678", TOO_LONG, 4), (INJECT, "who='a b' n=y", NO_NUMBER, 10), (INJECT, "who='a b' n", PAIRS, 10)),
     *(("current_tracer", "function", ONLY_NOP, 0), ("current_tracer", " function_graph", ONLY_NOP, 1)),
     *((path, "4096", FIXED, 0) for path in ("buffer_size_kb", "per_cpu/cpu0/buffer_size_kb")),
     *(("set_event", "nobody", AN_EVENT, 0), ("set_event", "  sched:who", AN_EVENT, 2), ("set_event", "!nobody", AN_EVENT, 0)),

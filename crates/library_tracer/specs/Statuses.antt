@@ -28,7 +28,7 @@ status_of (Fault fault) = 100 + fault_number fault
 -- what was read, or the name of the field whose value is wrong
 abbrev pub reply_in : Outcome → List ℕ
 reply_in (Replied (Text text)) = text
-reply_in (Refused (BadRow field)) = field
+reply_in (Refused (BadRow bad)) = bad.field
 reply_in _ = []
 
 -- where the string that was written is wrong

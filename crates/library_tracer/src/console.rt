@@ -19,10 +19,10 @@ use crate::status;
 use std::alloc::{AllocError, Global};
 use std::marker::Model;
 use std::slice;
-use trace_command::{Command, Config, OwnedCommand, Refusal, Reply};
+use trace_command::{Command, Config, Refusal, Reply};
 use trace_format::FieldValue;
 use trace_lex::Text;
-use trace_script::{Line, LineError, Outcome, ScriptFault, prepare};
+use trace_script::{Line, LineError, LineRoom, Outcome, ScriptFault, prepare};
 use tracer::Tracer;
 
 /// A tracer for one caller, which keeps no history, and what the last call came to.
@@ -73,16 +73,6 @@ impl Console {
     {
         let answer = self.live.ask_within(self.limit, command);
         self.keep(answer);
-    }
-
-    /// Does a command with strings of its own, for whose pairs a list may be allocated.
-    fn ask_owned(&mut self, command: OwnedCommand)
-        ensures { ComesTo (after_command command) self.old self.new }
-    {
-        match command.lend_pairs(self.alloc) {
-            Ok(lent) => self.ask(&command.lent(lent.as_slice())),
-            Err(_) => self.tell(Outcome::Refused(Refusal::Memory)),
-        }
     }
 
     /// Does an emission of a string of fields, for which a list is allocated.
@@ -141,8 +131,10 @@ impl Console {
         ensures done { ComesTo (after_line line.now) self.old self.new }
         ensures status { result ≡ status_of self.new.last }
     {
-        match prepare(self.alloc, line) {
-            Ok(Line::Ask(command)) => self.ask_owned(command),
+        let mut room = LineRoom::new(self.alloc);
+        let mut pairs = Vec::new(self.alloc);
+        match prepare(&mut room, &mut pairs, line) {
+            Ok(Line::Ask(command)) => self.ask(&command),
             Ok(Line::Blank) => self.tell(Outcome::Replied(Reply::Done)),
             Ok(Line::Parallel | Line::Thread | Line::End) => {
                 self.tell(Outcome::Fault(ScriptFault::BlockOutOfPlace))

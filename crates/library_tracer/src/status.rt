@@ -42,7 +42,7 @@ pub(crate) fn reply_in(outcome: &Outcome) -> &[u8]
 {
     match outcome {
         Outcome::Replied(Reply::Text(text)) => text.as_bytes(),
-        Outcome::Refused(Refusal::BadRow { field }) => field.as_bytes(),
+        Outcome::Refused(Refusal::BadRow { row }) => row.get().field.as_bytes(),
         _ => &[],
     }
 }

@@ -103,7 +103,7 @@ command-notes scene error path file text NoCommand there = tt
 command-notes scene error path file text TooLong there = tt
 
 line-notes : (scene : SceneSeen) (event : Definition) (error : ErrorSeen) (text : List ℕ) (fault : LineFault) → owner_is_there scene error.owner ≡ true
-    → NotesThere scene (noted_line event error text fault)
+    → NotesThere scene (noted_line error text fault)
 line-notes scene event error text (Refused Memory) there = tt
 line-notes scene event error text (Refused refusal) there = there
 line-notes scene event error text NoCommand there = there
@@ -280,9 +280,9 @@ module _ (P : Request → Type 0) (C : Counted → Type 0) (g : Terms) (s : Serv
   other-is handle file bytes kinds.Inject there = write-text-is handle file bytes there
 
   injection-notes : (file : OpenSeen) (event : Definition) → owner_is_there (scene_of g s) file.owner ≡ true
-      → (ran : Ran) → NotesThere (scene_of g s) (noted_first_injection g s file event ran)
+      → (ran : Ran) → NotesThere (scene_of g s) (noted_first_injection g s file ran)
   injection-notes file event there ran =
-      first-notes (scene_of g s) (noted_line event (begun_now g (record s { past = ran.past }) file))
+      first-notes (scene_of g s) (noted_line (begun_now g (record s { past = ran.past }) file))
       (λ text fault. line-notes (scene_of g s) event (begun_now g (record s { past = ran.past }) file) text fault there) ran.done ran.refused
 
   inject-is : (handle lock_owner pid : ℕ) (bytes : List ℕ) (file : OpenSeen) (event : Option Definition) → owner_is_there (scene_of g s) file.owner ≡ true

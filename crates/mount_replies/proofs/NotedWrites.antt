@@ -207,7 +207,7 @@ module _ (g : Terms) (s : Service) (pid : ℕ) (operation : Operation) (F : Open
 
   line-notes : (past : List Request) (file : OpenSeen) (event : Definition) (text : List ℕ) (fault : LineFault) → F file → Injects file event
       → (KeepLines s → StopsFirst past file event text fault)
-      → NotesWell past (noted_line event (begun_now g (record s { past = past }) file) text fault) (Some (replies.Error (errno_of_fault fault)))
+      → NotesWell past (noted_line (begun_now g (record s { past = past }) file) text fault) (Some (replies.Error (errno_of_fault fault)))
   line-notes past file event text (Refused Memory) by ends stops = tt
   line-notes past file event text (Refused refusal) by ends stops =
       well-after past file text _ _ (errno_of refusal) by
@@ -319,7 +319,7 @@ module _ (g : Terms) (s : Service) (pid : ℕ) (operation : Operation) (F : Open
       after = stream_after file.stream lock_owner pid bytes
 
       noting : List ℕ → LineFault → Noting
-      noting = noted_line event (begun_now g (record s { past = ran.past }) file)
+      noting = noted_line (begun_now g (record s { past = ran.past }) file)
 
       refuses : (text : List ℕ) (fault : LineFault) → IsFirstRefused g s.past asked text fault → Refuses file event text fault
       refuses text fault first =
@@ -342,7 +342,7 @@ module _ (g : Terms) (s : Service) (pid : ℕ) (operation : Operation) (F : Open
       → writer_of file operation pid ≡ whose → (KeepLines s → own ≡ first_not_done file operation)
       → ((line : LineRefused) → (outcome (Some line)).reply ≡ Some (replies.Error (errno_of_fault line.fault)))
       → (ran : Ran) → MayRun g s.past (line_at_once (asked_by_line g.config.cpus whose event) own) ran
-      → NotesWell ran.past (noted_first_injection g s file event ran) (outcome ran.refused).reply
+      → NotesWell ran.past (noted_first_injection g s file ran) (outcome ran.refused).reply
   single-notes own whose file event outcome by ends same is says ran runs =
       lines ran.refused (λ line refused none all. stops-first ran.past file event asked line.text line.fault (refuses line.text line.fault all)
       (first-refused g s.past asked ran line (inr refl, tt) runs refused none))
@@ -354,7 +354,7 @@ module _ (g : Terms) (s : Service) (pid : ℕ) (operation : Operation) (F : Open
       asked = line_at_once asking own
 
       noting : List ℕ → LineFault → Noting
-      noting = noted_line event (begun_now g (record s { past = ran.past }) file)
+      noting = noted_line (begun_now g (record s { past = ran.past }) file)
 
       refuses : (text : List ℕ) (fault : LineFault) → KeepLines s → IsFirstRefused g s.past asked text fault → Refuses file event text fault
       refuses text fault all first =

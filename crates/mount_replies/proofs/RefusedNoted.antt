@@ -101,7 +101,7 @@ opened-none noting handle flags errno other is = absurd (let no : Some (replies.
 
 -- a line of `inject` that was not done
 line-noted : (event : Definition) (begun : ErrorSeen) (text : List ℕ) (fault : LineFault)
-    → NotesErrors (noted_line event begun text fault) (Some (replies.Error (errno_of_fault fault)))
+    → NotesErrors (noted_line begun text fault) (Some (replies.Error (errno_of_fault fault)))
 line-noted event begun text (Refused Memory) = no-memory Keeps
 line-noted event begun text (Refused refusal) = noted-one _ (Some (replies.Error (errno_of refusal)))
 line-noted event begun text NoCommand = noted-one _ (Some (replies.Error EINVAL))
@@ -342,36 +342,36 @@ module _ (g : Terms) (s : Service) where
       begun = begun_now g (record s { past = ran.past }) file
 
       one : (text : List ℕ) (done : ℕ) (t : Bool) (fault : LineFault)
-          → NotesErrors (if t then noted_line event begun text fault else Keeps)
+          → NotesErrors (if t then noted_line begun text fault else Keeps)
           (if t then told (replies.Error (errno_of_fault fault)) (if is_memory fault then s.files else drop_rest handle s.files)
           else told (replies.Written done) (with_stream (without_rest after) handle s.files)).reply
       one text done true fault = line-noted event begun text fault
       one text done false fault = written-none Keeps done
 
       lines : (done : ℕ) (refused : Option LineRefused)
-          → NotesErrors (noted_if_first (noted_line event begun) done refused) (injected handle after (length bytes) s.files done refused).reply
+          → NotesErrors (noted_if_first (noted_line begun) done refused) (injected handle after (length bytes) s.files done refused).reply
       lines done None = written-none Keeps (length bytes)
       lines done (Some line) = one line.text done (done == 0) line.fault
 
   -- one line
   single-tells : (file : OpenSeen) (event : Definition) (one : LineAsked) (outcome : Option LineRefused → Outcome)
       → NotesErrors Keeps (outcome None).reply → ((line : LineRefused) → (outcome (Some line)).reply ≡ Some (replies.Error (errno_of_fault line.fault)))
-      → (ran : Ran) → MayRun g s.past (one ∷ []) ran → NotesErrors (noted_first_injection g s file event ran) (outcome ran.refused).reply
+      → (ran : Ran) → MayRun g s.past (one ∷ []) ran → NotesErrors (noted_first_injection g s file ran) (outcome ran.refused).reply
   single-tells file event one outcome none says ran runs = lines ran.refused (λ line refused. one-refused g s.past one ran line runs refused)
     where
       begun : ErrorSeen
       begun = begun_now g (record s { past = ran.past }) file
 
       by : (line : LineRefused) (t : Bool) → t ≡ true
-          → NotesErrors (if t then noted_line event begun line.text line.fault else Keeps) (Some (replies.Error (errno_of_fault line.fault)))
+          → NotesErrors (if t then noted_line begun line.text line.fault else Keeps) (Some (replies.Error (errno_of_fault line.fault)))
       by line true is = line-noted event begun line.text line.fault
       by line false is = absurd (false≢true is)
 
       lines : (refused : Option LineRefused) → ((line : LineRefused) → refused ≡ Some line → (ran.done == 0) ≡ true)
-          → NotesErrors (noted_if_first (noted_line event begun) ran.done refused) (outcome refused).reply
+          → NotesErrors (noted_if_first (noted_line begun) ran.done refused) (outcome refused).reply
       lines None first = none
       lines (Some line) first =
-          subst (λ (r : Option Reply). NotesErrors (if ran.done == 0 then noted_line event begun line.text line.fault else Keeps) r) (sym (says line))
+          subst (λ (r : Option Reply). NotesErrors (if ran.done == 0 then noted_line begun line.text line.fault else Keeps) r) (sym (says line))
           (by line (ran.done == 0) (first line refl))
 
   inject-tells : (handle lock_owner pid : ℕ) (bytes : List ℕ) (file : OpenSeen) (event : Option Definition) → (event ≡ None → ⊥)

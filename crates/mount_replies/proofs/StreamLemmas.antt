@@ -1,17 +1,17 @@
 -- Lines that are events: one of them, those that end in a write, and what a write of them comes to.
-use Rattle.std.proofs.Common.{◌≡◌, ℕ, ◌+◌, ◌-◌, ◌%◌, ◌^◌, ◌<◌, ◌≤◌, true, false, nat_lt, List, [], ◌∷◌, ◌++◌, length, take, drop, Option, Some, None, Result, Ok, Err, Bor, refl, sym, ap, subst, ◌∙◌, inl, inr, arith, append-nil, length-drop, length-take, take_all}
+use Rattle.std.proofs.Common.{◌≡◌, ℕ, pos, ◌+◌, ◌-◌, ◌%◌, ◌^◌, ◌<◌, ◌≤◌, true, false, nat_lt, List, [], ◌∷◌, ◌++◌, length, take, drop, Option, Some, None, Result, Ok, Err, Bor, refl, sym, ap, subst, ◌∙◌, inl, inr, arith, append-nil, length-drop, length-take, take_all}
 use Rattle.std.proofs.lemmas.Bool.{lt-ltb}
 use Rattle.std.proofs.lemmas.Bool.Decides.{nat_tests}
 use Rattle.std.specs.List.{position, slice_get}
-use Rattle.std.specs.Option.{option_map, option_to_list}
-use Rattle.trace_command.specs.Requests.{Request}
+use Rattle.std.specs.Option.{option_to_list}
+use Rattle.trace_command.specs.Requests.{Request, Emission}
 use Rattle.trace_command.specs.declared.command.Reply.{Reply as Answer}
 use Rattle.trace_command.specs.declared.refusal.Refusal.{Refusal}
 use Rattle.trace_command.specs.declared.refusal.Refusal.TheVariants.{Memory}
 use Rattle.trace_format.specs.Definitions.{Definition}
 use Rattle.trace_format.specs.declared.pair.Pair.{Pair}
 use Rattle.tracer_specification.specs.Settings.{declared_events}
-use Rattle.mount_replies.specs.Injections.{injection, pairs_of_line}
+use Rattle.mount_replies.specs.Injections.{left_out, pairs_of_line}
 use Rattle.mount_replies.specs.Lines.{asked_by_line, asked_by_pairs, is_blank_line, is_newline, last_piece, most_kept, pieces_of, stream_lines}
 use Rattle.mount_replies.specs.Mounted.{HasLedTo, IsAsked, IsLineRun, IsQuiet, IsRun, MountSeen, all_done, stopped_at, terms_of}
 use Rattle.mount_replies.specs.Services.{Terms}
@@ -31,33 +31,14 @@ pub other-asks : (cpus pid : ℕ) (event : Definition) (line : List ℕ) → is_
     → asked_by_line cpus pid event line ≡ asked_by_pairs cpus pid event (pairs_of_line line)
 other-asks cpus pid event line some = rw some refl
 
-pub pairs-ask : (cpus pid : ℕ) (event : Definition) (pairs : Option (List Pair)) (request : Request)
-    → Some request ≡ option_map (injection (pid % cpus) event (pid % 2 ^ 31)) pairs → asked_by_pairs cpus pid event pairs ≡ AsksFor request
-pairs-ask cpus pid event None request is = absurd (cc)
-pairs-ask cpus pid event (Some pairs) request is =
-    let same : request ≡ injection (pid % cpus) event (pid % 2 ^ 31) pairs = cc in ap AsksFor (sym same)
-
-pub no-pairs-ask : (cpus pid : ℕ) (event : Definition) (pairs : Option (List Pair))
-    → None ≡ option_map (injection (pid % cpus) event (pid % 2 ^ 31)) pairs → asked_by_pairs cpus pid event pairs ≡ IsWrongLine
-no-pairs-ask cpus pid event None is = refl
-no-pairs-ask cpus pid event (Some pairs) is = absurd (cc)
-
 -- the event of a line is the one that is asked
-pub event-asks : (cpus own_cpus pid : ℕ) (event own : Definition) (line : List ℕ) (request : Request) → is_blank_line line ≡ false → cpus ≡ own_cpus → event ≡ own
-    → Some request ≡ option_map (injection (pid % cpus) event (pid % 2 ^ 31)) (pairs_of_line line) → asked_by_line own_cpus pid own line ≡ AsksFor request
-event-asks cpus own_cpus pid event own line request some cpus_are same is =
-    other-asks own_cpus pid own line some
-    ∙ pairs-ask own_cpus pid own (pairs_of_line line) request
-    (is ∙ ap (λ (n : ℕ). option_map (injection (pid % n) event (pid % 2 ^ 31)) (pairs_of_line line)) cpus_are
-    ∙ ap (λ (e : Definition). option_map (injection (pid % own_cpus) e (pid % 2 ^ 31)) (pairs_of_line line)) same)
+pub asks-same : (past : List Request) (old new : MountSeen) (asking other : Asking) (result : Result (Unit {0}) LineFault) → other ≡ asking
+    → DoesInjection past old new asking result → DoesInjection past old new other result
+asks-same past old new asking other result same does = subst (λ (a : Asking). DoesInjection past old new a result) (sym same) does
 
-pub no-event-asks : (cpus own_cpus pid : ℕ) (event own : Definition) (line : List ℕ) → is_blank_line line ≡ false → cpus ≡ own_cpus → event ≡ own
-    → None ≡ option_map (injection (pid % cpus) event (pid % 2 ^ 31)) (pairs_of_line line) → asked_by_line own_cpus pid own line ≡ IsWrongLine
-no-event-asks cpus own_cpus pid event own line some cpus_are same is =
-    other-asks own_cpus pid own line some
-    ∙ no-pairs-ask own_cpus pid own (pairs_of_line line)
-    (is ∙ ap (λ (n : ℕ). option_map (injection (pid % n) event (pid % 2 ^ 31)) (pairs_of_line line)) cpus_are
-    ∙ ap (λ (e : Definition). option_map (injection (pid % own_cpus) e (pid % 2 ^ 31)) (pairs_of_line line)) same)
+pub pairs-injected : (cpus own_cpus pid : ℕ) (event own : Definition) (pairs all : List Pair) (name : List ℕ) → cpus ≡ own_cpus → event ≡ own → name ≡ event.name
+    → all ≡ pairs ++ left_out pairs event.fields → asked_by_pairs own_cpus pid own (Some pairs) ≡ AsksFor (Emission name (pid % cpus) (pos (pid % 2 ^ 31)) all)
+pairs-injected cpus own_cpus pid event own pairs all name cpus_are same named are = rw (named, are, same, cpus_are) refl
 
 pub same-event : (event own : Definition) (seen : Option Definition) → Some event ≡ seen → seen ≡ Some own → event ≡ own
 same-event event own seen is there = cc

@@ -102,18 +102,18 @@ runs-for g past after done lines (Some stop) refused is runs =
 injected-step : (past : List Request) (old mid new : MountSeen) (own : OpenSeen) (event : Definition) (lines : List LineAsked)
     (outcome : List (Option OpenSeen) → ℕ → Option LineRefused → Outcome) (progress : Progress) (refused : Option LineRefused) (reply : Reply) (error : ErrorSeen)
     → (did : InjectsTo past old mid lines progress) → error ≡ begun_now (terms_of old) (service_of did.is.after old) own → IsRefusedFor progress.stop refused
-    → Ends mid new (outcome mid.files progress.done refused) (noted_if_first (noted_line event error) progress.done refused) mid.errors reply
+    → Ends mid new (outcome mid.files progress.done refused) (noted_if_first (noted_line error) progress.done refused) mid.errors reply
     → IsStep past old new
-    (AsksLines lines (λ (ran : Ran). outcome old.files ran.done ran.refused) (noted_first_injection (terms_of old) (service_of past old) own event)) (Some reply)
+    (AsksLines lines (λ (ran : Ran). outcome old.files ran.done ran.refused) (noted_first_injection (terms_of old) (service_of past old) own)) (Some reply)
 injected-step past old mid new own event lines outcome progress refused reply error did is told ends =
     let ran : Ran = record { past = did.is.after; done = progress.done; refused = refused } in
     let outcomes : Ran → Outcome = λ r. outcome old.files r.done r.refused in
-    let noting : Ran → Noting = noted_first_injection (terms_of old) (service_of past old) own event in
+    let noting : Ran → Noting = noted_first_injection (terms_of old) (service_of past old) own in
     let end : Ends mid new (outcomes ran) (noting ran) old.errors reply =
     subst (λ (b : List ErrorSeen). Ends mid new (outcomes ran) (noting ran) b reply) did.is.kept.errors
     (subst (λ (f : List (Option OpenSeen)). Ends mid new (outcome f progress.done refused) (noting ran) mid.errors reply) did.is.kept.files
     (subst (λ (e : ErrorSeen). Ends mid new (outcome mid.files progress.done refused)
-    (noted_if_first (noted_line event e) progress.done refused) mid.errors reply) is ends)) in
+    (noted_if_first (noted_line e) progress.done refused) mid.errors reply) is ends)) in
     subst (λ (m : MountSeen). IsStep past old m (AsksLines lines outcomes noting) (Some reply)) (sym end.now)
     (lines-step past old mid lines outcomes noting ran (outcomes ran).files (errors_after (noting ran) old.errors) reply did.is.mounted
     did.is.kept.terms did.is.kept.parked did.is.kept.counted
@@ -130,15 +130,15 @@ once-refused past old mid new own event owner file index pid line fault told err
     let asking = asked_by_line old.live.config.cpus pid event in
     let refused : Option LineRefused = Some (record { text = line.now; fault = told }) in
     let ran : Ran = record { past = past; done = 0; refused = refused } in
-    let noting : Ran → Noting = noted_first_injection (terms_of old) (service_of past old) own event in
-    let errors_are : errors_after (noted_line event (begun owner (now_of past) (path_of mid.scene (nodes.File owner file))) line.now told) mid.errors
+    let noting : Ran → Noting = noted_first_injection (terms_of old) (service_of past old) own in
+    let errors_are : errors_after (noted_line (begun owner (now_of past) (path_of mid.scene (nodes.File owner file))) line.now told) mid.errors
     ≡ errors_after (noting ran) old.errors =
-    ap (λ (e : ErrorSeen). errors_after (noted_line event e line.now told) mid.errors) (own-error past old mid own owner file did.mounted did.kept.terms is_owner is_file)
+    ap (λ (e : ErrorSeen). errors_after (noted_line e line.now told) mid.errors) (own-error past old mid own owner file did.mounted did.kept.terms is_owner is_file)
     ∙ ap (λ (b : List ErrorSeen). errors_after (noting ran) b) did.kept.errors in
     subst (λ (m : MountSeen). IsStep past old m (inject_at_once (terms_of old) (service_of past old) pid line.now own event) (Some (replies.Error errno)))
     (sym (notes.1 past event did.mounted there))
     (lines-step past old mid (line_at_once asking line.now) (λ (r : Ran). injected_at_once (length line.now) old.files r.refused) noting ran
-    mid.files (errors_after (noted_line event (begun owner (now_of past) (path_of mid.scene (nodes.File owner file))) line.now told) mid.errors)
+    mid.files (errors_after (noted_line (begun owner (now_of past) (path_of mid.scene (nodes.File owner file))) line.now told) mid.errors)
     (replies.Error errno) did.mounted did.kept.terms did.kept.parked did.kept.counted
     (told-run (terms_of old) past past 0 (line_at_once asking line.now) line.now fault told notes.0
     (did.runs 0 (record { text = line.now; asking = asking line.now; end = length line.now }) [] refl))
@@ -152,7 +152,7 @@ once-written past old mid own event pid size line did all =
     let asking = asked_by_line old.live.config.cpus pid event in
     let ran : Ran = all_done did.is.after (length line) in
     lines-step past old mid (line_at_once asking line) (λ (r : Ran). injected_at_once (length line) old.files r.refused)
-    (noted_first_injection (terms_of old) (service_of past old) own event) ran mid.files mid.errors (replies.Written size)
+    (noted_first_injection (terms_of old) (service_of past old) own) ran mid.files mid.errors (replies.Written size)
     did.is.mounted did.is.kept.terms did.is.kept.parked did.is.kept.counted
     (did.is.runs 0 (record { text = line; asking = asking line; end = length line }) [] ran refl refl)
     (ap (λ (n : ℕ). Some (replies.Written n)) (sym all)) did.is.kept.files did.is.kept.errors
@@ -166,7 +166,7 @@ stream-stopped old mid new target index size after progress stop fault errno sto
     let refused : Option LineRefused = Some (record { text = stop.line.now; fault = fault }) in
     let error : ErrorSeen = begun target.owner (now_of past) (path_of old.scene (nodes.File target.owner target.file)) in
     let taken : MountSeen → List (Option OpenSeen) = λ m. if is_memory fault then m.files else drop_rest target.handle m.files in
-    let ends : Ends old new (told (replies.Error (errno_of_fault fault)) (taken old)) (noted_line event error stop.line.now fault) old.errors (replies.Error errno) = record {
+    let ends : Ends old new (told (replies.Error (errno_of_fault fault)) (taken old)) (noted_line error stop.line.now fault) old.errors (replies.Error errno) = record {
       told = ap (λ (e : Errno). Some (replies.Error e)) (sym tells);
       now = is ∙ ap (λ (m : MountSeen). record m { files = taken m }) (notes.1 past event mounted there);
     } in (
@@ -174,7 +174,7 @@ stream-stopped old mid new target index size after progress stop fault errno sto
       subst (λ (s : Option Stop). IsRefusedFor s refused) (sym stops) (fault, notes.0, refl),
       subst (λ (t : Bool). Ends old new
           (if t then told (replies.Error (errno_of_fault fault)) (taken old) else told (replies.Written progress.done) (with_stream (without_rest after) target.handle old.files))
-          (if t then noted_line event error stop.line.now fault else Keeps) old.errors (replies.Error errno)) (sym (eq-eqb progress.done 0 none)) ends,
+          (if t then noted_line error stop.line.now fault else Keeps) old.errors (replies.Error errno)) (sym (eq-eqb progress.done 0 none)) ends,
     )
 
 -- what is kept of a stream is dropped unless memory was refused
@@ -211,7 +211,7 @@ stream-kept old mid now target index size after kept progress stop stops some vi
       subst (λ (t : Bool). Ends old new
           (if t then told (replies.Error (errno_of_fault stop.fault)) (if is_memory stop.fault then old.files else drop_rest target.handle old.files)
           else told (replies.Written progress.done) (with_stream (without_rest after) target.handle old.files))
-          (if t then noted_line event error stop.line.now stop.fault else Keeps) old.errors (replies.Written progress.done)) (sym (some-done progress.done some)) ends,
+          (if t then noted_line error stop.line.now stop.fault else Keeps) old.errors (replies.Written progress.done)) (sym (some-done progress.done some)) ends,
     )
 
 -- a write to a stream
@@ -238,9 +238,9 @@ stream-written past old mid new own event target index lock_owner pid kept size 
     injected-step past old mid new own event lines (λ f done refused. injected target.handle stream (length written) f done refused) progress end.0 reply error did
     (own-error did.is.after old mid own target.owner target.file did.is.mounted did.is.kept.terms is_owner is_file) end.1
     (subst (λ (n : ℕ). Ends mid new (injected target.handle stream n mid.files progress.done end.0)
-    (noted_if_first (noted_line event error) progress.done end.0) mid.errors reply) size_is
+    (noted_if_first (noted_line error) progress.done end.0) mid.errors reply) size_is
     (subst (λ (s : Stream). Ends mid new (injected target.handle s size mid.files progress.done end.0)
-    (noted_if_first (noted_line event error) progress.done end.0) mid.errors reply) stream_is end.2))
+    (noted_if_first (noted_line error) progress.done end.0) mid.errors reply) stream_is end.2))
 
 -- each of its lines takes memory
 line-takes : (g : Terms) (past : List Request) (cpus pid : ℕ) (event : Definition) (more : Type 0) (line : List ℕ) → (more → ⊥)
@@ -278,7 +278,7 @@ stream-unread past old own event handle lock_owner pid written mounted =
     unread-step past old
     (stream_lines (asked_by_line old.live.config.cpus pid event) (length own.stream.rest) (length written) 0 (pieces_of (own.stream.rest ++ written)))
     (λ (ran : Ran). injected handle (stream_after own.stream lock_owner pid written) (length written) old.files ran.done ran.refused)
-    (noted_first_injection (terms_of old) (service_of past old) own event) mounted refl refl
+    (noted_first_injection (terms_of old) (service_of past old) own) mounted refl refl
     (stream-takes (terms_of old) past old.live.config.cpus pid event (length own.stream.rest) (length written) 0 (pieces_of (own.stream.rest ++ written)))
 
 -- ---- a line ends
@@ -325,7 +325,7 @@ pub line-refused : (past : List Request) (old mid new : MountSeen) (own : OpenSe
 line-refused past old mid new own event owner file index pid line fault told is_owner is_file did there notes =
     let asking = asked_by_line old.live.config.cpus pid event in
     let error : ErrorSeen = begun owner (now_of past) (path_of mid.scene (nodes.File owner file)) in
-    let ended : EndsLineAs past old (record mid { errors = errors_after (noted_line event error line.now told) mid.errors }) own event asking line.now
+    let ended : EndsLineAs past old (record mid { errors = errors_after (noted_line error line.now told) mid.errors }) own event asking line.now
     (Some (record { text = line.now; fault = told })) = record {
       after = past;
       mounted = record { lives = did.mounted.lives; scene = did.mounted.scene };
@@ -336,9 +336,9 @@ line-refused past old mid new own event owner file index pid line fault told is_
       done = 0;
       runs = told-run (terms_of old) past past 0 (line_at_once asking line.now) line.now fault told notes.0
           (did.runs 0 (record { text = line.now; asking = asking line.now; end = length line.now }) [] refl);
-      errors = ap (λ (e : ErrorSeen). errors_after (noted_line event e line.now told) mid.errors)
+      errors = ap (λ (e : ErrorSeen). errors_after (noted_line e line.now told) mid.errors)
           (own-error past old mid own owner file did.mounted did.kept.terms is_owner is_file)
-          ∙ ap (λ (b : List ErrorSeen). errors_after (noted_line event (begun_now (terms_of old) (service_of past old) own) line.now told) b) did.kept.errors;
+          ∙ ap (λ (b : List ErrorSeen). errors_after (noted_line (begun_now (terms_of old) (service_of past old) own) line.now told) b) did.kept.errors;
     } in
     subst (λ (m : MountSeen). EndsLineAs past old m own event asking line.now (Some (record { text = line.now; fault = told }))) (sym (notes.1 past event did.mounted there)) ended
 
@@ -360,7 +360,7 @@ ended-step past old mid new now own event pid line refused outcome reply view pi
     (subst (λ (n : ℕ). EndsLineAs past (record old { files = now }) new own event (asked_by_line old.live.config.cpus n event) line refused) pid_is
     (subst (λ (m : MountSeen). EndsLineAs past (record m { files = now }) new own event (asked_by_line m.live.config.cpus pid event) line refused) view given)) in
     lines-step past old new (line_at_once asking own.stream.rest) (λ (ran : Ran). outcome ran.refused)
-    (noted_first_injection (terms_of old) (service_of past old) own event) (record { past = ends.after; done = ends.done; refused = refused })
+    (noted_first_injection (terms_of old) (service_of past old) own) (record { past = ends.after; done = ends.done; refused = refused })
     new.files new.errors reply ends.mounted ends.terms ends.parked ends.counted ends.runs told (ends.files ∙ files_are) ends.errors
 
 -- ---- which write it is

@@ -29,8 +29,7 @@ use Rattle.mount_replies.specs.Lines.{command_lines, stream_lines}
 use Rattle.fuse_wire.specs.Parts.{number_bytes}
 use Rattle.fuse_wire.specs.declared.request.Operation.{Operation}
 use Rattle.fuse_wire.specs.declared.request.Operation.TheVariants.{Flush, Read, Release, Write}
-use Rattle.refusal_explanations.specs.TriggerStrings.{trigger_words}
-use Rattle.refusal_explanations.specs.Wording.{refusal_words}
+use Rattle.refusal_explanations.specs.Words.{refusal_words, trigger_words}
 use Rattle.trace_command.specs.declared.file_name.EventFile.TheVariants as per_event
 use Rattle.trace_command.specs.declared.file_name.TopFile.TheVariants as top_files
 use Rattle.mount_tree.specs.Nodes.{number_of}

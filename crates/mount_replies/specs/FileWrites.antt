@@ -80,24 +80,24 @@ write_other g s handle file bytes kind = write_text g s handle file bytes
 
 -- ---- `inject`
 
-abbrev pub noted_injection : Terms → Service → OpenSeen → Definition → List ℕ → LineFault → Noting
-noted_injection g s file event text fault = noted_line event (begun_now g s file) text fault
+abbrev pub noted_injection : Terms → Service → OpenSeen → List ℕ → LineFault → Noting
+noted_injection g s file text fault = noted_line (begun_now g s file) text fault
 
 -- at the time after the lines before it
-abbrev pub noted_first_injection : Terms → Service → OpenSeen → Definition → Ran → Noting
-noted_first_injection g s file event ran = noted_if_first (noted_injection g (record s { past = ran.past }) file event) ran.done ran.refused
+abbrev pub noted_first_injection : Terms → Service → OpenSeen → Ran → Noting
+noted_first_injection g s file ran = noted_if_first (noted_injection g (record s { past = ran.past }) file) ran.done ran.refused
 
 -- lines are events of the process that writes
 abbrev pub inject_stream : Terms → Service → ℕ → ℕ → ℕ → List ℕ → OpenSeen → Definition → Step
 inject_stream g s handle lock_owner pid bytes file event =
     AsksLines (stream_lines (asked_by_line g.config.cpus pid event) (length file.stream.rest) (length bytes) 0 (pieces_of (file.stream.rest ++ bytes)))
     (λ (ran : Ran). injected handle (stream_after file.stream lock_owner pid bytes) (length bytes) s.files ran.done ran.refused)
-    (noted_first_injection g s file event)
+    (noted_first_injection g s file)
 
 abbrev pub inject_at_once : Terms → Service → ℕ → List ℕ → OpenSeen → Definition → Step
 inject_at_once g s pid bytes file event =
     AsksLines (line_at_once (asked_by_line g.config.cpus pid event) bytes)
-    (λ (ran : Ran). injected_at_once (length bytes) s.files ran.refused) (noted_first_injection g s file event)
+    (λ (ran : Ran). injected_at_once (length bytes) s.files ran.refused) (noted_first_injection g s file)
 
 abbrev pub inject_lines : Terms → Service → ℕ → ℕ → ℕ → List ℕ → OpenSeen → Definition → Step
 inject_lines g s handle lock_owner pid bytes file event =
@@ -138,7 +138,7 @@ event_of_file g s file _ = None
 abbrev pub end_line : Terms → Service → OpenSeen → (Option LineRefused → Outcome) → Definition → Step
 end_line g s file outcome event =
     AsksLines (line_at_once (asked_by_line g.config.cpus file.stream.pid event) file.stream.rest)
-    (λ (ran : Ran). outcome ran.refused) (noted_first_injection g s file event)
+    (λ (ran : Ran). outcome ran.refused) (noted_first_injection g s file)
 
 -- The line ends with the writer's descriptors: at the FLUSH of who wrote it, which is told what becomes of it; of another's FLUSH, as a child's that got
 -- the descriptor, it knows nothing.

@@ -14,8 +14,8 @@ use Rattle.trace_command.specs.declared.refusal.Refusal.{Refusal}
 use Rattle.trace_command.specs.declared.refusal.Refusal.TheVariants.{Memory}
 use Rattle.trace_format.specs.Definitions.{Definition}
 use Rattle.trace_format.specs.declared.pair.Pair.{Pair}
-use Rattle.refusal_explanations.specs.InjectionWords.{injection_offset, injection_words}
-use Rattle.refusal_explanations.specs.Writes.{write_offset, write_words}
+use Rattle.refusal_explanations.specs.Places.{injection_offset, write_offset}
+use Rattle.refusal_explanations.specs.Words.{injection_words, write_words}
 use Rattle.error_log.specs.Errors.{ErrorSeen, refused}
 use Rattle.file_list.specs.FileKinds.{takes_lines}
 use Rattle.mount_tree.specs.Scenes.{SceneSeen}
@@ -120,11 +120,10 @@ abbrev pub refusal_in : LineFault → Option Refusal
 refusal_in (Refused refusal) = Some refusal
 refusal_in _ = None
 
-abbrev pub noted_line : Definition → ErrorSeen → List ℕ → LineFault → Noting
-noted_line event begun text (Refused Memory) = Keeps
-noted_line event begun text TooLong = Notes (refused begun text (codes "a line that has not ended has at most 4,096 bytes") most_kept)
-noted_line event begun text fault =
-    Notes (refused begun text (injection_words event text (refusal_in fault)) (injection_offset event text (refusal_in fault)))
+abbrev pub noted_line : ErrorSeen → List ℕ → LineFault → Noting
+noted_line begun text (Refused Memory) = Keeps
+noted_line begun text TooLong = Notes (refused begun text (codes "a line that has not ended has at most 4,096 bytes") most_kept)
+noted_line begun text fault = Notes (refused begun text (injection_words (refusal_in fault)) (injection_offset text (refusal_in fault)))
 
 -- it is noted where it is told
 abbrev pub noted_if_first : (List ℕ → LineFault → Noting) → ℕ → Option LineRefused → Noting

@@ -17,8 +17,7 @@ use Rattle.trace_command.specs.declared.refusal.Refusal.{Refusal}
 use Rattle.trace_format.specs.Definitions.{Definition}
 use Rattle.tracer_specification.specs.Settings.{declared_events}
 use Rattle.tracer.specs.Lives.{live_answer}
-use Rattle.refusal_explanations.specs.InjectionWords.{injection_offset}
-use Rattle.refusal_explanations.specs.Writes.{write_offset}
+use Rattle.refusal_explanations.specs.Places.{injection_offset, write_offset}
 use Rattle.error_log.specs.Errors.{ErrorSeen, error_text, refused}
 use Rattle.error_log.specs.LogLaws.{Change, Cleared, Noted, StandsUnder, last_eight, noted_since}
 use Rattle.error_log.specs.Logs.{errors_of}
@@ -200,7 +199,7 @@ pub data IsBlamed (g : Terms) (s : Service) (pid : ℕ) (operation : Operation) 
   -- of a line of `inject`, the one that its fault says; where open files keep lines, it is the first line that was not done
   OfEvent : (event : Definition) (fault : LineFault) → EndsLines operation → event_injected s file.file ≡ Some event
       → (KeepLines s → IsFirstNotDone g s pid operation file event text fault) → errno ≡ errno_of_fault fault
-      → offset ≡ injection_offset event text (refusal_in fault) → IsBlamed g s pid operation file text offset errno
+      → offset ≡ injection_offset text (refusal_in fault) → IsBlamed g s pid operation file text offset errno
   -- of one that has not ended and is too long, the first that has no room
   OfLongLine : (event : Definition) → EndsLines operation → event_injected s file.file ≡ Some event → (KeepLines s → IsAllNotDone operation file text)
       → errno ≡ EINVAL → offset ≡ most_kept → IsBlamed g s pid operation file text offset errno

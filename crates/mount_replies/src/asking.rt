@@ -25,7 +25,7 @@ use crate::noting::note_answer;
 use fuse_wire::Errno;
 use mount_tree::{File, Node, Owner};
 use std::alloc::{AllocError, Global};
-use trace_command::{OwnedCommand, Refusal, Reply};
+use trace_command::{Command, Refusal, Reply};
 use trace_format::EventDef;
 use trace_lex::Text;
 use trace_script::declared;
@@ -41,15 +41,12 @@ impl Mount {
     }
 
     /// Asks an emission.
-    pub(crate) fn ask_emission(&mut self, command: &OwnedCommand) -> Result<Reply, Refusal>
+    pub(crate) fn ask_emission(&mut self, command: &Command<'_>) -> Result<Reply, Refusal>
         requires quiet { IsQuiet (request_of command.now) }
         requires emits { ticks (request_of command.now) ≡ 1 }
         ensures { AsksBy self.old self.new (request_of command.now) result }
     {
-        let Ok(lent) = command.lend_pairs(self.alloc) else {
-            return Err(Refusal::Memory);
-        };
-        self.live.ask(&command.lent(lent.as_slice()))
+        self.live.ask(command)
     }
 
     /// Reads a file that is there; of a pipe at most so many records.

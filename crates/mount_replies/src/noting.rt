@@ -14,7 +14,6 @@ use mount_stub_files::{wrong_offset, wrong_words};
 use mount_tree::{File, Node};
 use refusal_explanations::{injection_offset, injection_words, write_offset, write_words};
 use trace_command::Refusal;
-use trace_format::EventDef;
 
 /// The most bytes of a line that has not ended.
 pub(crate) const MOST_KEPT: usize = 4096;
@@ -72,14 +71,9 @@ pub(crate) fn note_command(
 }
 
 /// What was noted last was refused, as a line that was to be an event.
-pub(crate) fn note_injection(
-    errors: &mut ErrorLog,
-    event: &EventDef,
-    line: &[u8],
-    fault: &LineFault,
-)
+pub(crate) fn note_injection(errors: &mut ErrorLog, line: &[u8], fault: &LineFault)
     ensures { (before : List ErrorSeen) (error : ErrorSeen) → errors.old ≡ before ++ error ∷ []
-        → errors.new ≡ errors_after (noted_line event.now error line.now fault.now) before }
+        → errors.new ≡ errors_after (noted_line error line.now fault.now) before }
 {
     match fault {
         LineFault::Refused(Refusal::Memory) => errors.take_back(),
@@ -89,8 +83,8 @@ pub(crate) fn note_injection(
             MOST_KEPT,
         ),
         LineFault::NoCommand | LineFault::Refused(_) => {
-            let words = injection_words(event, line, fault.refusal());
-            errors.finish(line, words, injection_offset(event, line, fault.refusal()));
+            let words = injection_words(fault.refusal());
+            errors.finish(line, words, injection_offset(line, fault.refusal()));
         }
     }
 }

@@ -1,8 +1,8 @@
 -- Attributes looked for one byte after the other.
-use Rattle.std.proofs.Common.{◌≡◌, ◌<◌, ◌+◌, ℕ, Bool, true, false, List, length, drop, refl, suc, add-one}
+use Rattle.std.proofs.Common.{◌≡◌, ◌<◌, ◌+◌, ℕ, true, false, List, length, drop, refl, add-one}
 use Rattle.std.proofs.Math.Seq.{drop-cons}
 use Rattle.std.specs.Prelude.{if◌then◌else◌, Some}
-use Rattle.refusal_explanations.specs.TriggerStrings.{attribute_from, is_attribute}
+use Rattle.refusal_explanations.specs.Places.{attribute_from, is_attribute}
 
 -- one that begins here is found here, and else looked for after this byte
 pub attribute_step : (attribute text : List ℕ) (at : ℕ) → at < length text

@@ -1,7 +1,7 @@
 -- Offsets found one after the other.
-use Rattle.std.proofs.Common.{◌≡◌, ◌<◌, ◌≤◌, ℕ, ◌+◌, Bool, List, ◌++◌, length, drop, get_or, append_assoc, ap, sym, ◌∙◌}
+use Rattle.std.proofs.Common.{◌≡◌, ◌<◌, ◌≤◌, ℕ, ◌+◌, Bool, true, false, List, ◌∷◌, ◌++◌, length, drop, get_or, append_assoc, ap, sym, ◌∙◌, refl}
 use Rattle.std.proofs.lemmas.List.{drop_all, drop_more}
-use Rattle.refusal_explanations.specs.Carets.{next_end, next_stand, ends_at, has_offset, one_if, offsets_from}
+use Rattle.refusal_explanations.specs.Carets.{begins_word, next_end, next_stand, ends_at, has_offset, one_if, offsets_from, starts_from}
 use Rattle.refusal_explanations.specs.declared.caret.Stand.{Stand}
 
 -- the offsets so far, and those of the rest
@@ -26,3 +26,19 @@ pub offsets_end : (offsets more line : List ℕ) (stand : Stand) (end at : ℕ) 
     → more ≡ offsets ++ offsets_from stand end at (drop at line)
 offsets_end offsets more line stand end at past is =
     is ∙ ap (λ (xs : List ℕ). offsets ++ offsets_from stand end at xs) (sym (drop_all at line past))
+
+-- ---- where words begin
+
+module _ (line : List ℕ) (stand : Stand) (at : ℕ) (within : at < length line) where
+  starts_step : starts_from stand at (drop at line)
+      ≡ one_if (begins_word stand (get_or line at 0)) at ++ starts_from (next_stand stand (get_or line at 0)) (at + 1) (drop (at + 1) line)
+  starts_step = rw (drop_more line at 0 within) refl
+
+  -- one begins here, or none
+  pub starts_here : begins_word stand (get_or line at 0) ≡ true
+      → starts_from stand at (drop at line) ≡ at ∷ starts_from (next_stand stand (get_or line at 0)) (at + 1) (drop (at + 1) line)
+  starts_here is = starts_step ∙ rw is refl
+
+  pub starts_later : begins_word stand (get_or line at 0) ≡ false
+      → starts_from stand at (drop at line) ≡ starts_from (next_stand stand (get_or line at 0)) (at + 1) (drop (at + 1) line)
+  starts_later is = starts_step ∙ rw is refl

@@ -1,3 +1,2 @@
 pub mod CaretLemmas
 pub mod AttributeLemmas
-pub mod InjectionLemmas

@@ -1,5 +1,5 @@
--- Which byte of a script's line is a byte of what it writes.
-use Rattle.std.specs.Prelude.{ℕ, ◌+◌, Bool, false, not, ◌||◌, ◌==◌, if◌then◌else◌, List, [], ◌∷◌, ◌++◌, drop, slice_get, Option}
+-- Which byte of a script's line is a byte of what it writes, and where its words begin.
+use Rattle.std.specs.Prelude.{ℕ, ◌+◌, Bool, true, false, not, ◌&&◌, ◌||◌, ◌==◌, if◌then◌else◌, List, [], ◌∷◌, ◌++◌, drop, find, slice_get, Option}
 use Rattle.trace_lex.specs.Blanks.{is_blank}
 use Rattle.trace_script.specs.Tokens.{is_end, is_quote}
 use Rattle.refusal_explanations.specs.declared.caret.Stand.{Stand}
@@ -43,3 +43,43 @@ offsets_of line = offsets_from Between 0 0 line
 -- stands where the first of them ends, and so does the end of what is written.
 abbrev pub written_offset : List ℕ → ℕ → Option ℕ
 written_offset line at = slice_get (drop 5 (offsets_of line)) at
+
+-- ---- words
+
+-- a word, or a `>` (62), begins at a byte
+abbrev pub begins_word : Stand → ℕ → Bool
+begins_word Between b = not (is_blank b)
+begins_word InWord b = b == 62
+begins_word (InQuotes quote) b = false
+
+-- where these begin in the rest of a line, which begins at `at`
+abbrev pub starts_from : Stand → ℕ → List ℕ → List ℕ
+starts_from stand at [] = []
+starts_from stand at (b ∷ bs) = one_if (begins_word stand b) at ++ starts_from (next_stand stand b) (at + 1) bs
+
+unfoldable pub starts_of : List ℕ → List ℕ
+starts_of line = starts_from Between 0 line
+
+-- where the word of this index begins; in the line of an emission the pair of this index, whose pairs are its fifth word and those after it
+abbrev pub word_at : List ℕ → ℕ → Option ℕ
+word_at line index = slice_get (starts_of line) index
+
+abbrev pub pair_offset : List ℕ → ℕ → Option ℕ
+pair_offset line index = slice_get (drop 4 (starts_of line)) index
+
+-- a word ends before a byte, or it is a `>` alone
+abbrev pub stops_before : Stand → ℕ → Bool
+stops_before (InQuotes quote) b = false
+stops_before _ b = is_end b
+
+-- the word that begins a string, or goes on with it, has no `=` (61) there, in quotes or not
+unfoldable pub is_bare_from : Stand → List ℕ → Bool
+is_bare_from stand [] = true
+is_bare_from stand (b ∷ bs) = if stops_before stand b then true else (not (b == 61) && is_bare_from (next_stand stand b) bs)
+
+abbrev pub is_bare : List ℕ → Bool
+is_bare text = is_bare_from Between text
+
+-- where the first such word begins
+abbrev pub first_bare : List ℕ → Option ℕ
+first_bare line = find (λ at. is_bare (drop at line)) (starts_of line)

@@ -1,10 +1,6 @@
 pub mod Bytes
 pub mod Carets
-pub mod CauseWords
-pub mod TriggerStrings
-pub mod Wording
 pub mod Places
+pub mod Words
 pub mod Layout
 pub mod Explanations
-pub mod Writes
-pub mod InjectionWords

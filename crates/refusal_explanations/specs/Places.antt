@@ -1,12 +1,56 @@
--- Which byte of what is written is to blame for a refusal.
-use Rattle.std.specs.Prelude.{ℕ, ◌+◌, List, Option, Some, None, codes}
+-- Which byte of what is written, or which word of a line, is to blame for a refusal.
+use Rattle.std.specs.Prelude.{ℕ, ◌+◌, Bool, nat_lt, if◌then◌else◌, List, [], ◌∷◌, length, drop, codes, Option, Some, None, option_and_then, unwrap_or}
 use Rattle.std.specs.List.{prefix_len}
 use Rattle.std.specs.Option.{option_or}
+use Rattle.std.specs.Str.{bytes_eq}
 use Rattle.trace_lex.specs.Blanks.{is_blank}
-use Rattle.trace_trigger.specs.TriggerTexts.{word_of}
+use Rattle.trace_trigger.specs.Frames.{is_unblank}
+use Rattle.trace_trigger.specs.TriggerTexts.{begins, word_of, after_word}
+use Rattle.trace_trigger.specs.declared.fault.TextCause.{TextCause}
+use Rattle.trace_trigger.specs.declared.fault.TextCause.TheVariants.{Kind, Count, AfterSnapshot, Condition, Filter}
 use Rattle.trace_command.specs.declared.refusal.Refusal.{Refusal}
-use Rattle.trace_command.specs.declared.refusal.Refusal.TheVariants.{BadValue, BadTrigger, EventExists, BadDefinition, TooBig, FilterSyntax, NoSuchField, WrongOperator, HistSyntax, BadSize, TriggerExists, NoSuchTrigger, TooMany, Busy}
-use Rattle.refusal_explanations.specs.TriggerStrings.{attribute_at, trigger_offset}
+use Rattle.trace_command.specs.declared.refusal.Refusal.TheVariants.{BadValue, BadTrigger, EventExists, BadDefinition, TooBig, FilterSyntax, NoSuchField, WrongOperator, HistSyntax, BadSize, TriggerExists, NoSuchTrigger, TooMany, Busy, BadRow}
+use Rattle.refusal_explanations.specs.Carets.{first_bare, word_at}
+
+-- ---- a trigger
+
+-- how many bytes the word and the blanks after it have
+abbrev pub after_gap : List ℕ → ℕ
+after_gap body = prefix_len is_unblank body + prefix_len is_blank (after_word body)
+
+-- `hist` alone lacks its keys
+abbrev pub is_bare_hist : List ℕ → Bool
+is_bare_hist body = bytes_eq (word_of body) (codes "hist")
+
+-- where all that follows an optional `!` is wrong
+abbrev pub body_offset : TextCause → List ℕ → ℕ
+body_offset Kind body = if is_bare_hist body then 4 else 0
+body_offset Count body = 9
+body_offset AfterSnapshot body = 8
+body_offset Condition body = after_gap body
+body_offset Filter body = length body
+
+abbrev pub mark_len : List ℕ → ℕ
+mark_len text = if begins (codes "!") text then 1 else 0
+
+abbrev pub trigger_offset : TextCause → List ℕ → ℕ
+trigger_offset cause text = mark_len text + body_offset cause (drop (mark_len text) text)
+
+-- ---- an attribute, given with the `:` before it
+
+-- whether it begins here
+unfoldable pub is_attribute : List ℕ → List ℕ → Bool
+is_attribute attribute text = begins attribute text
+
+-- where it is in the rest of a trigger, which begins at `at`
+abbrev pub attribute_from : List ℕ → ℕ → List ℕ → Option ℕ
+attribute_from attribute at [] = None
+attribute_from attribute at (b ∷ bs) = if is_attribute attribute (b ∷ bs) then Some at else attribute_from attribute (at + 1) bs
+
+unfoldable pub attribute_at : List ℕ → List ℕ → Option ℕ
+attribute_at attribute text = attribute_from attribute 0 text
+
+-- ---- a write
 
 -- the offset that a refusal names in what is written, if it names one
 abbrev pub named_offset : Refusal → Option ℕ
@@ -38,3 +82,25 @@ other_offset text _ = None
 -- the byte that is to blame of this text, if one is, whose write was refused
 abbrev pub blamed_offset : List ℕ → Refusal → Option ℕ
 blamed_offset text refusal = option_or (named_offset refusal) (other_offset text refusal)
+
+-- or, if there is none, 0; never beyond the text's end
+abbrev pub at_most : ℕ → ℕ → ℕ
+at_most most at = if nat_lt at most then at else most
+
+abbrev pub write_offset : List ℕ → Refusal → ℕ
+write_offset text refusal = at_most (length text) (unwrap_or (blamed_offset text refusal) 0)
+
+-- ---- an emission
+
+-- the index of the pair that is to blame, if one is
+abbrev pub blamed_pair : Refusal → Option ℕ
+blamed_pair (BadRow bad) = bad.pair
+blamed_pair _ = None
+
+-- the word that is to blame of a line that was written to an event's `inject`: the pair that its refusal blames, or the first that is no pair
+abbrev pub blamed_word : List ℕ → Option Refusal → Option ℕ
+blamed_word line None = first_bare line
+blamed_word line (Some refusal) = option_and_then (word_at line) (blamed_pair refusal)
+
+abbrev pub injection_offset : List ℕ → Option Refusal → ℕ
+injection_offset line refusal = unwrap_or (blamed_word line refusal) 0

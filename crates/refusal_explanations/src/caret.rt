@@ -1,14 +1,17 @@
 //! Which byte of a line is a byte of what it writes, where its words begin, and where a quote begins that is not closed.
 
-ghost use Rattle.std.specs.Prelude.{◌≡◌, ◌-◌, ◌^◌, ◌<◌, ◌++◌, IfOk, OnOk};
+ghost use Rattle.std.specs.Prelude.{◌≡◌, ◌-◌, ◌^◌, ◌<◌, ◌++◌, IfOk, IfSome, OnOk, length};
 ghost use Rattle.trace_script.specs.Tokens.{is_end, is_quote};
 ghost use Rattle.refusal_explanations.specs.Carets as carets;
 
 use std::alloc::{AllocError, Global};
-use trace_lex::is_blank;
+use trace_lex::{is_blank, rest_of};
 
 /// How many offsets of a line come before what an `echo` writes: those of the four bytes of its name, and of their end.
 const ECHO_PLACES: usize = 5;
+
+/// How many words of an emission come before its pairs.
+const EMIT_WORDS: usize = 4;
 
 /// Where a reader of a line stands.
 #[derive(Clone, Copy)]
@@ -120,20 +123,103 @@ pub(crate) fn written_offset(
     Ok(written.get(at).copied())
 }
 
+/// Whether a word, or a `>`, begins at a byte.
+fn begins_word(stand: Stand, byte: u8) -> bool
+    ensures { result ≡ carets.begins_word stand byte }
+{
+    match stand {
+        Stand::Between => !is_blank(byte),
+        Stand::InWord => byte == b'>',
+        Stand::InQuotes(_) => false,
+    }
+}
+
 /// Where each word and each `>` of a line begins, from the left.
-pub(crate) fn starts(alloc: Global, line: &[u8]) -> Result<Vec<usize>, AllocError> {
+#[tactic(auto, using(crate::proofs::CaretLemmas::starts_here, crate::proofs::CaretLemmas::starts_later), unfolding(crate::specs::Carets::starts_of))]
+pub(crate) fn starts(alloc: Global, line: &[u8]) -> Result<Vec<usize>, AllocError>
+    ensures { IfOk result (λ starts. starts.items ≡ carets.starts_of line.now) }
+{
     let mut starts = Vec::new(alloc);
     let mut stand = Stand::Between;
     for (at, byte) in line.iter().enumerate() {
-        let is_start = match stand {
-            Stand::Between => !is_blank(*byte),
-            Stand::InWord => *byte == b'>',
-            Stand::InQuotes(_) => false,
-        };
-        push_if(&mut starts, is_start, at)?;
+        push_if(&mut starts, begins_word(stand, *byte), at)?;
         stand = next_stand(stand, *byte);
     }
     Ok(starts)
+}
+
+/// Where the pair of this index begins in the line of an emission.
+pub(crate) fn pair_offset(
+    alloc: Global,
+    line: &[u8],
+    index: usize,
+) -> Result<Option<usize>, AllocError>
+    ensures { IfOk result (λ offset. offset ≡ carets.pair_offset line.now index) }
+{
+    let starts = starts(alloc, line)?;
+    let pairs = starts.get(EMIT_WORDS..).unwrap_or(&[]);
+    Ok(pairs.get(index).copied())
+}
+
+/// Where the word of this index begins.
+#[tactic(auto, using(crate::proofs::CaretLemmas::starts_here, crate::proofs::CaretLemmas::starts_later), unfolding(crate::specs::Carets::starts_of))]
+pub(crate) fn word_at(line: &[u8], index: usize) -> Option<usize>
+    ensures value { result ≡ carets.word_at line.now index }
+    ensures bound { IfSome result (λ at. at < length line.now) }
+{
+    let mut left = index;
+    let mut stand = Stand::Between;
+    for (at, byte) in line.iter().enumerate() {
+        if begins_word(stand, *byte) {
+            if left == 0 {
+                return Some(at);
+            }
+            left -= 1;
+        }
+        stand = next_stand(stand, *byte);
+    }
+    None
+}
+
+/// Whether a word ends before a byte, or is a `>` alone.
+fn stops_before(stand: Stand, byte: u8) -> bool
+    ensures { result ≡ carets.stops_before stand byte }
+{
+    !matches!(stand, Stand::InQuotes(_)) && is_end(byte)
+}
+
+/// Whether the word that begins a string has no `=`, in quotes or not.
+#[tactic(auto, unfolding(crate::specs::Carets::is_bare_from))]
+pub(crate) fn is_bare(text: &[u8]) -> bool
+    ensures { result ≡ carets.is_bare text.now }
+{
+    let mut stand = Stand::Between;
+    for byte in text {
+        if stops_before(stand, *byte) {
+            return true;
+        }
+        if *byte == b'=' {
+            return false;
+        }
+        stand = next_stand(stand, *byte);
+    }
+    true
+}
+
+/// Where the first word begins that has no `=`.
+#[tactic(auto, using(crate::proofs::CaretLemmas::starts_here, crate::proofs::CaretLemmas::starts_later), unfolding(crate::specs::Carets::starts_of))]
+pub(crate) fn first_bare(line: &[u8]) -> Option<usize>
+    ensures value { result ≡ carets.first_bare line.now }
+    ensures bound { IfSome result (λ at. at < length line.now) }
+{
+    let mut stand = Stand::Between;
+    for (at, byte) in line.iter().enumerate() {
+        if begins_word(stand, *byte) && is_bare(rest_of(line, at)) {
+            return Some(at);
+        }
+        stand = next_stand(stand, *byte);
+    }
+    None
 }
 
 /// Where the quote stands that a line doesn't close, of a line that has one.

@@ -1,23 +1,20 @@
 //! What is told of the lines of a script, one after the other.
 
-ghost use Rattle.std.specs.Prelude.{IfOk, None};
+ghost use Rattle.std.specs.Prelude.{IfOk, None, Some};
 ghost use Rattle.trace_command.specs.Refusals.{name_of as refusal_name};
 ghost use Rattle.trace_script.specs.Rendering.{fault_name};
 ghost use Rattle.refusal_explanations.specs.Explanations.{IsExplained, IsExplanation};
-ghost use Rattle.refusal_explanations.specs.Places.{named_offset};
 
-use crate::cut::joined;
 use crate::fault::{fault_offset, fault_words, name_of};
 use crate::layout::{ScriptLine, shown};
 use crate::meant::{command_meant, line_meant};
 use crate::place::refusal_offset;
-use crate::row::{cause_words, row_cause};
 use crate::subject::{command_of, command_subject, path_of, written_in};
-use crate::wording::refusal_words;
+use crate::words::refusal_words;
 use std::alloc::{AllocError, Global};
-use trace_command::{OwnedCommand, Refusal};
+use trace_command::{Command, Refusal};
 use trace_format::EventDef;
-use trace_script::{Change, Outcome, ScriptFault, change_of};
+use trace_script::{Change, LineRoom, Outcome, ScriptFault, change_of};
 
 /// Tells people what is wrong with the lines of a script, and remembers for that the events that were declared, and the number of the last line
 /// that was heard.
@@ -28,22 +25,21 @@ pub struct Explainer {
     last: usize,
 }
 
-/// What is wrong with a refused command; of an emission's row, at a field.
+/// What is wrong with a refused command; of an emission's row, after the name of its field.
 fn command_words(
     alloc: Global,
-    events: &[EventDef],
-    command: &OwnedCommand,
+    command: &Command<'_>,
     refusal: &Refusal,
 ) -> Result<Vec<u8>, AllocError> {
-    if let Refusal::BadRow { field } = refusal {
-        let cause = row_cause(alloc, events, command)?;
-        let mut words = joined(alloc, &[field.as_bytes(), b": "])?;
-        words.extend_from_slice(cause_words(cause).as_bytes())?;
-        return Ok(words);
+    let mut told = Vec::new(alloc);
+    if let Refusal::BadRow { row } = refusal {
+        told.extend_from_slice(row.get().field.as_bytes())?;
+        told.extend_from_slice(b": ".as_slice())?;
     }
     let subject = command_subject(command);
     let words = refusal_words(subject, path_of(command), written_in(command), refusal);
-    Vec::from_slice(alloc, words.as_bytes())
+    told.extend_from_slice(words.as_bytes())?;
+    Ok(told)
 }
 
 impl Explainer {
@@ -90,14 +86,14 @@ impl Explainer {
     fn told_of_command(
         &self,
         line: ScriptLine<'_>,
-        command: &OwnedCommand,
+        command: &Command<'_>,
         refusal: &Refusal,
     ) -> Result<Vec<u8>, AllocError>
-        ensures { IfOk result (λ text. IsExplained line.entry.script.now line.entry.number line.entry.text.now (named_offset refusal.now)
+        ensures { IfOk result (λ text. IsExplained line.entry.script.now line.entry.number line.entry.text.now (Some refusal.now)
             (refusal_name refusal.now) text.items) }
     {
-        let caret = refusal_offset(self.alloc, &self.events, line.text, command, refusal)?;
-        let words = command_words(self.alloc, &self.events, command, refusal)?;
+        let caret = refusal_offset(self.alloc, line.text, command, refusal)?;
+        let words = command_words(self.alloc, command, refusal)?;
         let meant = command_meant(self.alloc, &self.events, command, refusal)?;
         let text = shown(self.alloc, line, caret, refusal.name(), &words, &meant)?;
         Ok(text)
@@ -112,7 +108,9 @@ impl Explainer {
             Outcome::Replied(_) => Ok(Vec::new(self.alloc)),
             Outcome::Fault(fault) => self.told_of_fault(line, *fault),
             Outcome::Refused(refusal) => {
-                let command = command_of(self.alloc, line.text)?;
+                let mut room = LineRoom::new(self.alloc);
+                let mut pairs = Vec::new(self.alloc);
+                let command = command_of(&mut room, &mut pairs, line.text)?;
                 self.told_of_command(line, &command, refusal)
             }
         }

@@ -1,10 +1,10 @@
 //! What is wrong with a line that is no command: in words, and where.
 
-use crate::caret::{Stand, ends_at, has_offset, next_stand, open_quote, starts};
-use crate::cut::{after, joined, part_before, up_to};
+use crate::caret::{Stand, ends_at, has_offset, is_bare, next_stand, open_quote, starts};
+use crate::cut::{after, joined, up_to};
 use std::alloc::{AllocError, Global};
 use trace_lex::{blanks_len, rest_of, trim_end};
-use trace_script::{LineError, ScriptFault, prepare};
+use trace_script::{LineError, LineRoom, ScriptFault, prepare};
 
 /// The first word of a line, without its quotes.
 pub(crate) fn name_of(alloc: Global, line: &[u8]) -> Result<Vec<u8>, AllocError> {
@@ -79,16 +79,6 @@ fn arrow_place(line: &[u8], starts: &[usize]) -> Option<usize> {
     }
 }
 
-/// Of the words of an emission the first in place of a pair.
-fn pair_place(line: &[u8], starts: &[usize]) -> Option<usize> {
-    for at in starts.iter().skip(4) {
-        if !part_before(b'>', after(*at, line)).contains(&b'=') {
-            return Some(*at);
-        }
-    }
-    None
-}
-
 /// Where the words of a line of this name are wrong, if not at its end: its first redirection, or a word too many.
 fn words_place(name: &[u8], line: &[u8], starts: &[usize]) -> Option<usize> {
     if let Some(index) = starts.iter().position(|at| is_arrow(line, *at)) {
@@ -99,7 +89,11 @@ fn words_place(name: &[u8], line: &[u8], starts: &[usize]) -> Option<usize> {
     }
     match name {
         b"echo" => None,
-        b"emit" => pair_place(line, starts),
+        b"emit" => starts
+            .iter()
+            .skip(4)
+            .find(|at| is_bare(after(**at, line)))
+            .copied(),
         b"cat" | b"mkdir" | b"rmdir" => starts.get(2).copied(),
         b"take" => starts.get(3).copied(),
         _ => starts.get(1).copied(),
@@ -117,7 +111,9 @@ fn number_place(
         return Ok(starts.get(1).copied());
     };
     let text = joined(alloc, &[up_to(*second, line), b" 0 a a=1"])?;
-    match prepare(alloc, &text) {
+    let mut room = LineRoom::new(alloc);
+    let mut pairs = Vec::new(alloc);
+    match prepare(&mut room, &mut pairs, &text) {
         Err(LineError::Fault(ScriptFault::BadNumber)) => Ok(starts.get(1).copied()),
         Err(LineError::Memory) => Err(AllocError),
         _ => Ok(Some(*second)),

@@ -3,23 +3,18 @@
 #![tactic(auto)]
 
 mod caret;
-mod cause;
 mod cut;
 mod explainer;
 mod fault;
-mod injection;
 mod layout;
 mod meant;
 mod near;
 mod place;
-mod row;
 mod subject;
-mod trigger_string;
-mod wording;
+mod words;
 
 pub use cut::{after, up_to};
 pub use explainer::Explainer;
-pub use injection::{injection_offset, injection_words};
 pub use layout::{ScriptLine, push_padding, push_shown};
-pub use place::write_offset;
-pub use wording::write_words;
+pub use place::{injection_offset, write_offset};
+pub use words::{injection_words, write_words};

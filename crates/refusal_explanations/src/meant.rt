@@ -2,14 +2,12 @@
 
 use crate::cut::{after, begins, part_before, up_to};
 use crate::near::{first_near, is_near, near_path};
-use crate::subject::{
-    Subject, command_subject, event_named, event_of, field_named, path_of, written_in,
-};
-use crate::trigger_string::mark_len;
+use crate::place::mark_len;
+use crate::subject::{Subject, command_subject, event_of, path_of, written_in};
 use std::alloc::{AllocError, Global};
-use trace_command::{OwnedCommand, Refusal};
+use trace_command::{Command, Refusal};
 use trace_filter::FilterCause;
-use trace_format::{DeclarationCause, EventDef};
+use trace_format::{DeclarationCause, EventDef, RowCause};
 use trace_lex::{is_name_byte, len_before, trim, trim_end};
 use trace_script::ScriptFault;
 use trace_trigger::HistCause;
@@ -102,16 +100,13 @@ fn event_meant<'a>(events: &'a [EventDef], name: &[u8]) -> &'a [u8] {
     near.map(|event| event.name()).unwrap_or(&[])
 }
 
-/// The field of an event whose name is near, if none has it.
+/// The field of an event whose name is near.
 fn field_meant<'a>(events: &'a [EventDef], event: &[u8], name: &[u8]) -> &'a [u8] {
-    let Some(event) = event_named(events, event) else {
-        return b"";
-    };
-    if field_named(event.fields(), name).is_some() {
-        return b"";
-    }
-    let mut fields = event.fields().iter();
-    let near = fields.find(|field| is_near(name, field.name.as_bytes()));
+    let event = events.iter().find(|other| other.name() == event);
+    let fields = event.map(|event| event.fields()).unwrap_or(&[]);
+    let near = fields
+        .iter()
+        .find(|field| is_near(name, field.name.as_bytes()));
     near.map(|field| field.name.as_bytes()).unwrap_or(&[])
 }
 
@@ -133,7 +128,7 @@ fn operand_meant<'a>(events: &'a [EventDef], event: &[u8], rest: &[u8]) -> &'a [
 pub(crate) fn command_meant(
     alloc: Global,
     events: &[EventDef],
-    command: &OwnedCommand,
+    command: &Command<'_>,
     refusal: &Refusal,
 ) -> Result<Vec<u8>, AllocError> {
     let subject = command_subject(command);
@@ -151,7 +146,9 @@ pub(crate) fn command_meant(
         }
         Refusal::HistSyntax { at, cause } => attribute_meant(*cause, after(*at, text)).as_bytes(),
         Refusal::NoSuchField { at } => operand_meant(events, event, after(*at, text)),
-        Refusal::BadRow { field } => field_meant(events, event, field.as_bytes()),
+        Refusal::BadRow { row } if matches!(row.get().cause, RowCause::Unknown) => {
+            field_meant(events, event, row.get().field.as_bytes())
+        }
         Refusal::FilterSyntax { at, cause } => {
             operator_meant(*cause, up_to(*at, text), after(*at, text)).as_bytes()
         }

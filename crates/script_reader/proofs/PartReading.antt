@@ -1,16 +1,26 @@
 -- The lines of a part, read one after the other.
-use Rattle.std.proofs.Common.{◌≡◌, ℕ, suc, ◌+◌, ◌||◌, Bool, true, false, if◌then◌else◌, List, [], ◌∷◌, ◌++◌, length, map, Option, Some, None, Result, Ok, Err, Vec, refl, sym, ap, ◌∙◌, arith, append_assoc, append-nil}
+use Rattle.std.proofs.Common.{◌≡◌, ℕ, suc, ◌+◌, ◌||◌, Bool, true, false, if◌then◌else◌, List, [], ◌∷◌, ◌++◌, length, map, Option, Some, None, Result, Ok, Err, Vec, IsSome, refl, sym, ap, ◌∙◌, arith, append_assoc, append-nil}
 use Rattle.std.proofs.lemmas.List.{length_push, length-map, map-append}
 use Rattle.std.specs.List.{list_any, slice_get}
 use Rattle.std.specs.declared.alloc.Global.{Global}
+use Rattle.trace_command.specs.Commands.{Command}
 use Rattle.trace_script.specs.Lines.{line_of}
 use Rattle.trace_script.specs.declared.fault.ScriptFault.{ScriptFault}
 use Rattle.trace_script.specs.declared.line.Line.{Line}
 use Rattle.trace_script.specs.declared.line.Line.TheVariants.{Blank, Ask, Parallel, Thread, End}
+use Rattle.script_reader.specs.AskingLines.{command_asked, command_in}
 use Rattle.script_reader.specs.Items.{Item, Single, Threads, Faulty, threads_after, fault_after, or_later, first_fault, own_with, own_commands, threads_with, threads_of, part_with, part_of, is_end, before_end, after_end}
 use Rattle.script_reader.specs.PartReads.{asked_of, commands_in, with_more, with_line, comes_to, IsPartRead, IsLineAt}
 use Rattle.script_reader.specs.declared.part.Numbered.{Numbered}
 use Rattle.script_reader.specs.declared.part_line.PartLine.{PartLine}
+
+-- ---- a command
+
+pub asks : (line : List ℕ) (said : Result Line ScriptFault) (command : Command) → said ≡ line_of line → said ≡ Ok (Ask command) → IsSome (command_asked (line_of line))
+asks line said command is asked = rw (sym is, asked) refl
+
+pub command_is : (line : List ℕ) (said : Result Line ScriptFault) (command : Command) → said ≡ line_of line → said ≡ Ok (Ask command) → command_in line ≡ command
+command_is line said command is asked = rw (sym is, asked) refl
 
 -- ---- threads
 

@@ -1,3 +1,4 @@
+pub mod AskingLines
 pub mod ScriptLines
 pub mod Sources
 pub mod Items

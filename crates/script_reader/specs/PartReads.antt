@@ -5,6 +5,7 @@ use Rattle.std.specs.declared.alloc.Global.{Global}
 use Rattle.trace_script.specs.declared.fault.ScriptFault.{ScriptFault}
 use Rattle.trace_script.specs.declared.line.Line.{Line}
 use Rattle.trace_script.specs.declared.line.Line.TheVariants.{Ask, Thread}
+use Rattle.script_reader.specs.AskingLines.{command_in}
 use Rattle.script_reader.specs.Items.{Item, Single, Threads, Faulty, first_fault, own_commands, threads_of, part_with, part_of, is_end, before_end, after_end}
 use Rattle.script_reader.specs.declared.part.Numbered.{Numbered}
 use Rattle.script_reader.specs.declared.part_line.PartLine.{PartLine}
@@ -13,7 +14,7 @@ use Rattle.script_reader.specs.declared.part.Part.{Part}
 
 -- the command that a line of a part asks for, with the line's number
 abbrev pub asked_of : PartLine → Numbered
-asked_of line = record { number = line.number; command = line.command.value }
+asked_of line = record { number = line.number; command = command_in line.line.now }
 
 -- the commands of each thread
 abbrev pub commands_in : List (Vec PartLine Global) → List (List Numbered)

@@ -9,17 +9,18 @@ ghost use Rattle.script_reader.specs.ScriptLines.{lines_left};
 use crate::part::{ends, read_line};
 use crate::script::first_line;
 use std::alloc::{AllocError, Global};
-use trace_script::may_end;
+use trace_script::{LineRoom, may_end};
 
 /// Whether a line is an `end`. It is prepared only where its first bytes leave that open.
 #[tactic(auto, using(crate::proofs::EndFinding::no_end))]
-fn is_end(alloc: Global, line: &[u8]) -> Result<bool, AllocError>
+fn is_end(alloc: Global, room: &mut LineRoom, line: &[u8]) -> Result<bool, AllocError>
     ensures { IfOk result (λ ends. ends ≡ is_end line.now) }
 {
     if !may_end(line) {
         return Ok(false);
     }
-    let said = read_line(alloc, line)?;
+    let mut pairs = Vec::new(alloc);
+    let said = read_line(room, &mut pairs, line)?;
     Ok(ends(&said))
 }
 
@@ -28,10 +29,11 @@ fn is_end(alloc: Global, line: &[u8]) -> Result<bool, AllocError>
 pub(crate) fn has_end(alloc: Global, text: Option<&[u8]>) -> Result<bool, AllocError>
     ensures { IfOk result (λ found. found ≡ list_any is_end (lines_left (option_copied text.entry))) }
 {
+    let mut room = LineRoom::new(alloc);
     let mut rest = text;
     while let Some(here) = rest {
         let (line, after) = first_line(here);
-        if is_end(alloc, line)? {
+        if is_end(alloc, &mut room, line)? {
             return Ok(true);
         }
         rest = after;

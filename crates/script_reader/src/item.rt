@@ -18,15 +18,15 @@ use crate::script::{first_line, line_of_len};
 use std::alloc::{AllocError, Global};
 use trace_command::Command;
 use trace_format::BorrowedPair;
-use trace_script::{FirstCommand, Line, ScriptFault, first_emission, first_read};
+use trace_script::{FirstCommand, Line, LineRoom, ScriptFault, first_emission, first_read};
 
 /// An item that was read out of line.
 #[derive(Drop)]
-pub enum ItemRead<'a> {
+pub enum ItemRead<'a, 'p> {
     /// A line by itself, and what it asks for or its fault.
     Line {
         line: &'a [u8],
-        said: Result<Line, ScriptFault>,
+        said: Result<Line<'p>, ScriptFault>,
     },
     /// A part: the string that begins with its lines, and the lines of the commands of each of its threads.
     Threads {
@@ -42,8 +42,8 @@ pub enum ItemRead<'a> {
 
 /// An item that is no command read where it lies, and what follows it.
 #[derive(Drop)]
-pub struct OtherItem<'a> {
-    pub item: ItemRead<'a>,
+pub struct OtherItem<'a, 'p> {
+    pub item: ItemRead<'a, 'p>,
     /// The number of the first line after it.
     pub number: usize,
     /// What follows it, if anything does.
@@ -51,7 +51,7 @@ pub struct OtherItem<'a> {
 }
 
 /// A part that was read, as an item. The string begins with it.
-fn part_item<'a>(text: &'a [u8], part: Part<'a>) -> ItemRead<'a>
+fn part_item<'a, 'p>(text: &'a [u8], part: Part<'a>) -> ItemRead<'a, 'p>
     ensures text { HasItsText text.entry.now result }
     ensures item { (number : ℕ) → item_read number result ≡ item_of part.entry }
     ensures said { IsSaid result }
@@ -64,7 +64,7 @@ fn part_item<'a>(text: &'a [u8], part: Part<'a>) -> ItemRead<'a>
 }
 
 /// Whether a line begins a part, if an `end` follows it.
-fn begins(said: &Result<Line, ScriptFault>) -> bool
+fn begins(said: &Result<Line<'_>, ScriptFault>) -> bool
     ensures { result ≡ begins_with said.now }
 {
     matches!(said, Ok(Line::Parallel))
@@ -73,13 +73,13 @@ fn begins(said: &Result<Line, ScriptFault>) -> bool
 /// Reads on at a line `parallel`: the part that it begins, if a line `end` follows it; else that line by itself. It is kept out of line, so
 /// that other lines don't take the room of a part. The text is that which begins with the line. The clauses of [`other_item`] are here in one word.
 #[inline(never)]
-fn part_or_line<'a>(
+fn part_or_line<'a, 'p>(
     alloc: Global,
     number: usize,
     text: &'a [u8],
     line: &'a [u8],
     after: Option<&'a [u8]>,
-) -> Result<OtherItem<'a>, AllocError>
+) -> Result<OtherItem<'a, 'p>, AllocError>
     requires room { number + length text.now < 2 ^ 63 - 1 }
     requires lines { lines_of text.now ≡ line.now ∷ lines_left (option_copied after) }
     requires shorter { bytes_left (option_copied after) ≤ length text.now }
@@ -104,14 +104,17 @@ fn part_or_line<'a>(
 }
 
 /// Reads the item that a string begins with, whose first line has this number: a part, where that line is `parallel` and a line `end` follows
-/// it; else one line. It fails only if memory is refused. It is kept out of line, so that the commands that [`next_item`] reads don't take its room.
+/// it; else one line, whose words and pairs lie in the line, the room and the list. It fails only if memory is refused. It is kept out of line, so that
+/// the commands that [`next_item`] reads don't take its room.
 #[inline(never)]
 #[tactic(auto, using(crate::proofs::ItemReading::line_next, crate::proofs::ItemReading::line_left))]
-pub fn other_item<'a>(
+pub fn other_item<'a: 'r, 'r, 'p>(
     alloc: Global,
+    room: &'r mut LineRoom,
+    pairs: &'p mut Vec<BorrowedPair<'r>>,
     number: usize,
     text: &'a [u8],
-) -> Result<OtherItem<'a>, AllocError>
+) -> Result<OtherItem<'a, 'p>, AllocError>
     requires room { number + length text.now < 2 ^ 63 - 1 }
     ensures read { IfOk result (λ other. items_from number 0 (lines_of text.now)
         ≡ item_read number other.item ∷ items_from other.number 0 (lines_left (option_copied other.rest))) }
@@ -124,7 +127,7 @@ pub fn other_item<'a>(
     ensures room { IfOk result (λ other. other.number + bytes_left (option_copied other.rest) ≤ number + length text.now + 1) }
 {
     let (line, after) = first_line(text);
-    let said = read_line(alloc, line)?;
+    let said = read_line(room, pairs, line)?;
     if begins(&said) {
         return part_or_line(alloc, number, text, line, after);
     }

@@ -12,9 +12,9 @@ use crate::end::has_end;
 use crate::part_line::PartLine;
 use crate::script::first_line;
 use std::alloc::{AllocError, Global};
-use std::snapshot::Snapshot;
 use trace_command::OwnedCommand;
-use trace_script::{Line, LineError, ScriptFault, prepare};
+use trace_format::BorrowedPair;
+use trace_script::{Line, LineError, LineRoom, ScriptFault, prepare};
 
 /// A command of a part, and the number of its line. Clauses alone speak of it: no value of it is made.
 #[derive(Drop)]
@@ -53,10 +53,14 @@ pub struct PartRead<'a> {
 const MOST_THREADS: usize = 8;
 
 /// What a line asks for, or its fault.
-pub(crate) fn read_line(alloc: Global, line: &[u8]) -> Result<Result<Line, ScriptFault>, AllocError>
+pub(crate) fn read_line<'a, 'p>(
+    room: &'a mut LineRoom,
+    pairs: &'p mut Vec<BorrowedPair<'a>>,
+    line: &'a [u8],
+) -> Result<Result<Line<'p>, ScriptFault>, AllocError>
     ensures read { IfOk result (λ read. read ≡ line_of line.now) }
 {
-    match prepare(alloc, line) {
+    match prepare(room, pairs, line) {
         Ok(line) => Ok(Ok(line)),
         Err(LineError::Fault(fault)) => Ok(Err(fault)),
         Err(LineError::Memory) => Err(AllocError),
@@ -64,14 +68,14 @@ pub(crate) fn read_line(alloc: Global, line: &[u8]) -> Result<Result<Line, Scrip
 }
 
 /// Whether a line ends a part.
-pub(crate) fn ends(line: &Result<Line, ScriptFault>) -> bool
+pub(crate) fn ends(line: &Result<Line<'_>, ScriptFault>) -> bool
     ensures { result ≡ ends_with line.now }
 {
     matches!(line, Ok(Line::End))
 }
 
 /// What is wrong with a line of a part, where so many threads have begun before it.
-fn fault_after(threads: usize, line: &Result<Line, ScriptFault>) -> Option<ScriptFault>
+fn fault_after(threads: usize, line: &Result<Line<'_>, ScriptFault>) -> Option<ScriptFault>
     ensures { result ≡ fault_after threads line.now }
 {
     match line {
@@ -88,7 +92,7 @@ fn fault_after(threads: usize, line: &Result<Line, ScriptFault>) -> Option<Scrip
 #[tactic(auto, using(crate::proofs::PartReading::length_commands))]
 fn next_fault(
     threads: &[Vec<PartLine<'_>>],
-    line: &Result<Line, ScriptFault>,
+    line: &Result<Line<'_>, ScriptFault>,
 ) -> Option<ScriptFault>
     ensures { result ≡ fault_after (length (commands_in threads.now)) line.now }
 {
@@ -120,25 +124,19 @@ fn add_thread(alloc: Global, threads: &mut Vec<Vec<PartLine<'_>>>) -> Result<(),
 }
 
 /// Adds a line to some threads. One that has a fault changes nothing.
+#[tactic(auto, using(crate::proofs::PartReading::asks, crate::proofs::PartReading::command_is))]
 fn add_line<'a>(
     alloc: Global,
     threads: &mut Vec<Vec<PartLine<'a>>>,
     number: usize,
     line: &'a [u8],
-    said: Result<Line, ScriptFault>,
+    said: Result<Line<'_>, ScriptFault>,
 ) -> Result<(), AllocError>
     requires { said ≡ line_of line.now }
-    ensures added { OnOk result (commands_in threads.new.items ≡ with_line number said (commands_in threads.old.items)) }
+    ensures added { OnOk result (commands_in threads.new.items ≡ with_line number said.entry (commands_in threads.old.items)) }
 {
     match said {
-        Ok(Line::Ask(command)) => {
-            let asked = PartLine {
-                number,
-                line,
-                command: Snapshot::of(&command),
-            };
-            add_command(threads, asked)
-        }
+        Ok(Line::Ask(_)) => add_command(threads, PartLine { number, line }),
         Ok(Line::Thread) => add_thread(alloc, threads),
         Ok(Line::Blank | Line::Parallel | Line::End) | Err(_) => Ok(()),
     }
@@ -151,7 +149,7 @@ fn read_next<'a>(
     mut threads: Vec<Vec<PartLine<'a>>>,
     number: usize,
     line: &'a [u8],
-    said: Result<Line, ScriptFault>,
+    said: Result<Line<'_>, ScriptFault>,
 ) -> Result<Part<'a>, AllocError>
     requires { said ≡ line_of line.now }
     ensures reads { IfOk result (λ next. (lines : List (List ℕ))
@@ -176,7 +174,7 @@ fn read_on<'a>(
     reading: Part<'a>,
     number: usize,
     line: &'a [u8],
-    said: Result<Line, ScriptFault>,
+    said: Result<Line<'_>, ScriptFault>,
 ) -> Result<Part<'a>, AllocError>
     requires { said ≡ line_of line.now }
     ensures reads { IfOk result (λ next. (lines : List (List ℕ))
@@ -212,9 +210,11 @@ pub fn read_part<'a>(
     let mut rest = text;
     let mut lines = 0;
     let mut part = Part::Threads(Vec::new(alloc));
+    let mut room = LineRoom::new(alloc);
     while let Some(here) = rest {
         let (line, after) = first_line(here);
-        let said = read_line(alloc, line)?;
+        let mut pairs = Vec::new(alloc);
+        let said = read_line(&mut room, &mut pairs, line)?;
         if ends(&said) {
             return Ok(Some(PartRead {
                 part,

@@ -20,6 +20,7 @@ use Rattle.trace_command.specs.declared.command.Entry.{Entry}
 use Rattle.trace_command.specs.declared.command.Reply.{Reply}
 use Rattle.trace_command.specs.declared.refusal.Refusal.{Refusal}
 use Rattle.trace_command.specs.declared.refusal.Refusal.TheVariants.{Memory, Worn}
+use Rattle.shared_book.specs.private.Turns.{Comes}
 use Rattle.shared_book.specs.Asks.{caller_of, AreOthers, GoesOn, IsAhead, Rises, IsDone, IsRefused}
 
 -- an entry under the first name is the pass's own
@@ -160,13 +161,6 @@ kept_same {T} made_with entries one other same = ap (λ (book : T). kept_of made
 pub base_same : {T : Type 0} (made_with : T → Config) (base : T → List ℕ) → ((book : T) → base book ≡ numbers_of (made_with book))
     → (held before after : T) → before ≡ held → made_with after ≡ made_with before → base after ≡ base held
 base_same made_with base bases held before after lent same = bases after ∙ ap numbers_of same ∙ sym (bases before) ∙ ap base lent
-
--- what a call comes to that took a turn
-pub record Comes (v w : View Entry) (command : Command) (answered : Result Reply Refusal) : Type 0 where
-  pub goes_on : GoesOn v w
-  pub done : IfOk answered (IsDone v w command)
-  pub refused : IfErr answered (IsRefused v w command)
-  pub legal : (g : Config) → numbers_of g ≡ v.base → IsLegal g v.seen → IsLegal g w.seen
 
 -- The turn as the code takes it: a value of the lock is a book, which is asked under the ticket and the first name.
 module _

@@ -1,2 +1,3 @@
 pub mod Bases
 pub mod Asks
+pub mod private

@@ -6,5 +6,5 @@ mod call;
 mod joining;
 
 pub use book::SharedBook;
-pub use call::ask;
+pub use call::{ask, ask_in_line, try_ask};
 pub use joining::join;

@@ -1,6 +1,6 @@
 -- The steps as the lock's calls make them, with the facts that are known there.
 use Rattle.std.proofs.Common.{◌≡◌, ℕ, true, zero, suc, ◌+◌, ◌<◌, ◌≤◌, ◌^◌, List, [], ◌∷◌, sym, refl, ap, ◌∙◌, subst, inl, ⊎_elim, arith}
-use Rattle.std.specs.Prelude.{Option, Some, None, All, AllPairs, Box}
+use Rattle.std.specs.Prelude.{Option, Some, All, AllPairs, Box}
 use Rattle.std.specs.declared.alloc.Global.{Global}
 use mathlib.Core.Option as maybe
 use mathlib.Core.Option.{some, some-injective, some-ne-none}
@@ -13,14 +13,13 @@ use Rattle.ticket_lock.specs.Entries.{IsBefore}
 use Rattle.ticket_lock.specs.Seats.{Each, AtMostOne}
 use Rattle.ticket_lock.specs.Views.{IsLive, HoldsWith, HasAllNames, is_idle, is_holding, is_blank}
 use Rattle.ticket_lock.specs.Rule.{Homes, IsInLine, IsHome, IsOut, IsPass}
-use Rattle.ticket_lock.specs.Moves.{Seated, ticket_of, root, after_draw, after_entry, FindsHistory, enters, leaves}
+use Rattle.ticket_lock.specs.Moves.{Seated, ticket_of, root, before_draw, enters, leaves}
 use Rattle.ticket_lock.specs.Boxes.{inside}
 use Rattle.ticket_lock.specs.Calls.{MayLeave, Finds}
-use Rattle.ticket_lock.specs.private.Entered.{HasEntered}
 use Rattle.ticket_lock.proofs.Histories.{continues_itself, mine_continues}
 use Rattle.ticket_lock.proofs.KnownKept.{idle_pass, is_alone}
 use Rattle.ticket_lock.proofs.SeatFields.{holding_stage, blank_slot}
-use Rattle.ticket_lock.proofs.Steps.{Sound, allows_entry, allows_leaving}
+use Rattle.ticket_lock.proofs.Steps.{Sound, allows_leaving}
 
 -- what holds of the one seat of a new table
 each_one : {V : Type 0} (P : V → Type 0) (v : V) → P v → Each P (v ∷ [])
@@ -37,10 +36,6 @@ holder_lives Idle x h = tt
 holder_lives (Waiting ticket) x h = tt
 holder_lives (Holding ticket) x h = tt
 holder_lives Spent x h = h
-
-first_slot : {T : Type 0} → List (ℕ × Option T) → Option T
-first_slot [] = None
-first_slot (slot ∷ slots) = slot.1
 
 module _ {T E : Type 0} (entries : T → List E) (base_of : T → List ℕ) (ticket by : E → ℕ) where
   -- a new lock
@@ -72,6 +67,7 @@ module _ {T E : Type 0} (entries : T → List E) (base_of : T → List ℕ) (tic
       newest = (0, v, refl, (tt, refl));
       longest = (0, v, refl, (tt, refl));
     };
+    watched = each_one (λ (z : View E). z.watched ≤ first) v (let le : 0 ≤ first = omega arith in le);
   }
 
   -- a new lock, of which the table was told the value and has it in its slot
@@ -82,11 +78,6 @@ module _ {T E : Type 0} (entries : T → List E) (base_of : T → List ℕ) (tic
       (subst (λ (xs : List (Option T)). Sound entries base_of ticket by (base_of value) (opening (first ∷ first ∷ []) xs (root (entries value) (base_of value) first))) (sym is) (opens first value few rising below callers))
 
   module _ (base : List ℕ) where
-    -- a look at SERVING by a seat that waits
-    pub enters_again : (slots id t : ℕ) (me now : Seated T E) → now ≡ me → me.0.stage ≡ Waiting t
-        → Allows (Sound entries base_of ticket by base) slots id now 1 (λ n. n) (enters entries base_of ticket by (step slots 1 0 0 maybe.none) now)
-    enters_again slots id t me now same waits = allows_entry entries base_of ticket by base slots id t now (ap (λ (z : Seated T E). z.0.stage) same ∙ waits)
-
     -- a store to SERVING by a holder that has put the value into its slot
     pub leaves_now : (slots id t : ℕ) (me now : Seated T E) (value : T) → now ≡ (me.0, (0, Some value) ∷ rest me.1) → is_holding t me.0.stage ≡ true → is_blank me.1 ≡ true → base_of value ≡ me.0.base → MayLeave ticket by me.0 t (entries value)
         → Allows (Sound entries base_of ticket by base) slots id now 1 (λ _. t + 1) (λ _. leaves entries base_of ticket by (step slots 1 (t + 1) 0 maybe.none) now (t + 1))
@@ -130,42 +121,27 @@ module _ {T E : Type 0} (entries : T → List E) (base_of : T → List ℕ) (tic
         let same : other ≡ value = cc in
         subst (Closes v) same closed
 
-  -- what a seat has that has found its ticket served
-  pub takes_slot : (slots n t : ℕ) (me now after : Seated T E) → now ≡ me → me.0.stage ≡ Waiting t → n ≡ t → enters entries base_of ticket by (step slots 1 0 0 maybe.none) now n after → (slot : Option T) × (after.1 ≡ (0, slot) ∷ rest after.1)
-  takes_slot slots n t me now after same waits hit told =
-      let (value, is, same_base, found) = told.2 (hit ∙ sym (ap (λ (z : Seated T E). ticket_of z.0.stage) same ∙ ap ticket_of waits)) in
-      (Some value, ap (λ (z : Seated T E). z.1) is ∙ ap (λ (z : List (ℕ × Option T)). (0, Some value) ∷ z) (sym (ap (λ (z : Seated T E). rest z.1) is)))
+  module _ (slots n t : ℕ) (me after : Seated T E) (waits : me.0.stage ≡ Waiting t) where
+    -- what a seat has that has found its ticket served
+    pub takes_slot : n ≡ t → enters entries base_of ticket by (step slots 1 0 0 maybe.none) me n after → (slot : Option T) × (after.1 ≡ (0, slot) ∷ rest after.1)
+    takes_slot hit told =
+        let (value, is, same_base, found) = told.3 (hit ∙ sym (ap ticket_of waits)) in
+        (Some value, ap (λ (z : Seated T E). z.1) is ∙ ap (λ (z : List (ℕ × Option T)). (0, Some value) ∷ z) (sym (ap (λ (z : Seated T E). rest z.1) is)))
 
-  -- a seat that has found another ticket served is as it was
-  pub stays : (slots n t : ℕ) (me now after : Seated T E) → now ≡ me → me.0.stage ≡ Waiting t → (n ≡ t → ⊥) → enters entries base_of ticket by (step slots 1 0 0 maybe.none) now n after → after ≡ me
-  stays slots n t me now after same waits miss told = told.1 (λ hit. miss (hit ∙ ap (λ (z : Seated T E). ticket_of z.0.stage) same ∙ ap ticket_of waits)) ∙ same
-
-  -- a seat that has found its ticket served and taken what was in the slot
-  pub enters_with : (slots n t : ℕ) (me now after last : Seated T E) (slot : Option T) → now ≡ me → me.0.stage ≡ Waiting t → me.1 ≡ [] → n ≡ t → enters entries base_of ticket by (step slots 1 0 0 maybe.none) now n after
-      → after.1 ≡ (0, slot) ∷ rest after.1 → last ≡ (after.0, (0, None) ∷ rest after.1) → (value : T) × (slot ≡ Some value) × HasEntered entries base_of ticket by me.0 last value
-  unfolding first_slot
-  enters_with slots n t me now after last slot same waits bare hit told took left =
-      let here : n ≡ ticket_of now.0.stage = hit ∙ sym (ap (λ (z : Seated T E). ticket_of z.0.stage) same ∙ ap ticket_of waits) in
-      let (value, is, same_base, found) = told.2 here in
-      let start : after ≡ (after_entry me.0 (entries value), (0, Some value) ∷ []) =
-      is ∙ ap (λ (z : Seated T E). (after_entry z.0 (entries value), (0, Some value) ∷ z.1)) same ∙ ap (λ (ss : List (ℕ × Option T)). (after_entry me.0 (entries value), (0, Some value) ∷ ss)) bare in
-      let slots_are : (0, slot) ∷ rest after.1 ≡ (0, Some value) ∷ [] = sym took ∙ ap (λ (z : Seated T E). z.1) start in (
-        value,
-        ap first_slot slots_are,
+    -- what it finds then
+    pub finds_served : (last : Seated T E) (carried : List (ℕ × Option T)) → n ≡ t → enters entries base_of ticket by (step slots 1 0 0 maybe.none) me n after → last ≡ (after.0, carried)
+        → Finds ticket by (before_draw me.0 t) t last.0.seen
+    finds_served last carried hit told left =
+        let (value, is, same_base, found) = told.3 (hit ∙ sym (ap ticket_of waits)) in
+        let seen : last.0.seen ≡ entries value = ap (λ (z : Seated T E). z.0.seen) (left ∙ ap (λ (z : Seated T E). (z.0, carried)) is) in
+        subst (Finds ticket by (before_draw me.0 t) t) (sym seen)
         record {
-          view = left ∙ ap (λ (z : Seated T E). (z.0, (0, None) ∷ rest z.1)) start;
-          base = same_base ∙ ap (λ (z : Seated T E). z.0.base) same;
-          finds = subst (λ (z : Seated T E). FindsHistory ticket by z.0 (entries value)) same found;
-        },
-      )
-
-  -- the same of the value that was in the slot
-  pub enters_some : (slots n t : ℕ) (me now after last : Seated T E) (slot : Option T) (value : T) → now ≡ me → me.0.stage ≡ Waiting t → me.1 ≡ [] → n ≡ t → enters entries base_of ticket by (step slots 1 0 0 maybe.none) now n after
-      → after.1 ≡ (0, slot) ∷ rest after.1 → last ≡ (after.0, (0, None) ∷ rest after.1) → slot ≡ Some value → HasEntered entries base_of ticket by me.0 last value
-  enters_some slots n t me now after last slot value same waits bare hit told took left there =
-      let (other, is, entered) = enters_with slots n t me now after last slot same waits bare hit told took left in
-      let one : other ≡ value = cc in
-      subst (HasEntered entries base_of ticket by me.0 last) one entered
+          seen = found.seen;
+          mine = mine_continues by me.0.low me.0.end me.0.seen (entries value) found.seen;
+          rising = found.rising;
+          below = subst (λ (k : ℕ). All (λ e. ticket e < k) (entries value)) (ap ticket_of waits) found.below;
+          callers = found.callers;
+        }
 
 module _ {T E : Type 0} (entries : T → List E) (base_of : T → List ℕ) (ticket by : E → ℕ) where
   -- a new lock over the box in which the value lies
@@ -178,11 +154,3 @@ module _ {T E : Type 0} (entries : T → List E) (base_of : T → List ℕ) (tic
       (subst (λ (x : T). AllPairs (IsBefore ticket) (entries x)) back rising)
       (subst (λ (x : T). All (λ e. ticket e < first) (entries x)) back below)
       (subst (λ (x : T). All (λ e. by e < 65536) (entries x)) back callers))
-
--- what a pass finds that drew a ticket and then entered
-pub finds_after : {T E : Type 0} (ticket by : E → ℕ) (v drew : View E) (n : ℕ) (log : List E) (after : Seated T E) (slots : List (ℕ × Option T)) → drew ≡ after_draw v n → FindsHistory ticket by drew log → after ≡ (after_entry drew log, slots)
-    → Finds ticket by v n after.0.seen
-finds_after {T} {E} ticket by v drew n log after slots is found same =
-    let f : FindsHistory ticket by (after_draw v n) log = subst (λ (z : View E). FindsHistory ticket by z log) is found in
-    subst (Finds ticket by v n) (sym (ap (λ (z : Seated T E). z.0.seen) same))
-    record { seen = f.seen; mine = mine_continues by v.low v.end v.seen log f.seen; rising = f.rising; below = f.below; callers = f.callers }

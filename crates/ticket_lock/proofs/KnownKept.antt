@@ -11,7 +11,7 @@ use Rattle.ticket_lock.specs.Entries.{Continues, longer_of}
 use Rattle.ticket_lock.specs.Seats.{AtMostOne}
 use Rattle.ticket_lock.specs.Views.{IsLive, HoldsWith, HasName, HasAllNames}
 use Rattle.ticket_lock.specs.Rule.{Homes, IsPass, IsKnown}
-use Rattle.ticket_lock.specs.Moves.{middle_of, idle, after_look, after_draw, after_entry, after_leaving, lower_half, upper_half, joined, spent}
+use Rattle.ticket_lock.specs.Moves.{middle_of, idle, after_look, after_watch, after_draw, after_entry, after_leaving, lower_half, upper_half, joined, spent}
 use Rattle.ticket_lock.proofs.Histories.{not_under, continues_itself, continues_push, continues_narrower, Meet, meet}
 use Rattle.ticket_lock.proofs.SeatLists.{set_swap, same_view, each_others, each_set, each_push, one_new, one_set, one_push}
 
@@ -30,6 +30,9 @@ module _ {E : Type 0} (by : E → ℕ) (base : List ℕ) (log : List E) where
 
   pub looked_pass : (v : View E) (n : ℕ) → IsPass by base log v → IsPass by base log (after_look v n)
   looked_pass v n p = record { some_name = p.some_name; few_names = p.few_names; same_base = p.same_base; seen = p.seen; left = p.left; right = p.right; whole = p.whole }
+
+  pub watched_pass : (v : View E) (n : ℕ) → IsPass by base log v → IsPass by base log (after_watch v n)
+  watched_pass v n p = record { some_name = p.some_name; few_names = p.few_names; same_base = p.same_base; seen = p.seen; left = p.left; right = p.right; whole = p.whole }
 
   pub drawn_pass : (v : View E) (n : ℕ) → IsPass by base log v → IsPass by base log (after_draw v n)
   drawn_pass v n p = record { some_name = p.some_name; few_names = p.few_names; same_base = p.same_base; seen = p.seen; left = p.left; right = p.right; whole = λ x h. absurd h }

@@ -1,66 +1,68 @@
--- A seat that has only looked at NEXT since it began to draw.
-use Rattle.std.proofs.Common.{◌≡◌, ℕ, ◌≤◌, ◌^◌, sym, refl, ap, ◌∙◌, subst, arith}
+-- A pass that has only looked at the line since it asked.
+use Rattle.std.proofs.Common.{◌≡◌, ℕ, ◌<◌, ◌≤◌, ◌^◌, refl, ap, ◌∙◌, ⊎_elim, arith}
 use Rattle.ticket_lock.specs.declared.views.Stage.TheVariants.{Idle}
+use Rattle.ticket_lock.specs.declared.views.View.{View}
 use Rattle.ticket_lock.specs.Views.{HasAllNames}
-use Rattle.ticket_lock.specs.Moves.{Seated, after_look, after_draw, LearnsNext}
-use Rattle.ticket_lock.specs.Calls.{IsWorn}
+use Rattle.ticket_lock.specs.Moves.{Seated, after_look, after_watch, before_draw}
+use Rattle.ticket_lock.proofs.Steps.{below_or_above}
+use Rattle.ticket_lock.specs.Calls.{IsWorn, HasLooked}
+use Rattle.ticket_lock.specs.private.Entered.{HasDrawn}
 
--- but for its front the seat is as it was; the front has not fallen, and is the same where the pass has all names
-pub record HasLooked {T E : Type 0} (me now : Seated T E) : Type 0 where
-  pub same : now ≡ (after_look me.0 now.0.front, me.1)
-  pub front : me.0.front ≤ now.0.front
-  pub all_names : HasAllNames me.0 → me.0.front ≡ now.0.front
+-- but for its front, and what it found in SERVING, it is as it was; the front has not fallen, and is the same where the pass has all names
+pub record IsSince {E : Type 0} (v w : View E) : Type 0 where
+  pub same : (n : ℕ) → after_look w n ≡ after_look v n
+  pub front : v.front ≤ w.front
+  pub all_names : HasAllNames v → v.front ≡ w.front
+
+module _ {E : Type 0} where
+  pub since_itself : (v : View E) → IsSince v v
+  since_itself v = record { same = λ n. refl; front = omega arith; all_names = λ all. refl }
+
+  module _ (v w : View E) (h : IsSince v w) where
+    low_since : w.low ≡ v.low
+    low_since = ap (λ (z : View E). z.low) (h.same 0)
+
+    end_since : w.end ≡ v.end
+    end_since = ap (λ (z : View E). z.end) (h.same 0)
+
+    pub idle_now : v.stage ≡ Idle → w.stage ≡ Idle
+    idle_now idle = ap (λ (z : View E). z.stage) (h.same 0) ∙ idle
+
+    all_since : HasAllNames v → HasAllNames w
+    all_since all = (low_since ∙ all.0, end_since ∙ all.1)
+
+    pub since_looked : (u : View E) → HasLooked w u → IsSince v u
+    since_looked u l = record {
+      same = λ n. ap (λ (z : View E). after_look z n) l.same ∙ h.same n;
+      front = let a : v.front ≤ w.front = h.front in let b : w.front ≤ u.front = l.front in omega arith;
+      all_names = λ all. h.all_names all ∙ l.all_names (all_since all);
+    }
+
+    pub looked_since : (u : View E) → HasLooked w u → HasLooked v u
+    looked_since u l = record {
+      same = l.same ∙ h.same u.front;
+      front = let a : v.front ≤ w.front = h.front in let b : w.front ≤ u.front = l.front in omega arith;
+      all_names = λ all. h.all_names all ∙ l.all_names (all_since all);
+    }
+
+    pub drawn_since : (u : View E) (ticket : ℕ) → HasDrawn w u ticket → HasDrawn v u ticket
+    drawn_since u ticket d = record { looked = looked_since (before_draw u ticket) d.looked; waits = d.waits; front = d.front; few = d.few }
+
+    -- all tickets are drawn
+    pub worn_since : (u : View E) → HasLooked w u → 2 ^ 63 ≤ u.front → u.front ≤ 2 ^ 63 → IsWorn v u
+    worn_since u l all bounded =
+        let looked = looked_since u l in
+        let last : u.front ≡ 2 ^ 63 = omega arith in
+        record { same = looked.same ∙ ap (λ (k : ℕ). after_look v k) last; all_names = λ names. looked.all_names names ∙ last }
 
 module _ {T E : Type 0} where
-  pub idle_since : (me now : Seated T E) → HasLooked me now → me.0.stage ≡ Idle → now.0.stage ≡ Idle
-  idle_since me now h idle = ap (λ (z : Seated T E). z.0.stage) h.same ∙ idle
+  pub idle_since : (me now : Seated T E) (n : ℕ) → now ≡ (after_look me.0 n, me.1) → me.0.stage ≡ Idle → now.0.stage ≡ Idle
+  idle_since me now n is idle = ap (λ (z : Seated T E). z.0.stage) is ∙ idle
 
-  pub looked_first : (me : Seated T E) → HasLooked me me
-  looked_first me = record { same = refl; front = omega arith; all_names = λ _. refl }
-
-  pub slots_since : (me now : Seated T E) → HasLooked me now → now.1 ≡ me.1
-  slots_since me now h = ap (λ (z : Seated T E). z.1) h.same
-
-  -- it drew the ticket that it expected
-  pub drawn_since : (me now after : Seated T E) (n : ℕ) → HasLooked me now → after ≡ (after_draw now.0 n, now.1) → after.0 ≡ after_draw me.0 n
-  drawn_since me now after n h is = ap (λ (z : Seated T E). z.0) is ∙ ap (λ (z : Seated T E). after_draw z.0 n) h.same
-
-module _ {T E : Type 0} (ticket by : E → ℕ) where
-  -- what one more look tells, told of the seat at the start
-  pub learns_since : (me now : Seated T E) (n : ℕ) → HasLooked me now → LearnsNext ticket by now.0 n → LearnsNext ticket by me.0 n
-  learns_since me now n h learns =
-      let told : LearnsNext ticket by (after_look me.0 now.0.front) n = subst (λ (z : Seated T E). LearnsNext ticket by z.0 n) h.same learns in
-      let first : me.0.front ≤ now.0.front = h.front in
-      let then' : now.0.front ≤ n = told.front in
-      record {
-        front = omega arith;
-        all_names = λ all. h.all_names all ∙ told.all_names all;
-        bounded = told.bounded;
-        left = told.left;
-        right = told.right;
-        rising = told.rising;
-        callers = told.callers;
-      }
-
-  -- one more look
-  pub looked_again : (me now after : Seated T E) (n : ℕ) → HasLooked me now → LearnsNext ticket by now.0 n → after ≡ (after_look now.0 n, now.1) → HasLooked me after
-  looked_again me now after n h learns is =
-      let since = learns_since me now n h learns in
-      let to : after ≡ (after_look me.0 n, me.1) = is ∙ ap (λ (z : Seated T E). (after_look z.0 n, z.1)) h.same in
-      let at : n ≡ after.0.front = sym (ap (λ (z : Seated T E). z.0.front) to) in
-      record {
-        same = subst (λ (k : ℕ). after ≡ (after_look me.0 k, me.1)) at to;
-        front = subst (λ (k : ℕ). me.0.front ≤ k) at since.front;
-        all_names = λ all. since.all_names all ∙ at;
-      }
-
-  -- all tickets are drawn
-  pub worn_since : (me now after : Seated T E) (n : ℕ) → HasLooked me now → LearnsNext ticket by now.0 n → after ≡ (after_look now.0 n, now.1) → 2 ^ 63 ≤ n → IsWorn me.0 after.0
-  worn_since me now after n h learns is all =
-      let since = learns_since me now n h learns in
-      let bound : n ≤ 2 ^ 63 = since.bounded in
-      let last : n ≡ 2 ^ 63 = omega arith in
-      record {
-        same = ap (λ (z : Seated T E). z.0) is ∙ ap (λ (z : Seated T E). after_look z.0 n) h.same ∙ ap (λ (k : ℕ). after_look me.0 k) last;
-        all_names = λ names. since.all_names names ∙ last;
-      }
+  -- a look at SERVING, whatever it finds
+  pub idle_watched : (now after : Seated T E) (serving : ℕ) → (now.0.front ≤ serving → after ≡ (after_watch now.0 serving, now.1)) → (serving < now.0.front → after ≡ now) → now.0.stage ≡ Idle → after.0.stage ≡ Idle
+  idle_watched now after serving free busy idle =
+      ⊎_elim
+      (λ (le : now.0.front ≤ serving). ap (λ (z : Seated T E). z.0.stage) (free le) ∙ idle)
+      (λ (lt : serving < now.0.front). ap (λ (z : Seated T E). z.0.stage) (busy lt) ∙ idle)
+      (below_or_above now.0.front serving)

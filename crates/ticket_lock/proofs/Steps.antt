@@ -1,6 +1,7 @@
 -- Each kind of move keeps the rule of the lock, and tells what its play says.
-use Rattle.std.proofs.Common.{◌≡◌, ℕ, eqb, ◌+◌, ◌<◌, ◌≤◌, ◌^◌, ◌⊎◌, List, [], ◌∷◌, ◌++◌, get_or, set, sym, refl, ap, ◌∙◌, subst, inl, inr, ⊎_elim, arith}
-use Rattle.std.specs.Prelude.{Option, Some, All, AllPairs, slice_index, slice_set}
+use Rattle.std.proofs.Common.{◌≡◌, ℕ, eqb, ◌+◌, ◌<◌, ◌≤◌, ◌^◌, ◌⊎◌, Bool, true, false, List, [], ◌∷◌, ◌++◌, get_or, set, sym, refl, ap, ◌∙◌, subst, inl, inr, ⊎_elim, arith}
+use Rattle.std.specs.Prelude.{Option, Some, All, AllPairs, nat_lt, slice_index, slice_set}
+use Rattle.std.proofs.lemmas.Bool.{ltb-true, ltb-false}
 use Rattle.std.proofs.lemmas.List.Elements.{All-push, All-weaker}
 use Rattle.std.proofs.lemmas.List.Quantifiers.{all_pairs_push}
 use mathlib.Core.Option as maybe
@@ -15,11 +16,23 @@ use Rattle.ticket_lock.specs.declared.views.View.{View}
 use Rattle.ticket_lock.specs.Entries.{Continues, IsBefore}
 use Rattle.ticket_lock.specs.Views.{IsLive, HoldsWith}
 use Rattle.ticket_lock.specs.Rule.{Homes, IsHome, IsPass, IsQueued, IsKnown, IsFronted, IsSound}
-use Rattle.ticket_lock.specs.Moves.{Seated, ticket_of, after_look, after_draw, after_entry, after_leaving, lower_half, upper_half, joined, spent, LearnsNext, FindsHistory, looks, draws, enters, leaves}
+use Rattle.ticket_lock.specs.Moves.{Seated, ticket_of, after_look, after_watch, after_draw, after_entry, after_leaving, lower_half, upper_half, joined, spent, LearnsNext, FindsHistory, looks, watches, draws, enters, leaves}
 use Rattle.ticket_lock.proofs.Histories.{rising_prefix, all_prefix}
+use Rattle.ticket_lock.proofs.SeatLists.{each_set, each_push}
 use Rattle.ticket_lock.proofs.LineKept.{IsOutOfLine, same_stage, split_line, join_line, line_stays, line_draws, value_is_home, line_enters, only_one_holds, value_is_out, line_leaves}
-use Rattle.ticket_lock.proofs.KnownKept.{looked_pass, drawn_pass, entered_pass, known_set, known_out, known_leaves, known_splits, known_joins, is_alone}
+use Rattle.ticket_lock.proofs.KnownKept.{looked_pass, watched_pass, drawn_pass, entered_pass, known_set, known_out, known_leaves, known_splits, known_joins, is_alone}
 use Rattle.ticket_lock.proofs.FrontKept.{front_set, front_draws, front_leaves, front_splits, front_joins}
+
+-- no more was found in SERVING than is there
+abbrev IsWatched : {E : Type 0} → ℕ → View E → Type 0
+IsWatched serving v = v.watched ≤ serving
+
+pub below_or_above : (a b : ℕ) → (a ≤ b) ⊎ (b < a)
+below_or_above a b = go (nat_lt b a) refl
+  where
+    go : (t : Bool) → nat_lt b a ≡ t → (a ≤ b) ⊎ (b < a)
+    go true is = inr (ltb-true b a is)
+    go false is = inl (ltb-false b a is)
 
 is_live : (stage other : Stage) → stage ≡ other → IsLive other → IsLive stage
 is_live stage other e live = subst IsLive (sym e) live
@@ -65,6 +78,20 @@ module _ {T E : Type 0} (entries : T → List E) (base_of : T → List ℕ) (tic
       queued = line_stays entries ticket r.next r.serving r.log s.homes s.views (set s.views id (after_look v r.next)) (same_stage s.views id v (after_look v r.next) at refl) r.queued;
       known = known_set entries base_of by base r.log s.homes s.views id v (after_look v r.next) at (λ x has. has) (looked_pass by base r.log v r.next the_pass) r.known;
       fronted = front_set r.next r.log s.views id v (after_look v r.next) at live r.fronted (let le : r.next ≤ r.next = omega arith in le) (λ _. refl) (λ e. e);
+      watched = each_set (IsWatched r.serving) s.views id (after_look v r.next) r.watched (omega arith);
+    }
+
+    -- a look at SERVING by a pass that asks for nothing
+    pub looked_on : v.stage ≡ Idle → Sound record { words = s.words; homes = s.homes; views = set s.views id (after_watch v r.serving) }
+    looked_on asks = record {
+      next = r.next;
+      serving = r.serving;
+      log = r.log;
+      words = r.words;
+      queued = line_stays entries ticket r.next r.serving r.log s.homes s.views (set s.views id (after_watch v r.serving)) (same_stage s.views id v (after_watch v r.serving) at refl) r.queued;
+      known = known_set entries base_of by base r.log s.homes s.views id v (after_watch v r.serving) at (λ x has. has) (watched_pass by base r.log v r.serving the_pass) r.known;
+      fronted = front_set r.next r.log s.views id v (after_watch v r.serving) at live r.fronted (r.fronted.fronts id v at live) (λ e. e) (λ e. e);
+      watched = each_set (IsWatched r.serving) s.views id (after_watch v r.serving) r.watched (let le : r.serving ≤ r.serving = omega arith in le);
     }
 
     -- a ticket is drawn
@@ -77,6 +104,7 @@ module _ {T E : Type 0} (entries : T → List E) (base_of : T → List ℕ) (tic
       queued = line_draws entries ticket r.next r.serving r.log s.homes s.views id v (after_draw v r.next) at r.queued (subst IsOutOfLine (sym asks) tt) refl few;
       known = known_set entries base_of by base r.log s.homes s.views id v (after_draw v r.next) at (λ x has. (live, has.1, has.2)) (drawn_pass by base r.log v r.next the_pass) r.known;
       fronted = front_draws r.next r.log s.views id v (after_draw v r.next) at tt r.fronted refl (λ e. e);
+      watched = each_set (IsWatched r.serving) s.views id (after_draw v r.next) r.watched (r.watched id v at);
     }
 
     -- a look at SERVING that changes nothing
@@ -94,6 +122,7 @@ module _ {T E : Type 0} (entries : T → List E) (base_of : T → List ℕ) (tic
       known = known_out entries base_of by base r.log s.homes (set s.views id (after_entry v (entries value)))
           (known_set entries base_of by base r.log s.homes s.views id v (after_entry v (entries value)) at (λ x has. (live, has.1, has.2)) (entered_pass by base r.log v (entries value) is the_pass) r.known);
       fronted = front_set r.next r.log s.views id v (after_entry v (entries value)) at tt r.fronted (r.fronted.fronts id v at live) (λ e. e) (λ _. is);
+      watched = each_set (IsWatched r.serving) s.views id (after_entry v (entries value)) r.watched (r.watched id v at);
     }
 
     -- what it finds
@@ -137,6 +166,7 @@ module _ {T E : Type 0} (entries : T → List E) (base_of : T → List ℕ) (tic
               may)
               (same ∙ the_pass.same_base) (only_one_holds entries ticket r.next r.serving r.log s.homes s.views id v v at r.queued holds) r.known;
           fronted = front_leaves r.next r.log s.views id v (after_leaving v (entries value)) at tt r.fronted refl (entries value) (r.fronted.fronts id v at live) refl;
+          watched = each_set (IsWatched (r.serving + 1)) s.views id (after_leaving v (entries value)) (λ j u there. let le : u.watched ≤ r.serving = r.watched j u there in omega arith) (omega arith);
         }
 
   -- a load of NEXT
@@ -151,6 +181,29 @@ module _ {T E : Type 0} (entries : T → List E) (base_of : T → List ℕ) (tic
         subst (λ (ws : List ℕ). Sound record { words = ws; homes = s.homes; views = set s.views id (after_look me.0 r.next) }) r.words (looked s r id me.0 at live asks),
         (refl, learns s r id me.0 at live),
       )
+
+  -- a load of SERVING by a seat that asks for nothing
+  pub allows_watch : (slots id : ℕ) (me : Seated T E) → me.0.stage ≡ Idle → Allows Sound slots id me 1 (λ n. n) (watches (step slots 1 0 0 maybe.none) me)
+  allows_watch slots id me asks s r one at small =
+      let live = is_live me.0.stage Idle asks tt in
+      let told = watches (step slots 1 0 0 maybe.none) me in
+      let go : (me.0.front ≤ r.serving) ⊎ (r.serving < me.0.front) → Goes s id 1 me (λ n. n) told (r.next ∷ r.serving ∷ []) =
+      ⊎_elim
+      (λ (le : me.0.front ≤ r.serving). (
+        after_watch me.0 r.serving,
+        keeps,
+        tt,
+        subst (λ (ws : List ℕ). Sound record { words = ws; homes = s.homes; views = set s.views id (after_watch me.0 r.serving) }) r.words (looked_on s r id me.0 at live asks),
+        ((λ _. refl), λ lt. absurd (omega arith)),
+      ))
+      (λ (lt : r.serving < me.0.front). (
+        me.0,
+        keeps,
+        tt,
+        subst (λ (ws : List ℕ). Sound record { words = ws; homes = s.homes; views = set s.views id me.0 }) r.words (unmoved s r id me.0 at live),
+        ((λ le. absurd (omega arith)), λ _. refl),
+      )) in
+      subst (Goes s id 1 me (λ n. n) told) (sym r.words) (go (below_or_above me.0.front r.serving))
 
   -- a try to draw
   pub allows_draw : (slots id old : ℕ) (me : Seated T E) → me.0.stage ≡ Idle → old < 2 ^ 63
@@ -196,6 +249,7 @@ module _ {T E : Type 0} (entries : T → List E) (base_of : T → List ℕ) (tic
                   (subst (λ (ws : List ℕ). Sound record { words = ws; homes = maybe.none ∷ []; views = set s.views id (after_entry me.0 (entries value)) }) r.words (entered s r id me.0 at live waits' value is)),
               (
                 omega arith,
+                r.watched id me.0 at,
                 (λ miss. absurd (miss (hit ∙ sym drawn_as))),
                 λ _. (value, refl, r.known.same_base value home ∙ sym (r.known.passes id me.0 at live).same_base, finds s r id me.0 at live waits' value is),
               ),
@@ -205,7 +259,7 @@ module _ {T E : Type 0} (entries : T → List E) (base_of : T → List ℕ) (tic
           keeps,
           tt,
           subst (λ (ws : List ℕ). Sound record { words = ws; homes = s.homes; views = set s.views id me.0 }) r.words (unmoved s r id me.0 at live),
-          (omega arith, (λ _. refl), λ hit. absurd (miss (hit ∙ drawn_as))),
+          (omega arith, r.watched id me.0 at, (λ _. refl), λ hit. absurd (miss (hit ∙ drawn_as))),
         )
       ] in
       subst (Goes s id 1 me (λ n. n) told) (sym r.words) (go (native.Mathlib.Decide.ℕ_discrete r.serving t))
@@ -246,6 +300,7 @@ module _ {T E : Type 0} (entries : T → List E) (base_of : T → List ℕ) (tic
         queued = line_stays entries ticket r.next r.serving r.log s.homes s.views vs (split_line s.views id v (lower_half v) (upper_half v) at (subst IsOutOfLine (sym asks) tt) tt tt) r.queued;
         known = known_splits entries base_of by base r.log s.homes s.views id v at live two r.known;
         fronted = front_splits r.next r.log s.views id v at (r.fronted.fronts id v at live) r.fronted;
+        watched = each_push (IsWatched r.serving) (set s.views id (lower_half v)) (upper_half v) (each_set (IsWatched r.serving) s.views id (lower_half v) r.watched (omega arith)) (omega arith);
       }
 
   -- a join
@@ -266,4 +321,5 @@ module _ {T E : Type 0} (entries : T → List E) (base_of : T → List ℕ) (tic
             (join_line s.views id other v w (joined v w) spent at at' apart (subst IsOutOfLine (sym asks) tt) (subst IsOutOfLine (sym asks') tt) tt tt) r.queued;
         known = known_joins entries base_of by base r.log s.homes s.views id other v w at at' apart live live' adjacent r.known;
         fronted = front_joins r.next r.log s.views id other v w at at' apart (r.fronted.fronts id v at live) (r.fronted.fronts other w at' live') one.0 one.1 two.0 two.1 r.fronted;
+        watched = each_set (IsWatched r.serving) (set s.views id (joined v w)) other spent (each_set (IsWatched r.serving) s.views id (joined v w) r.watched (omega arith)) (omega arith);
       }

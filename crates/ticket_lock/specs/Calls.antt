@@ -5,17 +5,28 @@ use denote.RattleType.{RattleType}
 use Rattle.ticket_lock.specs.declared.views.View.{View}
 use Rattle.ticket_lock.specs.declared.entries.Logged.{Ghosts}
 use Rattle.ticket_lock.specs.declared.passes.Pass.{Pass}
+use Rattle.ticket_lock.specs.declared.passes.TryAcquireError.{TryAcquireError}
+use Rattle.ticket_lock.specs.declared.passes.TryAcquireError.TheVariants as failed
+use Rattle.ticket_lock.specs.declared.drawn.Drawn.{Drawn}
 use Rattle.ticket_lock.specs.declared.turns.Held.{Held}
 use Rattle.ticket_lock.specs.declared.lock.TicketLock.{TicketLock}
 use Rattle.ticket_lock.specs.contracts.turns.Held.{the_row}
 use Rattle.ticket_lock.specs.Entries.{entries_under, Continues, IsBefore, longer_of}
 use Rattle.ticket_lock.specs.Views.{HasAllNames}
-use Rattle.ticket_lock.specs.Moves.{middle_of, after_look}
+use Rattle.ticket_lock.specs.Moves.{middle_of, after_look, before_draw}
 
 module _ {T E : Type 0} {L : Ghosts T E} where
   -- what a pass knows
   abbrev pub view_of : Pass T E L → View E
   view_of pass = pass.seat.me.0
+
+  -- what the pass knows whose ticket was drawn: what it knew before the draw, which found its ticket in NEXT
+  abbrev pub drawn_view : Drawn T E L → View E
+  drawn_view drawn = before_draw drawn.seat.me.0 drawn.ticket
+
+  -- the ticket that was drawn
+  abbrev pub drawn_ticket : Drawn T E L → ℕ
+  drawn_ticket drawn = drawn.ticket
 
   -- what the pass knows whose turn it is
   abbrev pub held_view : Held T E L → View E
@@ -32,6 +43,15 @@ module _ {T E : Type 0} {L : Ghosts T E} where
   -- the pass is of this lock
   abbrev pub IsOf : TicketLock T E → Pass T E L → Type 0
   IsOf lock pass = pass.seat.table_id ≡ lock.table.shared.table_id
+
+  -- the ticket is of this lock
+  abbrev pub IsTicketOf : TicketLock T E → Drawn T E L → Type 0
+  IsTicketOf lock drawn = drawn.seat.table_id ≡ lock.table.shared.table_id
+
+  -- the pass that comes back from a try that failed
+  abbrev pub pass_of : TryAcquireError T E L → Pass T E L
+  pass_of (failed.Busy pass) = pass
+  pass_of (failed.Worn worn) = worn.pass
 
   -- the turn is of this lock
   abbrev pub IsTurnOf : TicketLock T E → Held T E L → Type 0
@@ -118,3 +138,14 @@ pub record IsBack {E : Type 0} (v w : View E) (left : List E) : Type 0 where
 pub record IsWorn {E : Type 0} (v w : View E) : Type 0 where
   pub same : w ≡ after_look v (2 ^ 63)
   pub all_names : HasAllNames v → v.front ≡ 2 ^ 63
+
+-- A pass that looked at NEXT: nothing changed but its front, which has not fallen, and is the same where the pass has all names.
+pub record HasLooked {E : Type 0} (v w : View E) : Type 0 where
+  pub same : w ≡ after_look v w.front
+  pub front : v.front ≤ w.front
+  pub all_names : HasAllNames v → v.front ≡ w.front
+
+-- A pass comes back from a try: somebody was in line, or another drew the ticket, and tickets are left; or all are drawn.
+abbrev pub HasFailed : {T E : Type 0} {L : Ghosts T E} → View E → TryAcquireError T E L → Type 0
+HasFailed v (failed.Busy pass) = HasLooked v (view_of pass) × ((view_of pass).front < 2 ^ 63)
+HasFailed v (failed.Worn worn) = IsWorn v (view_of worn.pass)

@@ -84,3 +84,5 @@ pub record IsSound {T E : Type 0} (entries : T → List E) (base_of : T → List
   pub queued : IsQueued entries ticket next serving log s.homes s.views
   pub known : IsKnown entries base_of by base log s.homes s.views
   pub fronted : IsFronted next log s.views
+  -- no pass has found more in SERVING than is there
+  pub watched : Each (λ v. v.watched ≤ serving) s.views

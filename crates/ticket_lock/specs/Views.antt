@@ -41,6 +41,13 @@ is_idle (Waiting ticket) = false
 is_idle (Holding ticket) = false
 is_idle Spent = false
 
+-- whether it waits with the ticket `x`
+abbrev pub is_waiting : ℕ → Stage → Bool
+is_waiting x Idle = false
+is_waiting x (Waiting ticket) = x == ticket
+is_waiting x (Holding ticket) = false
+is_waiting x Spent = false
+
 -- whether it holds with the ticket `x`
 abbrev pub is_holding : ℕ → Stage → Bool
 is_holding x Idle = false

@@ -5,6 +5,7 @@
 //! which has to be given back by `TicketLock::release`. `docs/LOCK.md` says what is promised, and by which clauses.
 #![tactic(auto)]
 
+mod drawn;
 mod entries;
 mod lock;
 mod moves;
@@ -12,7 +13,8 @@ mod passes;
 mod turns;
 mod views;
 
+pub use drawn::Drawn;
 pub use entries::Logged;
 pub use lock::TicketLock;
-pub use passes::{Pass, Worn};
+pub use passes::{Pass, TryAcquireError, Worn};
 pub use turns::Held;

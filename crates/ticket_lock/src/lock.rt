@@ -16,15 +16,16 @@
 //! of its own ticket, and the value is home before the next ticket is served: so the list of entries grows in the order of the tickets, and each
 //! caller finds all that was added before it.
 //!
-//! That nobody draws while somebody is in line is for speed alone: a ticket fixes who comes next, so a thread that has one and isn't running stops all
-//! others. One that waits without a ticket stops nobody.
-ghost use Rattle.std.specs.Prelude.{◌≡◌, ◌↔◌, ◌+◌, ◌<◌, ◌≤◌, ◌^◌, [], ◌∷◌, All, AllPairs, Some, IfOk, IfErr, IfSome, IfNone, IsOk, MatchResult, Box};
+//! A pass that finds nobody in line, and then draws the ticket that it found, is served at once. Only `try_draw` draws while others are in line: a
+//! ticket fixes who comes next, so a thread that has one and isn't running stops all others. One that waits without a ticket stops nobody.
+ghost use Rattle.std.specs.Prelude.{◌≡◌, ◌↔◌, ◌+◌, ◌<◌, ◌≤◌, ◌^◌, [], ◌∷◌, All, AllPairs, Some, IfOk, IfErr, IfSome, IfNone, IsOk, IsSome, MatchResult, Box, false};
 ghost use Rattle.std.specs.declared.alloc.Global.{Global};
 ghost use Rattle.ticket_lock.specs.Entries.{IsBefore};
 
+use crate::drawn::Drawn;
 use crate::entries::Logged;
-use crate::moves::{Draws, Enters, Halves, Leaves, Line, Looks, Meets};
-use crate::passes::{Pass, PassSeat, Worn};
+use crate::moves::{Draws, Enters, Halves, Leaves, Line, Looks, Meets, Watches};
+use crate::passes::{Pass, PassSeat, TryAcquireError, Worn};
 use crate::turns::{Held, Turn};
 use crate::views::{Opening, View};
 use atomic_table::{Refused, Table};
@@ -90,11 +91,11 @@ fn one_slot<T>(alloc: Global, value: T) -> Result<Vec<Option<Box<T>>>, AllocFail
 
 impl<T: Logged> TicketLock<T> {
     ghost use Rattle.ticket_lock.specs.Views.{HasAllNames};
-    ghost use Rattle.ticket_lock.specs.Moves.{after_draw, LearnsNext};
     ghost use Rattle.ticket_lock.specs.Boxes.{inside};
-    ghost use Rattle.ticket_lock.specs.private.Entered.{HasEntered};
+    ghost use Rattle.ticket_lock.specs.private.Entered.{HasDrawn, HasEntered};
     ghost use Rattle.ticket_lock.specs.declared.views.Stage.TheVariants.{Idle, Waiting};
-    ghost use Rattle.ticket_lock.specs.Calls.{view_of, held_view, held_ticket, held_value, IsOf, IsTurnOf, IsRoot, AreHalves, IsMet, IsDrawn, Finds, MayLeave, IsBack, IsWorn};
+    ghost use Rattle.ticket_lock.specs.declared.views.View.{View};
+    ghost use Rattle.ticket_lock.specs.Calls.{view_of, drawn_view, drawn_ticket, held_view, held_ticket, held_value, IsOf, IsTicketOf, IsTurnOf, IsRoot, AreHalves, IsMet, IsDrawn, Finds, MayLeave, IsBack, IsWorn, HasLooked, HasFailed, pass_of};
 
     /// A lock whose first ticket is `first`, and its root pass, which has all callers' numbers from 0 to 65,535. The
     /// value comes back where there is no memory.
@@ -194,12 +195,14 @@ impl<T: Logged> TicketLock<T> {
         ensures worn { IfErr result (λ w. IsWorn (view_of pass) (view_of w.pass)) }
     {
         let Pass { mut seat, low, end } = pass;
-        let Some(ticket) = self.draw(rt, &mut seat) else {
+        let Some(ticket) = self.wait_and_draw(rt, &mut seat) else {
             return Err(Worn {
                 pass: Pass { seat, low, end },
             });
         };
-        let value = self.enter(rt, &mut seat, ticket);
+        let Some(value) = self.enter(&mut seat, ticket) else {
+            unreachable!()
+        };
         let turn = Turn {
             seat,
             low,
@@ -209,27 +212,120 @@ impl<T: Logged> TicketLock<T> {
         Ok(Held { turn, value })
     }
 
-    // Draws the next ticket, where one is left. Most often nobody is in line, so it is tried once before anything that waits.
-    fn draw<R: Wait>(&self, rt: &R, seat: &mut PassSeat<T>) -> Option<u64>
+    /// Draws a ticket if nobody is in line, so that it is served at once, and takes the value. It waits for nobody.
+    #[inline(always)]
+    pub fn try_acquire(&self, pass: Pass<T>) -> Result<Held<T>, TryAcquireError<T>>
+        requires { IsOf self.now pass }
+        ensures of { MatchResult result (λ h. IsTurnOf self.now h) (λ e. IsOf self.now (pass_of e)) }
+        ensures drawn { IfOk result (λ h. IsDrawn (view_of pass) (held_view h) (held_ticket h)) }
+        ensures finds { IfOk result (λ h. Finds T.ticket T.by (view_of pass) (held_ticket h) (held_view h).seen) }
+        ensures entries { IfOk result (λ h. T.entries (held_value h) ≡ (held_view h).seen) }
+        ensures base { IfOk result (λ h. T.base (held_value h) ≡ (view_of pass).base) }
+        ensures failed { IfErr result (λ e. HasFailed (view_of pass) e) }
+    {
+        let Pass { mut seat, low, end } = pass;
+        match self.draw(&mut seat, false) {
+            Ok(ticket) => {
+                let Some(value) = self.enter(&mut seat, ticket) else {
+                    unreachable!()
+                };
+                let turn = Turn {
+                    seat,
+                    low,
+                    end,
+                    ticket,
+                };
+                Ok(Held { turn, value })
+            }
+            Err(next) => Err(TicketLock::failed(Pass { seat, low, end }, next)),
+        }
+    }
+
+    /// Draws a ticket though others may be in line, whose turns come first. It waits for nobody, and is busy only where
+    /// another draws at the same moment.
+    #[inline(always)]
+    pub fn try_draw(&self, pass: Pass<T>) -> Result<Drawn<T>, TryAcquireError<T>>
+        requires { IsOf self.now pass }
+        ensures of { MatchResult result (λ d. IsTicketOf self.now d) (λ e. IsOf self.now (pass_of e)) }
+        ensures looked { IfOk result (λ d. HasLooked (view_of pass) (drawn_view d)) }
+        ensures failed { IfErr result (λ e. HasFailed (view_of pass) e) }
+    {
+        let Pass { mut seat, low, end } = pass;
+        match self.draw(&mut seat, true) {
+            Ok(ticket) => Ok(Drawn {
+                seat,
+                low,
+                end,
+                ticket,
+            }),
+            Err(next) => Err(TicketLock::failed(Pass { seat, low, end }, next)),
+        }
+    }
+
+    /// Takes the value if the ticket is served; otherwise the ticket comes back as it was. It waits for nobody.
+    #[inline(always)]
+    pub fn try_enter(&self, drawn: Drawn<T>) -> Result<Held<T>, Drawn<T>>
+        requires { IsTicketOf self.now drawn }
+        ensures of { MatchResult result (λ h. IsTurnOf self.now h) (λ d. IsTicketOf self.now d) }
+        ensures ticket { IfOk result (λ h. held_ticket h ≡ drawn_ticket drawn) }
+        ensures drawn { IfOk result (λ h. IsDrawn (drawn_view drawn) (held_view h) (held_ticket h)) }
+        ensures finds { IfOk result (λ h. Finds T.ticket T.by (drawn_view drawn) (held_ticket h) (held_view h).seen) }
+        ensures entries { IfOk result (λ h. T.entries (held_value h) ≡ (held_view h).seen) }
+        ensures base { IfOk result (λ h. T.base (held_value h) ≡ (drawn_view drawn).base) }
+        ensures err { IfErr result (λ d. (drawn_view d ≡ drawn_view drawn) × (drawn_ticket d ≡ drawn_ticket drawn)) }
+    {
+        let Drawn {
+            mut seat,
+            low,
+            end,
+            ticket,
+        } = drawn;
+        let Some(value) = self.enter(&mut seat, ticket) else {
+            return Err(Drawn {
+                seat,
+                low,
+                end,
+                ticket,
+            });
+        };
+        let turn = Turn {
+            seat,
+            low,
+            end,
+            ticket,
+        };
+        Ok(Held { turn, value })
+    }
+
+    // Why no ticket was drawn, by what was found in NEXT.
+    fn failed(pass: Pass<T>, next: u64) -> TryAcquireError<T>
+        requires { (view_of pass).front ≡ next }
+        ensures pass { pass_of result ≡ pass }
+        ensures failed { (v : View T.Entry) → HasLooked v (view_of pass) → HasFailed v result }
+    {
+        if next < LAST {
+            TryAcquireError::Busy(pass)
+        } else {
+            TryAcquireError::Worn(Worn { pass })
+        }
+    }
+
+    // Draws a ticket while nobody is in line, however long it takes, if one is left. Most often nobody is in line.
+    fn wait_and_draw<R: Wait>(&self, rt: &R, seat: &mut PassSeat<T>) -> Option<u64>
         requires of { seat.old.table_id ≡ self.now.table.shared.table_id }
         requires idle { seat.old.me.0.stage ≡ Idle }
         ensures of { seat.new.table_id ≡ seat.old.table_id }
         ensures slots { seat.new.me.1 ≡ seat.old.me.1 }
-        ensures some { IfSome result (λ n. (seat.new.me.0 ≡ after_draw seat.old.me.0 n) × LearnsNext T.ticket T.by seat.old.me.0 n × (n < 2 ^ 63)) }
+        ensures some { IfSome result (λ n. HasDrawn seat.old.me.0 seat.new.me.0 n × (n ≤ seat.new.me.0.watched)) }
         ensures none { IfNone result (IsWorn seat.old.me.0 seat.new.me.0) }
     {
-        let shared = &self.table.shared;
-        let next = shared.load::<Looks<T>>(seat, NEXT);
-        if next < LAST && shared.peek(SERVING) >= next {
-            let found = shared.compare_exchange::<Draws<T>>(seat, NEXT, next, next + 1);
-            if found == next {
-                return Some(next);
-            }
+        match self.draw(seat, false) {
+            Ok(ticket) => Some(ticket),
+            Err(_) => self.draw_later(rt, seat),
         }
-        self.draw_later(rt, seat)
     }
 
-    // As `draw`, however long it takes: before it draws, it waits until nobody is in line.
+    // As `wait_and_draw`, of a pass that has tried.
     #[cold]
     #[inline(never)]
     fn draw_later<R: Wait>(&self, rt: &R, seat: &mut PassSeat<T>) -> Option<u64>
@@ -237,67 +333,63 @@ impl<T: Logged> TicketLock<T> {
         requires idle { seat.old.me.0.stage ≡ Idle }
         ensures of { seat.new.table_id ≡ seat.old.table_id }
         ensures slots { seat.new.me.1 ≡ seat.old.me.1 }
-        ensures some { IfSome result (λ n. (seat.new.me.0 ≡ after_draw seat.old.me.0 n) × LearnsNext T.ticket T.by seat.old.me.0 n × (n < 2 ^ 63)) }
+        ensures some { IfSome result (λ n. HasDrawn seat.old.me.0 seat.new.me.0 n × (n ≤ seat.new.me.0.watched)) }
         ensures none { IfNone result (IsWorn seat.old.me.0 seat.new.me.0) }
     {
-        let shared = &self.table.shared;
         let backoff = Backoff::new();
         for _ in rt.forever() {
-            let next = shared.load::<Looks<T>>(seat, NEXT);
-            if next >= LAST {
-                return None;
+            match self.draw(seat, false) {
+                Ok(ticket) => return Some(ticket),
+                Err(next) if next >= LAST => return None,
+                Err(_) => backoff.snooze(),
             }
-            if shared.peek(SERVING) < next {
-                backoff.snooze();
-                continue;
-            }
-            let found = shared.compare_exchange::<Draws<T>>(seat, NEXT, next, next + 1);
-            if found == next {
-                return Some(next);
-            }
-            backoff.spin();
         }
         unreachable!()
     }
 
-    // Waits until the ticket is served, and takes the value out of its slot. Most often it is served at once.
-    fn enter<R: Wait>(&self, rt: &R, seat: &mut PassSeat<T>, ticket: u64) -> Box<T>
+    // Draws a ticket if one is left and nobody is in line, or the pass may stand in line. Otherwise what it found in NEXT.
+    fn draw(&self, seat: &mut PassSeat<T>, in_line: bool) -> Result<u64, u64>
+        requires of { seat.old.table_id ≡ self.now.table.shared.table_id }
+        requires idle { seat.old.me.0.stage ≡ Idle }
+        ensures of { seat.new.table_id ≡ seat.old.table_id }
+        ensures slots { seat.new.me.1 ≡ seat.old.me.1 }
+        ensures ok { IfOk result (λ n. HasDrawn seat.old.me.0 seat.new.me.0 n) }
+        ensures first { in_line ≡ false → IfOk result (λ n. n ≤ seat.new.me.0.watched) }
+        ensures err { IfErr result (λ n. HasLooked seat.old.me.0 seat.new.me.0 × (seat.new.me.0.front ≡ n) × (n ≤ 2 ^ 63)) }
+    {
+        let shared = &self.table.shared;
+        let next = shared.load::<Looks<T>>(seat, NEXT);
+        if next >= LAST {
+            return Err(next);
+        }
+        let serving = shared.load::<Watches<T>>(seat, SERVING);
+        if serving < next && !in_line {
+            return Err(next);
+        }
+        let found = shared.compare_exchange::<Draws<T>>(seat, NEXT, next, next + 1);
+        if found != next {
+            return Err(found);
+        }
+        Ok(next)
+    }
+
+    // Takes the value out of its slot if the ticket is served, as one is that was drawn while nobody was in line.
+    fn enter(&self, seat: &mut PassSeat<T>, ticket: u64) -> Option<Box<T>>
         requires of { seat.old.table_id ≡ self.now.table.shared.table_id }
         requires waiting { seat.old.me.0.stage ≡ Waiting ticket }
         requires slots { seat.old.me.1 ≡ [] }
         ensures of { seat.new.table_id ≡ seat.old.table_id }
-        ensures entered { HasEntered (inside T.entries) (inside T.base) T.ticket T.by seat.old.me.0 seat.new.me result }
+        ensures first { ticket ≤ seat.old.me.0.watched → IsSome result }
+        ensures some { IfSome result (λ value. HasEntered (inside T.entries) (inside T.base) T.ticket T.by seat.old.me.0 seat.new.me value) }
+        ensures none { IfNone result (seat.new.me ≡ seat.old.me) }
     {
         let serving = self.table.shared.load::<Enters<T>>(seat, SERVING);
         if serving != ticket {
-            return self.enter_later(rt, seat, ticket);
+            return None;
         }
         let slot = self.table.shared.exchange(seat, SLOT, None);
         let Some(value) = slot else { unreachable!() };
-        value
-    }
-
-    // As `enter`, however long it takes.
-    #[cold]
-    #[inline(never)]
-    fn enter_later<R: Wait>(&self, rt: &R, seat: &mut PassSeat<T>, ticket: u64) -> Box<T>
-        requires of { seat.old.table_id ≡ self.now.table.shared.table_id }
-        requires waiting { seat.old.me.0.stage ≡ Waiting ticket }
-        requires slots { seat.old.me.1 ≡ [] }
-        ensures of { seat.new.table_id ≡ seat.old.table_id }
-        ensures entered { HasEntered (inside T.entries) (inside T.base) T.ticket T.by seat.old.me.0 seat.new.me result }
-    {
-        let backoff = Backoff::new();
-        for _ in rt.forever() {
-            let served = self.table.shared.load::<Enters<T>>(seat, SERVING);
-            if served == ticket {
-                let slot = self.table.shared.exchange(seat, SLOT, None);
-                let Some(value) = slot else { unreachable!() };
-                return value;
-            }
-            backoff.snooze();
-        }
-        unreachable!()
+        Some(value)
     }
 
     /// Puts the value back and serves the next ticket. It waits for nobody.

@@ -29,6 +29,17 @@ impl<T: Logged> Play<Option<Box<T>>, View<T::Entry>> for Looks<T> {
     ghost then = { looks (inside T.entries) (inside T.base) T.ticket T.by };
 }
 
+/// A look at SERVING, by which a pass that asks for nothing sees whether somebody is in line.
+pub struct Watches<T> {
+    of: PhantomData<T>,
+}
+
+impl<T: Logged> Play<Option<Box<T>>, View<T::Entry>> for Watches<T> {
+    ghost use Rattle.ticket_lock.specs.Moves.{watches};
+
+    ghost then = { watches };
+}
+
 /// A try to draw a ticket.
 pub struct Draws<T> {
     of: PhantomData<T>,

@@ -45,6 +45,15 @@ pub struct Worn<T: Logged> {
     pub pass: Pass<T>,
 }
 
+/// Why a try took no turn. The pass comes back.
+#[derive(Drop)]
+pub enum TryAcquireError<T: Logged> {
+    /// Somebody was in line, or drew the ticket first. A later try may take a turn.
+    Busy(Pass<T>),
+    /// All tickets are drawn.
+    Worn(Worn<T>),
+}
+
 impl<T: Logged> Debug for Pass<T> {
     fn fmt<W: fmt::Write>(&self, f: &mut Formatter<W>) -> fmt::Result {
         let low = self.low;
@@ -67,3 +76,23 @@ impl<T: Logged> Display for Worn<T> {
 }
 
 impl<T: Logged> Error for Worn<T> {}
+
+impl<T: Logged> Debug for TryAcquireError<T> {
+    fn fmt<W: fmt::Write>(&self, f: &mut Formatter<W>) -> fmt::Result {
+        match self {
+            TryAcquireError::Busy(pass) => write!(f, "Busy({pass:?})"),
+            TryAcquireError::Worn(worn) => write!(f, "{worn:?}"),
+        }
+    }
+}
+
+impl<T: Logged> Display for TryAcquireError<T> {
+    fn fmt<W: fmt::Write>(&self, f: &mut Formatter<W>) -> fmt::Result {
+        match self {
+            TryAcquireError::Busy(_) => f.write_str("somebody else is in line"),
+            TryAcquireError::Worn(worn) => write!(f, "{worn}"),
+        }
+    }
+}
+
+impl<T: Logged> Error for TryAcquireError<T> {}

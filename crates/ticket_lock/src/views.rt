@@ -30,6 +30,8 @@ pub struct View<E> {
     pub middle: u64,
     pub left: LinkedList<E>,
     pub right: LinkedList<E>,
+    /// What it found in SERVING since it last looked at NEXT, if nobody was in line; 0 otherwise.
+    pub watched: u64,
 }
 
 /// What the table is told once, when it is made: the first ticket and the value.

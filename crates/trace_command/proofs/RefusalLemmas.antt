@@ -1,11 +1,16 @@
 -- `==` of refusals tells whether they are one.
-use Rattle.std.proofs.Common.{rules, ◌≡◌, true, refl, subst}
+use Rattle.std.proofs.Common.{rules, ◌≡◌, true, refl, subst, ap}
 use Rattle.std.proofs.lemmas.Bool.{false≢true}
 use Rattle.std.specs.Bool.{Decides}
 use Rattle.std.specs.Cmp.Lexicographic.{bytes_decides}
+use Rattle.trace_format.specs.contracts.bad_row.BadRowPartialEq.TheImpl.{eq-value as row_eq}
+use Rattle.trace_format.specs.declared.bad_row.BadRow.{BadRow as WrongRow}
 use Rattle.trace_command.specs.declared.refusal.Refusal.{Refusal}
 use Rattle.trace_command.specs.declared.refusal.Refusal.TheVariants.{NoSuchFile, NotReadable, NotWritable, BadValue, BadTrigger, NoSuchEvent, EventExists, BadDefinition, TooBig, FilterSyntax, NoSuchField, WrongOperator, HistSyntax, BadSize, TriggerExists, NoSuchTrigger, TooMany, InstanceExists, NoSuchInstance, Busy, NoSuchCpu, BadRow, HistoryFull, Memory, Worn}
 use Rattle.trace_command.specs.contracts.refusal.RefusalPartialEq.TheImpl.{eq-value as refusal_eq}
+
+row_decided : (a b : WrongRow) → Decides (row_eq.it a b) (a ≡ b)
+row_decided a b = search (rules, bytes_decides)
 
 one_refusal : (a b : Refusal) → refusal_eq.it a b ≡ true → a ≡ b
 one_refusal NoSuchFile NoSuchFile e = refl
@@ -29,7 +34,7 @@ one_refusal InstanceExists InstanceExists e = refl
 one_refusal NoSuchInstance NoSuchInstance e = refl
 one_refusal Busy Busy e = refl
 one_refusal NoSuchCpu NoSuchCpu e = refl
-one_refusal (BadRow x) (BadRow y) e = search (rules, bytes_decides)
+one_refusal (BadRow x) (BadRow y) e = ap BadRow ((row_decided x y).0 e)
 one_refusal HistoryFull HistoryFull e = refl
 one_refusal Memory Memory e = refl
 one_refusal Worn Worn e = refl
@@ -57,7 +62,7 @@ equals_itself InstanceExists = refl
 equals_itself NoSuchInstance = refl
 equals_itself Busy = refl
 equals_itself NoSuchCpu = refl
-equals_itself (BadRow x) = search (rules, bytes_decides)
+equals_itself (BadRow x) = (row_decided x x).1 refl
 equals_itself HistoryFull = refl
 equals_itself Memory = refl
 equals_itself Worn = refl

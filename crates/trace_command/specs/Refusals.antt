@@ -40,7 +40,7 @@ printed_as InstanceExists = (17, codes "InstanceExists")
 printed_as NoSuchInstance = (18, codes "NoSuchInstance")
 printed_as Busy = (19, codes "Busy")
 printed_as NoSuchCpu = (20, codes "NoSuchCpu")
-printed_as (BadRow field) = (21, codes "BadRow")
+printed_as (BadRow bad) = (21, codes "BadRow")
 printed_as HistoryFull = (22, codes "HistoryFull")
 printed_as Memory = (23, codes "Memory")
 printed_as Worn = (24, codes "Worn")
@@ -65,7 +65,7 @@ refusal_of_catalog catalog.TooBig = TooBig
 refusal_of_catalog catalog.Memory = Memory
 
 abbrev pub refusal_of_row : RowFault → Refusal
-refusal_of_row (row.BadRow field cause) = BadRow field
+refusal_of_row (row.BadRow bad) = BadRow bad
 refusal_of_row row.Memory = Memory
 
 abbrev pub refusal_of_filter : FilterFault → Refusal
@@ -102,7 +102,7 @@ shown_detail (FilterSyntax at cause) = codes " at " ++ decimal at
 shown_detail (NoSuchField at) = codes " at " ++ decimal at
 shown_detail (WrongOperator at cause) = codes " at " ++ decimal at
 shown_detail (HistSyntax at cause) = codes " at " ++ decimal at
-shown_detail (BadRow field) = codes " " ++ shown_name field
+shown_detail (BadRow bad) = codes " " ++ shown_name bad.field
 shown_detail _ = []
 
 -- a refusal as text: `N7 BadDefinition at 2`

@@ -9,8 +9,7 @@ use std::error::Error;
 use std::fmt::{Display, Formatter, Write};
 use std::{fmt, str};
 use trace_filter::{FilterCause, FilterFault};
-use trace_format::{CatalogFault, DeclarationCause, DefinitionFault, RowFault};
-use trace_lex::Text;
+use trace_format::{BoxedBadRow, CatalogFault, DeclarationCause, DefinitionFault, RowFault};
 use trace_trigger::{HistCause, OperatorCause, TextCause, TriggerFault};
 
 /// What there would be too many of.
@@ -85,9 +84,8 @@ pub enum Refusal {
     Busy,
     /// The CPU's number is not below the number of CPUs.
     NoSuchCpu,
-    /// The row of an emission is wrong at this field. The cause that the fault has is not kept: it would make all answers larger, and each emission
-    /// slower.
-    BadRow { field: Text },
+    /// The pairs are no row of the event.
+    BadRow { row: BoxedBadRow },
     /// The history has as many entries as it may have.
     HistoryFull,
     /// Memory was refused.
@@ -197,7 +195,7 @@ impl From<RowFault> for Refusal {
 
     fn from(fault: RowFault) -> Refusal {
         match fault {
-            RowFault::BadRow { field, .. } => Refusal::BadRow { field },
+            RowFault::BadRow { row } => Refusal::BadRow { row },
             RowFault::Memory => Refusal::Memory,
         }
     }
@@ -300,8 +298,8 @@ impl Display for Refusal {
             | Refusal::NoSuchField { at }
             | Refusal::WrongOperator { at, .. }
             | Refusal::HistSyntax { at, .. } => write!(f, "N{number} {name} at {at}"),
-            Refusal::BadRow { field } => {
-                let field = shown_name(field.as_bytes());
+            Refusal::BadRow { row } => {
+                let field = shown_name(row.get().field.as_bytes());
                 write!(f, "N{number} {name} {field}")
             }
             _ => write!(f, "N{number} {name}"),

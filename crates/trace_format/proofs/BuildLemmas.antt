@@ -8,13 +8,14 @@ use Rattle.trace_format.specs.declared.kind.Kind.{Kind}
 use Rattle.trace_format.specs.declared.kind.Kind.TheVariants.{Number, Char}
 use Rattle.trace_format.specs.declared.event.Field.{Field}
 use Rattle.trace_format.specs.declared.pair.Pair.{Pair}
+use Rattle.trace_format.specs.declared.bad_row.BadRow.{BadRow}
 use Rattle.trace_format.specs.declared.fault.RowFault.{RowFault}
-use Rattle.trace_format.specs.declared.fault.RowFault.TheVariants.{BadRow, Memory}
+use Rattle.trace_format.specs.declared.fault.RowFault.TheVariants as fault
 use Rattle.trace_lex.specs.Numbers.{number_of}
 use Rattle.trace_format.specs.Kinds.{least, greatest}
 use Rattle.trace_format.specs.Definitions.{Definition}
 use Rattle.trace_format.specs.Cells.{Datum, Holds, is_printable, kinds_of}
-use Rattle.trace_format.specs.Rows.{number_in, value_of, first_wrong, first_missing, pair_named, given, row_unless, row_of, IsBuilt, IsBadRow}
+use Rattle.trace_format.specs.Rows.{number_in, value_of, first_wrong, first_missing, pair_named, given, missing_at, row_unless, row_of, IsBuilt, IsBadRow}
 use Rattle.trace_lex.proofs.Options.{if_some, and_then_some}
 
 -- what a text gives may be held
@@ -52,18 +53,18 @@ module _ (definition : Definition) (pairs : List Pair) where
       let back_values = sym values_is in
       (λ i. row_unless (right i) (all i) (record { kinds = back_kinds i; values = back_values i }))
 
-  pub row_wrong : (name : List ℕ) → first_wrong definition.fields [] pairs ≡ Some name → row_of definition pairs ≡ Err name
+  pub row_wrong : (bad : BadRow) → first_wrong definition.fields [] pairs ≡ Some bad → row_of definition pairs ≡ Err bad
   unfolding row_of
-  row_wrong name h = ap (λ wrong. row_unless wrong (first_missing definition.fields pairs) (record { kinds = kinds_of definition; values = filter_map (given pairs) definition.fields })) h
+  row_wrong bad h = ap (λ wrong. row_unless wrong (first_missing definition.fields pairs) (record { kinds = kinds_of definition; values = filter_map (given pairs) definition.fields })) h
 
-  pub row_missing : (name : List ℕ) → first_wrong definition.fields [] pairs ≡ None → first_missing definition.fields pairs ≡ Some name → row_of definition pairs ≡ Err name
+  pub row_missing : (name : List ℕ) → first_wrong definition.fields [] pairs ≡ None → first_missing definition.fields pairs ≡ Some name → row_of definition pairs ≡ Err (missing_at name)
   unfolding row_of
   row_missing name right h = (λ i. row_unless (right i) (h i) (record { kinds = kinds_of definition; values = filter_map (given pairs) definition.fields }))
 
-  pub refused_wrong : (fault : RowFault) (name : List ℕ) → IsBadRow fault name → first_wrong definition.fields [] pairs ≡ Some name → IsBuilt (Err fault) (row_of definition pairs)
-  refused_wrong (BadRow field cause) name is h = row_wrong name h ∙ ap Err (sym is)
-  refused_wrong Memory name is h = tt
+  pub refused_wrong : (refused : RowFault) (bad : BadRow) → IsBadRow refused bad → first_wrong definition.fields [] pairs ≡ Some bad → IsBuilt (Err refused) (row_of definition pairs)
+  refused_wrong (fault.BadRow told) bad is h = row_wrong bad h ∙ ap Err (sym is)
+  refused_wrong fault.Memory bad is h = tt
 
-  pub refused_missing : (fault : RowFault) (name : List ℕ) → IsBadRow fault name → first_wrong definition.fields [] pairs ≡ None → first_missing definition.fields pairs ≡ Some name → IsBuilt (Err fault) (row_of definition pairs)
-  refused_missing (BadRow field cause) name is right h = row_missing name right h ∙ ap Err (sym is)
-  refused_missing Memory name is right h = tt
+  pub refused_missing : (refused : RowFault) (name : List ℕ) → IsBadRow refused (missing_at name) → first_wrong definition.fields [] pairs ≡ None → first_missing definition.fields pairs ≡ Some name → IsBuilt (Err refused) (row_of definition pairs)
+  refused_missing (fault.BadRow told) name is right h = row_missing name right h ∙ ap Err (sym is)
+  refused_missing fault.Memory name is right h = tt

@@ -3,6 +3,7 @@ use Rattle.std.proofs.Common.{◌≡◌, ℕ, Bool, true, false, not, ◌||◌, 
 use Rattle.std.specs.List.{AllByRecursion, AllZip, cons_option}
 use Rattle.std.proofs.lemmas.Bool.{and_parts, and_from, not-true, cond-true, false_from_ne_true}
 use Rattle.std.proofs.lemmas.Slice.Eq.{bytes_eq-Decides}
+use Rattle.trace_format.specs.declared.bad_row.BadRow.{BadRow}
 use Rattle.trace_format.specs.declared.event.Field.{Field}
 use Rattle.trace_format.specs.declared.pair.Pair.{Pair}
 use Rattle.trace_format.specs.declared.fault.RowFault.{RowFault}
@@ -196,7 +197,7 @@ module _ (definition : Definition) (pairs : List Pair) where
   abbrev pub given_row : Cells
   given_row = record { kinds = kinds_of definition; values = filter_map (given pairs) definition.fields }
 
-  pub give_is : (wrong missing : Option (List ℕ)) (row : Cells) → first_wrong definition.fields [] pairs ≡ wrong → first_missing definition.fields pairs ≡ missing → row_unless wrong missing given_row ≡ Ok row → Give definition.fields pairs row
+  pub give_is : (wrong : Option BadRow) (missing : Option (List ℕ)) (row : Cells) → first_wrong definition.fields [] pairs ≡ wrong → first_missing definition.fields pairs ≡ missing → row_unless wrong missing given_row ≡ Ok row → Give definition.fields pairs row
   give_is (Some name) missing row w m h = absurd (cc)
   give_is None (Some name) row w m h = absurd (cc)
   give_is None None row w m h =

@@ -1,19 +1,20 @@
--- The cause for which pairs give no row is that of the name at which they are refused.
+-- The cause for which pairs give no row is that of the pair to blame.
 use Rattle.std.proofs.Common.{◌≡◌, ◌≤◌, ℕ, ℤ, Bool, true, false, ◌&&◌, nat_lt, if◌then◌else◌, List, [], ◌∷◌, ◌++◌, length, Option, None, Some, is_some, Result, Ok, Err, IfErr, inl, inr, ◌⊎◌, refl, sym, ap, ◌∙◌, subst, append_assoc, true≢false, ltb-false}
 use Rattle.std.specs.List.{list_all}
 use Rattle.trace_format.specs.declared.kind.Kind.{Kind}
 use Rattle.trace_format.specs.declared.kind.Kind.TheVariants.{Number, Char}
 use Rattle.trace_format.specs.declared.event.Field.{Field}
 use Rattle.trace_format.specs.declared.pair.Pair.{Pair}
+use Rattle.trace_format.specs.declared.bad_row.BadRow.{BadRow}
 use Rattle.trace_format.specs.declared.fault.RowFault.{RowFault}
 use Rattle.trace_format.specs.declared.fault.RowFault.TheVariants as fault
-use Rattle.trace_format.specs.declared.fault.RowCause.TheVariants.{Repeated, NoNumber, OutOfRange, BadByte, TooLong, Missing}
+use Rattle.trace_format.specs.declared.fault.RowCause.TheVariants.{Repeated, NoNumber, OutOfRange, BadByte, TooLong}
 use Rattle.trace_lex.specs.Numbers.{number_of}
 use Rattle.trace_format.specs.Definitions.{Definition, IsDefinition}
 use Rattle.trace_format.specs.Cells.{Datum, Bytes, Cells, is_printable}
-use Rattle.trace_format.specs.Rows.{value_of, field_named, pair_named, is_right, first_wrong, first_missing, row_unless, row_of, IsBuilt, value_cause, named_cause, pair_cause, first_cause, row_cause}
+use Rattle.trace_format.specs.Rows.{value_of, field_named, pair_named, is_right, first_wrong, first_missing, wrong_at, missing_at, row_unless, row_of, IsBuilt, value_cause, named_cause, pair_cause}
 use Rattle.trace_format.specs.Pairs.{has_pair, AreRight, IsWrongPair, IsMissingField, IsRefusedRow}
-use Rattle.trace_format.specs.RowCauses.{IsNoValueOf, IsWrongFor, IsWrongPairFor, IsRowCause}
+use Rattle.trace_format.specs.RowCauses.{IsNoValueOf, IsWrongFor, IsWrongPairFor, IsMissingFor, IsToldOf}
 use Rattle.trace_lex.proofs.Options.{some_is}
 use Rattle.trace_format.proofs.PairLemmas.{pair_found, field_found, right_is, right_from, wrong_is, AreRight-push, given_row, all_right, missing_field}
 use Rattle.trace_format.proofs.FieldNames.{fields_named}
@@ -65,63 +66,55 @@ module _ (fields : List Field) (before : List Pair) (pair : Pair) where
       by_field None named = sym (field_found fields pair.name) ∙ ap is_some named
       by_field (Some field) named = by_new field named (is_some (pair_named before pair.name)) refl
 
--- ---- the cause of the first wrong pair
+-- ---- the first wrong pair
 
 module _ (fields : List Field) where
-  wrong_pair_for : (before pairs : List Pair) (name : List ℕ) → AreRight fields [] before → first_wrong fields before pairs ≡ Some name
-      → IsWrongPairFor fields (before ++ pairs) name (first_cause fields before pairs)
-  wrong_pair_for before [] name are h = absurd (cc)
-  wrong_pair_for before (pair ∷ pairs) name are h = by (is_right fields before pair) refl h (wrong_pair_for (before ++ pair ∷ []) pairs name)
+  wrong_pair_for : (before pairs : List Pair) (bad : BadRow) → AreRight fields [] before → first_wrong fields before pairs ≡ Some bad → IsWrongPairFor fields (before ++ pairs) bad
+  wrong_pair_for before [] bad are h = absurd (cc)
+  wrong_pair_for before (pair ∷ pairs) bad are h = by (is_right fields before pair) refl h (wrong_pair_for (before ++ pair ∷ []) pairs bad)
     where
-      by : (right : Bool) → is_right fields before pair ≡ right → (if right then first_wrong fields (before ++ pair ∷ []) pairs else Some pair.name) ≡ Some name
-          → (AreRight fields [] (before ++ pair ∷ []) → first_wrong fields (before ++ pair ∷ []) pairs ≡ Some name
-          → IsWrongPairFor fields ((before ++ pair ∷ []) ++ pairs) name (first_cause fields (before ++ pair ∷ []) pairs))
-          → IsWrongPairFor fields (before ++ pair ∷ pairs) name (if right then first_cause fields (before ++ pair ∷ []) pairs else pair_cause fields before pair)
+      by : (right : Bool) → is_right fields before pair ≡ right → (if right then first_wrong fields (before ++ pair ∷ []) pairs else Some (wrong_at fields before pair)) ≡ Some bad
+          → (AreRight fields [] (before ++ pair ∷ []) → first_wrong fields (before ++ pair ∷ []) pairs ≡ Some bad → IsWrongPairFor fields ((before ++ pair ∷ []) ++ pairs) bad)
+          → IsWrongPairFor fields (before ++ pair ∷ pairs) bad
       by true is h' others =
-          subst (λ (ps : List Pair). IsWrongPairFor fields ps name (first_cause fields (before ++ pair ∷ []) pairs)) (append_assoc before (pair ∷ []) pairs)
+          subst (λ (ps : List Pair). IsWrongPairFor fields ps bad) (append_assoc before (pair ∷ []) pairs)
           (others (AreRight-push fields [] before pair are (right_is fields before pair is)) h')
-      by false is h' others = record {
-        pair = record { front = before; pair = pair; back = pairs; cut = refl; right = are; wrong = wrong_is fields before pair is; at = some_is h' };
-        told = wrong_for fields before pair is;
-      }
-
-  -- with none wrong
-  none_for : (before pairs : List Pair) → first_wrong fields before pairs ≡ None → first_cause fields before pairs ≡ Missing
-  none_for before [] h = refl
-  none_for before (pair ∷ pairs) h = by (is_right fields before pair) h (none_for (before ++ pair ∷ []) pairs)
-    where
-      by : (right : Bool) → (if right then first_wrong fields (before ++ pair ∷ []) pairs else Some pair.name) ≡ None
-          → (first_wrong fields (before ++ pair ∷ []) pairs ≡ None → first_cause fields (before ++ pair ∷ []) pairs ≡ Missing)
-          → (if right then first_cause fields (before ++ pair ∷ []) pairs else pair_cause fields before pair) ≡ Missing
-      by true h' others = others h'
-      by false h' others = absurd (cc)
+      by false is h' others = subst (IsWrongPairFor fields (before ++ pair ∷ pairs)) (some_is h') (record {
+        pair = record { front = before; pair = pair; back = pairs; cut = refl; right = are; wrong = wrong_is fields before pair is; at = refl };
+        index = refl;
+        cause = wrong_for fields before pair is;
+      })
 
 -- ---- the law
 
 module _ (definition : Definition) (is : IsDefinition definition) (pairs : List Pair) where
-  refused_for : (wrong missing : Option (List ℕ)) (name : List ℕ) → first_wrong definition.fields [] pairs ≡ wrong → first_missing definition.fields pairs ≡ missing
-      → row_unless wrong missing (given_row definition pairs) ≡ Err name → IsRowCause definition.fields pairs name (first_cause definition.fields [] pairs)
-  refused_for (Some first) missing name w m h =
-      let same : first ≡ name = cc in
-      inl (wrong_pair_for definition.fields [] pairs name tt (w ∙ ap Some same))
-  refused_for None (Some first) name w m h =
-      let same : first ≡ name = cc in
-      inr (none_for definition.fields [] pairs w, missing_field definition.fields pairs name (all_right definition.fields [] pairs w) [] definition.fields refl tt (fields_named definition is) (m ∙ ap Some same))
-  refused_for None None name w m h = absurd (cc)
+  refused_for : (wrong : Option BadRow) (missing : Option (List ℕ)) (bad : BadRow) → first_wrong definition.fields [] pairs ≡ wrong → first_missing definition.fields pairs ≡ missing
+      → row_unless wrong missing (given_row definition pairs) ≡ Err bad → IsToldOf definition.fields pairs bad
+  refused_for (Some first) missing bad w m h =
+      let same : first ≡ bad = cc in
+      inl (wrong_pair_for definition.fields [] pairs bad tt (w ∙ ap Some same))
+  refused_for None (Some name) bad w m h =
+      let same : missing_at name ≡ bad = cc in
+      inr (subst (IsMissingFor definition.fields pairs) same (record {
+        field = missing_field definition.fields pairs name (all_right definition.fields [] pairs w) [] definition.fields refl tt (fields_named definition is) m;
+        none = refl;
+        cause = refl;
+      }))
+  refused_for None None bad w m h = absurd (cc)
 
-  pub cause_is_of_the_name : (name : List ℕ) → row_of definition pairs ≡ Err name → IsRowCause definition.fields pairs name (row_cause definition.fields pairs)
-  unfolding row_of row_cause
-  cause_is_of_the_name name h = refused_for (first_wrong definition.fields [] pairs) (first_missing definition.fields pairs) name refl refl h
+  pub cause_is_at_the_pair : (bad : BadRow) → row_of definition pairs ≡ Err bad → IsToldOf definition.fields pairs bad
+  unfolding row_of
+  cause_is_at_the_pair bad h = refused_for (first_wrong definition.fields [] pairs) (first_missing definition.fields pairs) bad refl refl h
 
   -- where pairs are refused, whatever the cause
-  pub refused_is : (name : List ℕ) → row_of definition pairs ≡ Err name → IsWrongPair definition.fields pairs name ⊎ IsMissingField definition.fields pairs name
-  refused_is name h = by (cause_is_of_the_name name h)
+  pub refused_is : (bad : BadRow) → row_of definition pairs ≡ Err bad → IsWrongPair definition.fields pairs bad.field ⊎ IsMissingField definition.fields pairs bad.field
+  refused_is bad h = by (cause_is_at_the_pair bad h)
     where
-      by : IsRowCause definition.fields pairs name (row_cause definition.fields pairs) → IsWrongPair definition.fields pairs name ⊎ IsMissingField definition.fields pairs name
+      by : IsToldOf definition.fields pairs bad → IsWrongPair definition.fields pairs bad.field ⊎ IsMissingField definition.fields pairs bad.field
       by (inl wrong) = inl wrong.pair
-      by (inr missing) = inr missing.1
+      by (inr missing) = inr missing.field
 
   pub build_refused : (r : Result Cells RowFault) → IsBuilt r (row_of definition pairs) → IfErr r (IsRefusedRow definition pairs)
   build_refused (Ok row) e = tt
-  build_refused (Err (fault.BadRow name cause)) e = refused_is name e
+  build_refused (Err (fault.BadRow bad)) e = refused_is bad e
   build_refused (Err fault.Memory) e = tt

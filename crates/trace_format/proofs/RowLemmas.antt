@@ -2,11 +2,12 @@
 use Rattle.std.proofs.Common.{◌≡◌, ℕ, Bool, true, false, not, ◌&&◌, List, [], ◌∷◌, ◌++◌, Option, None, Some, is_some, option_and_then, IsTrue, Ok, Err, inl, inr, ◌⊎◌, ◌↔◌, refl, sym, ap, ◌∙◌, subst, append_assoc, append-nil}
 use Rattle.std.specs.List.{AllByRecursion}
 use Rattle.std.proofs.lemmas.Bool.{cond-true, cond-false}
+use Rattle.trace_format.specs.declared.bad_row.BadRow.{BadRow}
 use Rattle.trace_format.specs.declared.event.Field.{Field}
 use Rattle.trace_format.specs.declared.pair.Pair.{Pair}
 use Rattle.trace_format.specs.Definitions.{Definition, IsDefinition}
 use Rattle.trace_format.specs.Cells.{Cells, IsRowOf}
-use Rattle.trace_format.specs.Rows.{value_of, field_named, pair_value, pair_named, is_right, first_wrong, first_missing, row_unless, row_of}
+use Rattle.trace_format.specs.Rows.{value_of, field_named, pair_value, pair_named, is_right, first_wrong, first_missing, wrong_at, missing_at, row_unless, row_of}
 use Rattle.trace_format.specs.Pairs.{has_pair, Give, AreRight, IsWrong, IsWrongPair, IsMissingField}
 use Rattle.trace_lex.proofs.Options.{none_is}
 use Rattle.trace_format.proofs.BuildLemmas.{row_held, row_wrong, row_missing}
@@ -37,14 +38,17 @@ module _ (fields : List Field) where
       cond-true _ _ _ (right_from fields before pair are.0.field are.0.value are.0.named are.0.written are.0.new) ∙ none_wrong (before ++ pair ∷ []) pairs are.1
 
   -- behind right pairs a wrong one is the first
-  wrong_found : (before front back : List Pair) (pair : Pair) → AreRight fields before front → IsWrong fields (before ++ front) pair → first_wrong fields before (front ++ pair ∷ back) ≡ Some pair.name
-  wrong_found before [] back pair are wrong = cond-false _ _ _ (not_right before pair (subst (λ (ps : List Pair). IsWrong fields ps pair) (append-nil before) wrong))
+  wrong_found : (before front back : List Pair) (pair : Pair) → AreRight fields before front → IsWrong fields (before ++ front) pair → first_wrong fields before (front ++ pair ∷ back) ≡ Some (wrong_at fields (before ++ front) pair)
+  wrong_found before [] back pair are wrong =
+      cond-false _ _ _ (not_right before pair (subst (λ (ps : List Pair). IsWrong fields ps pair) (append-nil before) wrong))
+      ∙ ap (λ (ps : List Pair). Some (wrong_at fields ps pair)) (sym (append-nil before))
   wrong_found before (first ∷ front) back pair are wrong =
       cond-true _ _ _ (right_from fields before first are.0.field are.0.value are.0.named are.0.written are.0.new)
       ∙ wrong_found (before ++ first ∷ []) front back pair are.1 (subst (λ (ps : List Pair). IsWrong fields ps pair) (sym (append_assoc before (first ∷ []) front)) wrong)
+      ∙ ap (λ (ps : List Pair). Some (wrong_at fields ps pair)) (append_assoc before (first ∷ []) front)
 
-  wrong_first : (pairs : List Pair) (name : List ℕ) → IsWrongPair fields pairs name → first_wrong fields [] pairs ≡ Some name
-  wrong_first pairs name w = ap (λ (ps : List Pair). first_wrong fields [] ps) w.cut ∙ wrong_found [] w.front w.back w.pair w.right w.wrong ∙ ap Some w.at
+  wrong_first : (pairs : List Pair) (name : List ℕ) → (w : IsWrongPair fields pairs name) → first_wrong fields [] pairs ≡ Some (wrong_at fields w.front w.pair)
+  wrong_first pairs name w = ap (λ (ps : List Pair). first_wrong fields [] ps) w.cut ∙ wrong_found [] w.front w.back w.pair w.right w.wrong
 
 -- ---- the first missing field
 
@@ -68,7 +72,7 @@ module _ (definition : Definition) (is : IsDefinition definition) (pairs : List 
       ∙ missing_found definition.fields pairs (have_values definition.fields [] pairs m.right) m.front m.back m.field own m.given m.missing ∙ ap Some m.at
 
   -- what is given is a row of the event
-  of_event : (wrong missing : Option (List ℕ)) (row : Cells) → first_missing definition.fields pairs ≡ missing → row_unless wrong missing (given_row definition pairs) ≡ Ok row → IsRowOf definition row
+  of_event : (wrong : Option BadRow) (missing : Option (List ℕ)) (row : Cells) → first_missing definition.fields pairs ≡ missing → row_unless wrong missing (given_row definition pairs) ≡ Ok row → IsRowOf definition row
   of_event (Some name) missing row m h = absurd (cc)
   of_event None (Some name) row m h = absurd (cc)
   of_event None None row m h =
@@ -82,15 +86,20 @@ module _ (definition : Definition) (is : IsDefinition definition) (pairs : List 
       let missing = first_missing definition.fields pairs in
       (of_event wrong missing row refl h, give_is definition pairs wrong missing row refl refl h)
 
-  refusal_given : (name : List ℕ) → row_of definition pairs ≡ Err name → IsWrongPair definition.fields pairs name ⊎ IsMissingField definition.fields pairs name
-  refusal_given name h = refused_is definition is pairs name h
+  -- the pairs are refused at a name
+  abbrev IsRefusedAt : List ℕ → Type 0
+  IsRefusedAt name = (bad : BadRow) × (row_of definition pairs ≡ Err bad) × (bad.field ≡ name)
 
-  refusal_read : (name : List ℕ) → IsWrongPair definition.fields pairs name ⊎ IsMissingField definition.fields pairs name → row_of definition pairs ≡ Err name
-  refusal_read name (inl w) = row_wrong definition pairs name (wrong_first definition.fields pairs name w)
-  refusal_read name (inr m) = row_missing definition pairs name (none_wrong definition.fields [] pairs m.right) (missing_first name m)
+  refusal_given : (name : List ℕ) → IsRefusedAt name → IsWrongPair definition.fields pairs name ⊎ IsMissingField definition.fields pairs name
+  refusal_given name (bad, h, at) =
+      subst (λ (n : List ℕ). IsWrongPair definition.fields pairs n ⊎ IsMissingField definition.fields pairs n) at (refused_is definition is pairs bad h)
+
+  refusal_read : (name : List ℕ) → IsWrongPair definition.fields pairs name ⊎ IsMissingField definition.fields pairs name → IsRefusedAt name
+  refusal_read name (inl w) = (wrong_at definition.fields w.front w.pair, row_wrong definition pairs _ (wrong_first definition.fields pairs name w), w.at)
+  refusal_read name (inr m) = (missing_at name, row_missing definition pairs name (none_wrong definition.fields [] pairs m.right) (missing_first name m), refl)
 
   pub row_is_given : (row : Cells) → (row_of definition pairs ≡ Ok row) ↔ (IsRowOf definition row × Give definition.fields pairs row)
   row_is_given row = (λ h. row_given row h, λ h. row_is definition pairs row is h.0 h.1)
 
-  pub refusal_is_given : (name : List ℕ) → (row_of definition pairs ≡ Err name) ↔ (IsWrongPair definition.fields pairs name ⊎ IsMissingField definition.fields pairs name)
+  pub refusal_is_given : (name : List ℕ) → IsRefusedAt name ↔ (IsWrongPair definition.fields pairs name ⊎ IsMissingField definition.fields pairs name)
   refusal_is_given name = (λ h. refusal_given name h, λ h. refusal_read name h)

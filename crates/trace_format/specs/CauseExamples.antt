@@ -1,8 +1,9 @@
 -- Strings that declare no event and pairs that give no row, each with where and why it is refused, worked by hand. The checker computes them.
-use Rattle.std.specs.Prelude.{◌≡◌, ℕ, List, [], ◌∷◌, map, Result, Err, codes}
+use Rattle.std.specs.Prelude.{◌≡◌, ℕ, List, [], ◌∷◌, map, Option, Some, None, Result, Err, codes}
 use Rattle.trace_format.specs.declared.kind.Kind.TheVariants.{Number, Char}
 use Rattle.trace_format.specs.declared.kind.NumberType.TheVariants.{U8}
 use Rattle.trace_format.specs.declared.pair.Pair.{Pair}
+use Rattle.trace_format.specs.declared.bad_row.BadRow.{BadRow}
 use Rattle.trace_format.specs.declared.fault.DeclarationCause.{DeclarationCause}
 use Rattle.trace_format.specs.declared.fault.DeclarationCause.TheVariants.{EventName, FieldType, UnsignedType, StringField, FieldName, ReservedName, RepeatedName, Semicolon}
 use Rattle.trace_format.specs.declared.fault.RowCause.{RowCause}
@@ -10,7 +11,7 @@ use Rattle.trace_format.specs.declared.fault.RowCause.TheVariants.{Unknown, Repe
 use Rattle.trace_format.specs.Definitions.{Definition}
 use Rattle.trace_format.specs.Cells.{Cells}
 use Rattle.trace_format.specs.Reading.{definition_of, cause_in}
-use Rattle.trace_format.specs.Rows.{row_of, row_cause}
+use Rattle.trace_format.specs.Rows.{row_of}
 
 -- ---- declarations
 
@@ -57,12 +58,11 @@ tick = record {
 
 pub record RefusedPairs : Type 0 where
   pub pairs : List Pair
-  pub cause : RowCause
-  pub name : List ℕ
+  pub told : BadRow
 
-infix 90 ◌tell◌at◌
-abbrev pub ◌tell◌at◌ : List Pair → RowCause → List ℕ → RefusedPairs
-pairs tell cause at name = record { pairs = pairs; cause = cause; name = name }
+infix 90 ◌tell◌at◌of◌
+abbrev pub ◌tell◌at◌of◌ : List Pair → RowCause → Option ℕ → List ℕ → RefusedPairs
+pairs tell cause at pair of name = record { pairs = pairs; told = record { field = name; cause = cause; pair = pair } }
 
 infix 95 ◌is◌
 abbrev pub ◌is◌ : List ℕ → List ℕ → Pair
@@ -70,19 +70,18 @@ name is value = record { name = name; value = value }
 
 abbrev pub lists : List RefusedPairs
 lists =
-    (codes "x" is codes "1" ∷ []) tell Unknown at codes "x"
-    ∷ (codes "n" is codes "1" ∷ codes "n" is codes "y" ∷ []) tell Repeated at codes "n"
-    ∷ (codes "n" is codes "99999999999999999999" ∷ []) tell NoNumber at codes "n"
-    ∷ (codes "n" is codes "-1" ∷ []) tell OutOfRange at codes "n"
-    ∷ (codes "n" is codes "1" ∷ codes "who" is (127 ∷ []) ∷ []) tell BadByte at codes "who"
-    ∷ (codes "who" is codes "abcd" ∷ []) tell TooLong at codes "who"
-    ∷ (codes "n" is codes "1" ∷ []) tell Missing at codes "who"
+    (codes "x" is codes "1" ∷ []) tell Unknown at Some 0 of codes "x"
+    ∷ (codes "n" is codes "1" ∷ codes "n" is codes "y" ∷ []) tell Repeated at Some 1 of codes "n"
+    ∷ (codes "n" is codes "99999999999999999999" ∷ []) tell NoNumber at Some 0 of codes "n"
+    ∷ (codes "n" is codes "-1" ∷ []) tell OutOfRange at Some 0 of codes "n"
+    ∷ (codes "n" is codes "1" ∷ codes "who" is (127 ∷ []) ∷ []) tell BadByte at Some 1 of codes "who"
+    ∷ (codes "who" is codes "abcd" ∷ []) tell TooLong at Some 0 of codes "who"
+    ∷ (codes "n" is codes "1" ∷ []) tell Missing at None of codes "who"
     ∷ []
 
-abbrev pub name_told : RefusedPairs → Result Cells (List ℕ)
-name_told refused = Err refused.name
+abbrev pub what_is_told : RefusedPairs → Result Cells BadRow
+what_is_told refused = Err refused.told
 
--- each list is refused at this name for this cause
-pub record RowsAreRefused : Type 0 where
-  pub names : map (λ (refused : RefusedPairs). row_of tick refused.pairs) lists ≡ map name_told lists
-  pub causes : map (λ (refused : RefusedPairs). row_cause tick.fields refused.pairs) lists ≡ map (λ (refused : RefusedPairs). refused.cause) lists
+-- of each list this is told
+abbrev pub RowsAreRefused : Type 0
+RowsAreRefused = map (λ (refused : RefusedPairs). row_of tick refused.pairs) lists ≡ map what_is_told lists

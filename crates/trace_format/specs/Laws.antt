@@ -7,11 +7,12 @@ use Rattle.trace_format.specs.WordParts.{IsWritten}
 use Rattle.trace_format.specs.Definitions.{Definition, IsDefinition, Declares, IsRefusedAt}
 use Rattle.trace_format.specs.Reading.{definition_of, cause_in}
 use Rattle.trace_format.specs.DeclarationCauses.{IsRefusedFor}
+use Rattle.trace_format.specs.declared.bad_row.BadRow.{BadRow}
 use Rattle.trace_format.specs.Cells.{Cells, IsRowOf, value_at, payload_of, payload_size_of}
 use Rattle.trace_format.specs.Operands.{Emission, operand_from, operand_value}
-use Rattle.trace_format.specs.Rows.{row_of, row_cause}
+use Rattle.trace_format.specs.Rows.{row_of}
 use Rattle.trace_format.specs.Pairs.{Give, IsWrongPair, IsMissingField}
-use Rattle.trace_format.specs.RowCauses.{IsRowCause}
+use Rattle.trace_format.specs.RowCauses.{IsToldOf}
 use Rattle.trace_format.specs.Decoding.{row_from}
 
 -- ---- words
@@ -59,12 +60,12 @@ RowIsGiven = (definition : Definition) → IsDefinition definition → (pairs : 
 -- and a name exactly where a pair of it is the first that is wrong, or with none wrong the first field that is missing has it
 abbrev pub RefusalIsGiven : Type 0
 RefusalIsGiven = (definition : Definition) → IsDefinition definition → (pairs : List Pair) → (name : List ℕ)
-    → (row_of definition pairs ≡ Err name) ↔ (IsWrongPair definition.fields pairs name ⊎ IsMissingField definition.fields pairs name)
+    → ((bad : BadRow) × (row_of definition pairs ≡ Err bad) × (bad.field ≡ name)) ↔ (IsWrongPair definition.fields pairs name ⊎ IsMissingField definition.fields pairs name)
 
--- the cause is that of the name at which the pairs are refused
-abbrev pub CauseIsOfTheName : Type 0
-CauseIsOfTheName = (definition : Definition) → IsDefinition definition → (pairs : List Pair) → (name : List ℕ) → row_of definition pairs ≡ Err name
-    → IsRowCause definition.fields pairs name (row_cause definition.fields pairs)
+-- the pair to blame is the first that is wrong, and the cause is what is wrong with it; with none wrong a field is missing
+abbrev pub CauseIsAtThePair : Type 0
+CauseIsAtThePair = (definition : Definition) → IsDefinition definition → (pairs : List Pair) → (bad : BadRow) → row_of definition pairs ≡ Err bad
+    → IsToldOf definition.fields pairs bad
 
 -- ---- operands
 

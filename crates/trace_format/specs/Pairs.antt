@@ -86,5 +86,5 @@ pub record IsMissingField (fields : List Field) (pairs : List Pair) (name : List
 
 -- where pairs are refused: at the first that is wrong, else at the first field that none names; or for memory
 abbrev pub IsRefusedRow : Definition → List Pair → RowFault → Type 0
-IsRefusedRow definition pairs (BadRow name cause) = IsWrongPair definition.fields pairs name ⊎ IsMissingField definition.fields pairs name
+IsRefusedRow definition pairs (BadRow bad) = IsWrongPair definition.fields pairs bad.field ⊎ IsMissingField definition.fields pairs bad.field
 IsRefusedRow definition pairs Memory = Unit {0}

@@ -1,11 +1,12 @@
--- Why pairs give no row, at the name at which they are refused.
-use Rattle.std.specs.Prelude.{◌≡◌, ◌⊎◌, ◌≤◌, ℕ, false, IsTrue, List, length, None, is_some}
+-- Why pairs give no row, and which of them is to blame.
+use Rattle.std.specs.Prelude.{◌≡◌, ◌⊎◌, ◌≤◌, ℕ, false, IsTrue, List, length, Some, None, is_some}
 use Rattle.std.specs.List.{list_all}
 use Rattle.trace_format.specs.declared.kind.NumberType.{NumberType}
 use Rattle.trace_format.specs.declared.kind.Kind.{Kind}
 use Rattle.trace_format.specs.declared.kind.Kind.TheVariants.{Number, Char}
 use Rattle.trace_format.specs.declared.event.Field.{Field}
 use Rattle.trace_format.specs.declared.pair.Pair.{Pair}
+use Rattle.trace_format.specs.declared.bad_row.BadRow.{BadRow}
 use Rattle.trace_format.specs.declared.fault.RowCause.{RowCause}
 use Rattle.trace_format.specs.declared.fault.RowCause.TheVariants.{Unknown, Repeated, NoNumber, OutOfRange, BadByte, TooLong, Missing}
 use Rattle.trace_lex.specs.Numbers.{number_of}
@@ -29,11 +30,18 @@ IsWrongFor fields before pair BadByte = (n : ℕ) × IsNoValueOf fields before p
 IsWrongFor fields before pair TooLong = (n : ℕ) × IsNoValueOf fields before pair (Char n) × (n ≤ length pair.value)
 IsWrongFor fields before pair Missing = ⊥
 
--- a pair of the name is wrong for this cause, and all before it are right
-pub record IsWrongPairFor (fields : List Field) (pairs : List Pair) (name : List ℕ) (cause : RowCause) : Type 0 where
-  pub pair : IsWrongPair fields pairs name
-  pub told : IsWrongFor fields pair.front pair.pair cause
+-- a pair has the name that is told and is wrong for the cause; it has this index, and all before it are right
+pub record IsWrongPairFor (fields : List Field) (pairs : List Pair) (told : BadRow) : Type 0 where
+  pub pair : IsWrongPair fields pairs told.field
+  pub index : told.pair ≡ Some (length pair.front)
+  pub cause : IsWrongFor fields pair.front pair.pair told.cause
 
--- why pairs are refused at a name: for what is wrong with the first wrong pair; with none wrong, since the first missing field has it
-abbrev pub IsRowCause : List Field → List Pair → List ℕ → RowCause → Type 0
-IsRowCause fields pairs name cause = IsWrongPairFor fields pairs name cause ⊎ ((cause ≡ Missing) × IsMissingField fields pairs name)
+-- with no pair wrong, none is to blame, and the first missing field has the name
+pub record IsMissingFor (fields : List Field) (pairs : List Pair) (told : BadRow) : Type 0 where
+  pub field : IsMissingField fields pairs told.field
+  pub none : told.pair ≡ None
+  pub cause : told.cause ≡ Missing
+
+-- what is told of pairs that are refused
+abbrev pub IsToldOf : List Field → List Pair → BadRow → Type 0
+IsToldOf fields pairs told = IsWrongPairFor fields pairs told ⊎ IsMissingFor fields pairs told

@@ -1,11 +1,12 @@
 -- Rows as pairs of field names and texts give them, or why they give none, as functions. That these are what `Pairs` says is stated in `Laws`, as
--- `RowIsGiven` and `RefusalIsGiven`. That the cause is that of the same name, in the words of `RowCauses`, is `CauseIsOfTheName` there.
+-- `RowIsGiven` and `RefusalIsGiven`. That the cause is that of the pair to blame, in the words of `RowCauses`, is `CauseIsAtThePair` there.
 use Rattle.std.specs.Prelude.{◌≡◌, ℕ, ℤ, int_le, Bool, true, not, ◌&&◌, nat_lt, if◌then◌else◌, bytes_eq, List, [], ◌∷◌, ◌++◌, length, find, filter_map, Option, None, Some, is_some, option_and_then, Result, Ok, Err}
 use Rattle.std.specs.List.{list_all}
+use Rattle.trace_format.specs.declared.bad_row.BadRow.{BadRow}
 use Rattle.trace_format.specs.declared.fault.RowCause.{RowCause}
 use Rattle.trace_format.specs.declared.fault.RowCause.TheVariants.{Unknown, Repeated, NoNumber, OutOfRange, BadByte, TooLong, Missing}
 use Rattle.trace_format.specs.declared.fault.RowFault.{RowFault}
-use Rattle.trace_format.specs.declared.fault.RowFault.TheVariants.{BadRow, Memory}
+use Rattle.trace_format.specs.declared.fault.RowFault.TheVariants as fault
 use Rattle.trace_format.specs.declared.kind.Kind.{Kind}
 use Rattle.trace_format.specs.declared.kind.Kind.TheVariants.{Number, Char}
 use Rattle.trace_format.specs.declared.event.Field.{Field}
@@ -49,30 +50,7 @@ all_new fields before (pair ∷ pairs) = is_some (new_field fields before pair) 
 abbrev pub is_right : List Field → List Pair → Pair → Bool
 is_right fields before pair = is_some (pair_value fields pair) && not (is_some (pair_named before pair.name))
 
--- the name of the first pair that is not right behind those before it
-abbrev pub first_wrong : List Field → List Pair → List Pair → Option (List ℕ)
-first_wrong fields before [] = None
-first_wrong fields before (pair ∷ pairs) = if is_right fields before pair then first_wrong fields (before ++ pair ∷ []) pairs else Some pair.name
-
--- the value that the pairs give to a field
-abbrev pub given : List Pair → Field → Option Datum
-given pairs field = option_and_then (λ pair. value_of field.kind pair.value) (pair_named pairs field.name)
-
--- the name of the first field that no pair gives a value
-abbrev pub first_missing : List Field → List Pair → Option (List ℕ)
-first_missing [] pairs = None
-first_missing (field ∷ fields) pairs = if is_some (given pairs field) then first_missing fields pairs else Some field.name
-
--- the row that the pairs give, or the name at which they are refused
-abbrev pub row_unless : Option (List ℕ) → Option (List ℕ) → Cells → Result Cells (List ℕ)
-row_unless (Some name) missing row = Err name
-row_unless None (Some name) row = Err name
-row_unless None None row = Ok row
-
-unfoldable pub row_of : Definition → List Pair → Result Cells (List ℕ)
-row_of definition pairs = row_unless (first_wrong definition.fields [] pairs) (first_missing definition.fields pairs) (record { kinds = kinds_of definition; values = filter_map (given pairs) definition.fields })
-
--- ---- why pairs are refused
+-- ---- why a pair is refused
 
 -- why a text is no value of the type, if it is none
 abbrev pub value_cause : Kind → List ℕ → RowCause
@@ -87,39 +65,53 @@ named_cause (Some field) before pair = if is_some (pair_named before pair.name) 
 abbrev pub pair_cause : List Field → List Pair → Pair → RowCause
 pair_cause fields before pair = named_cause (field_named fields pair.name) before pair
 
--- why the first pair that is not right after those before it is not; with none such a field is missing
-abbrev pub first_cause : List Field → List Pair → List Pair → RowCause
-first_cause fields before [] = Missing
-first_cause fields before (pair ∷ pairs) = if is_right fields before pair then first_cause fields (before ++ pair ∷ []) pairs
-    else pair_cause fields before pair
+-- what is told of a pair that is not right after others: its name, why, and its index
+abbrev pub wrong_at : List Field → List Pair → Pair → BadRow
+wrong_at fields before pair = record { field = pair.name; cause = pair_cause fields before pair; pair = Some (length before) }
 
--- why pairs that give no row are refused, at the name that `row_of` tells
-unfoldable pub row_cause : List Field → List Pair → RowCause
-row_cause fields pairs = first_cause fields [] pairs
+-- the first pair that is not right behind those before it
+abbrev pub first_wrong : List Field → List Pair → List Pair → Option BadRow
+first_wrong fields before [] = None
+first_wrong fields before (pair ∷ pairs) = if is_right fields before pair then first_wrong fields (before ++ pair ∷ []) pairs else Some (wrong_at fields before pair)
 
--- the cause told is this one
-abbrev pub TellsCause : RowCause → RowFault → Type 0
-TellsCause cause (BadRow name told) = told ≡ cause
-TellsCause cause Memory = Unit {0}
+-- ---- rows
 
--- the cause told is that of the pairs
-abbrev pub HasRowCause : Definition → List Pair → RowFault → Type 0
-HasRowCause definition pairs fault = TellsCause (row_cause definition.fields pairs) fault
+-- the value that the pairs give to a field
+abbrev pub given : List Pair → Field → Option Datum
+given pairs field = option_and_then (λ pair. value_of field.kind pair.value) (pair_named pairs field.name)
+
+-- the name of the first field that no pair gives a value
+abbrev pub first_missing : List Field → List Pair → Option (List ℕ)
+first_missing [] pairs = None
+first_missing (field ∷ fields) pairs = if is_some (given pairs field) then first_missing fields pairs else Some field.name
+
+-- what is told of a field that is missing
+abbrev pub missing_at : List ℕ → BadRow
+missing_at name = record { field = name; cause = Missing; pair = None }
+
+-- the row that the pairs give, or what is told where they give none
+abbrev pub row_unless : Option BadRow → Option (List ℕ) → Cells → Result Cells BadRow
+row_unless (Some wrong) missing row = Err wrong
+row_unless None (Some name) row = Err (missing_at name)
+row_unless None None row = Ok row
+
+unfoldable pub row_of : Definition → List Pair → Result Cells BadRow
+row_of definition pairs = row_unless (first_wrong definition.fields [] pairs) (first_missing definition.fields pairs) (record { kinds = kinds_of definition; values = filter_map (given pairs) definition.fields })
 
 -- ---- what `build` answers
 
 -- the bytes are the payload of the row that the pairs give
-abbrev pub IsPayloadOf : Result Cells (List ℕ) → List ℕ → Type 0
+abbrev pub IsPayloadOf : Result Cells BadRow → List ℕ → Type 0
 IsPayloadOf (Ok row) bytes = bytes ≡ payload_of row
-IsPayloadOf (Err name) bytes = ⊥
+IsPayloadOf (Err bad) bytes = ⊥
 
 -- what `build` answers is the row that the pairs give, unless memory was refused
-abbrev pub IsBuilt : Result Cells RowFault → Result Cells (List ℕ) → Type 0
+abbrev pub IsBuilt : Result Cells RowFault → Result Cells BadRow → Type 0
 IsBuilt (Ok row) built = built ≡ Ok row
-IsBuilt (Err (BadRow name cause)) built = built ≡ Err name
-IsBuilt (Err Memory) built = Unit {0}
+IsBuilt (Err (fault.BadRow bad)) built = built ≡ Err bad
+IsBuilt (Err fault.Memory) built = Unit {0}
 
--- a refusal at a field, or for memory
-abbrev pub IsBadRow : RowFault → List ℕ → Type 0
-IsBadRow (BadRow name cause) field = name ≡ field
-IsBadRow Memory field = Unit {0}
+-- what is told of the pairs, or that memory was refused
+abbrev pub IsBadRow : RowFault → BadRow → Type 0
+IsBadRow (fault.BadRow bad) told = bad ≡ told
+IsBadRow fault.Memory told = Unit {0}

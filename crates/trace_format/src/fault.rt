@@ -5,9 +5,9 @@ ghost use Rattle.trace_format.specs.declared.fault.DefinitionFault.TheVariants a
 ghost use Rattle.trace_format.specs.declared.fault.CatalogFault.TheVariants as catalog;
 ghost use Rattle.trace_format.specs.declared.fault.RowFault.TheVariants as row;
 
+use crate::bad_row::BoxedBadRow;
 use std::alloc::{AllocError, AllocFailed};
 use thiserror::Error;
-use trace_lex::Text;
 
 /// What is wrong at the offset at which a declaration is refused.
 #[derive(Clone, Copy, Debug, PartialEq, Eq)]
@@ -81,9 +81,9 @@ pub enum RowCause {
 /// Why pairs of names and texts give no row.
 #[derive(Debug, Drop, Error)]
 pub enum RowFault {
-    /// The name of the first pair whose name is unknown or repeated or whose value is wrong; else of the first field with no pair.
+    /// A pair is wrong or repeated, or a field is missing.
     #[error("a field is wrong, repeated or missing")]
-    BadRow { field: Text, cause: RowCause },
+    BadRow { row: BoxedBadRow },
     #[error("out of memory")]
     Memory,
 }

@@ -1,9 +1,10 @@
 //! The values that pairs of names and texts give to fields.
 
-ghost use Rattle.std.specs.Prelude.{◌≡◌, if◌then◌else◌, [], None, Some, true, false, map, filter_map, IfOk, IsSome, is_some, option_map, option_copied, unwrap_or};
+ghost use Rattle.std.specs.Prelude.{◌≡◌, if◌then◌else◌, [], None, Some, true, false, map, filter_map, IfOk, IsSome, is_some, option_map, option_copied};
 ghost use Rattle.trace_format.specs.Cells.{Datum, datum_of};
-ghost use Rattle.trace_format.specs.Rows.{field_named, pair_named, new_field as new_field_of, all_new, is_right, first_wrong, first_missing, given, pair_cause, first_cause, IsBadRow, TellsCause};
+ghost use Rattle.trace_format.specs.Rows.{field_named, pair_named, new_field as new_field_of, all_new, is_right, first_wrong, first_missing, given, pair_cause, IsBadRow};
 
+use crate::bad_row::{BadRow, BoxedBadRow};
 use crate::borrowed_pair::BorrowedPair;
 use crate::event::Field;
 use crate::fault::{RowCause, RowFault};
@@ -66,17 +67,16 @@ fn pair_misfit(
     }
 }
 
-/// The name of the first pair that is wrong, and why it is.
+/// The name of the first pair that is wrong, why it is, and its index.
 pub(crate) fn wrong_pair<'a>(
     fields: &[Field],
     pairs: &'a [BorrowedPair<'_>],
-) -> Option<(&'a [u8], RowCause)>
-    ensures name { option_map (λ wrong. wrong.0.now) result ≡ first_wrong fields.now [] pairs.now }
-    ensures cause { unwrap_or (option_map (λ wrong. wrong.1) result) RowCause.Missing ≡ first_cause fields.now [] pairs.now }
+) -> Option<(&'a [u8], RowCause, usize)>
+    ensures { option_map (λ wrong. record { field = wrong.0.now; cause = wrong.1; pair = Some wrong.2 }) result ≡ first_wrong fields.now [] pairs.now }
 {
     for (i, pair) in pairs.iter().enumerate() {
         if let Some(cause) = pair_misfit(fields, &pairs[..i], pair) {
-            return Some((pair.name(), cause));
+            return Some((pair.name(), cause, i));
         }
     }
     None
@@ -141,13 +141,24 @@ pub(crate) fn given_values(
     Ok(true)
 }
 
-/// The refusal at a field.
-pub(crate) fn bad_row(alloc: Global, name: &[u8], cause: RowCause) -> RowFault
-    ensures name { IsBadRow result name.now }
-    ensures cause { TellsCause cause result }
+/// The refusal at a name.
+pub(crate) fn bad_row(alloc: Global, name: &[u8], cause: RowCause, pair: Option<usize>) -> RowFault
+    ensures { IsBadRow result (record { field = name.now; cause = cause; pair = pair }) }
 {
-    match Text::from_slice(alloc, name) {
-        Ok(field) => RowFault::BadRow { field, cause },
+    match boxed_row(alloc, name, cause, pair) {
+        Ok(row) => RowFault::BadRow { row },
         Err(_) => RowFault::Memory,
     }
+}
+
+fn boxed_row(
+    alloc: Global,
+    name: &[u8],
+    cause: RowCause,
+    pair: Option<usize>,
+) -> Result<BoxedBadRow, AllocError>
+    ensures { IfOk result (λ row. row ≡ record { field = name.now; cause = cause; pair = pair }) }
+{
+    let field = Text::from_slice(alloc, name)?;
+    BoxedBadRow::new(alloc, BadRow { field, cause, pair })
 }

@@ -3,7 +3,7 @@
 ghost use Rattle.std.specs.Prelude.{◌≡◌, ◌↔◌, IsTrue};
 ghost use Rattle.trace_format.specs.declared.pair.Pair.{Pair as PairValue};
 ghost use Rattle.trace_format.specs.CauseExamples.{DeclarationsAreRefused, RowsAreRefused};
-ghost use Rattle.trace_format.specs.Laws.{WordsAreAsWritten, DefinitionIsRead, RefusalIsRead, DeclaredOrRefused, NeverBoth, OneDefinition, OneRefusal, CauseIsAtTheOffset, RowIsGiven, RefusalIsGiven, CauseIsOfTheName, OperandIsByName, PayloadIsRead, OneRow, PayloadHasItsSize};
+ghost use Rattle.trace_format.specs.Laws.{WordsAreAsWritten, DefinitionIsRead, RefusalIsRead, DeclaredOrRefused, NeverBoth, OneDefinition, OneRefusal, CauseIsAtTheOffset, RowIsGiven, RefusalIsGiven, CauseIsAtThePair, OperandIsByName, PayloadIsRead, OneRow, PayloadHasItsSize};
 
 use crate::pair::Pair;
 
@@ -33,11 +33,11 @@ pub fn rows_are_as_given()
 {}
 
 /// The cause for which a text declares no event is that of the offset at which it is refused: what is wrong there with the word, or the end, by what
-/// is due there. The cause for which pairs give no row of an event is that of the name at which they are refused: what is wrong with the first
-/// wrong pair or, with none wrong, that the first missing field has the name.
+/// is due there. The pair to blame where pairs give no row of an event is the first wrong one, and the cause is what is wrong with it; with none wrong
+/// no pair is to blame, and the cause is that the first missing field has the name.
 pub fn causes_are_of_the_refusals()
     ensures declaration { CauseIsAtTheOffset }
-    ensures row { CauseIsOfTheName }
+    ensures row { CauseIsAtThePair }
 {}
 
 /// The worked examples, computed: strings that declare no event and pairs that give no row, with what is told of each.

@@ -5,6 +5,7 @@
 //! are bytes. Beside them stands what a hist trigger tells entries apart and sorts them by ("hist triggers" of histogram.rst): a `Key` names a field.
 #![tactic(auto)]
 
+mod bad_row;
 mod borrowed_pair;
 mod borrowed_value;
 mod catalog;
@@ -29,6 +30,7 @@ mod sort_rule;
 mod value;
 mod words;
 
+pub use bad_row::{BadRow, BoxedBadRow};
 pub use borrowed_pair::{BorrowedPair, borrowed};
 pub use borrowed_value::BorrowedValue;
 pub use catalog::Catalog;

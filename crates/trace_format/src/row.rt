@@ -4,7 +4,7 @@ ghost use Rattle.std.specs.Prelude.{◌≡◌, ◌≤◌, ◌↔◌, List, ℕ, 
 ghost use Rattle.std.specs.Result.{result_and};
 ghost use Rattle.trace_format.specs.Cells.{IsRow, IsRowOf, datum_of};
 ghost use Rattle.trace_format.specs.Definitions.{IsDefinition};
-ghost use Rattle.trace_format.specs.Rows.{first_wrong, first_missing, row_of, IsBuilt, HasRowCause};
+ghost use Rattle.trace_format.specs.Rows.{first_wrong, first_missing, row_of, IsBuilt};
 ghost use Rattle.trace_format.specs.Values.{pairs_given};
 
 use crate::borrowed_pair::{BorrowedPair, borrowed};
@@ -103,10 +103,8 @@ impl Row {
         ensures refused { IfErr result (IsRefusedRow def.now pairs.now) }
         // The value at a field's name is the one at the field's index.
         ensures names { IfOk result (λ row. StandByName def.now.fields row.values) }
-        // What is built, and each refusal, as one function of the pairs.
+        // What is built, and each refusal with its cause and the pair to blame, as one function of the pairs.
         ensures exact { IsBuilt result (row_of def.now pairs.now) }
-        // The cause is what is wrong with the first pair that is, else that the field is missing.
-        ensures cause { IfErr result (HasRowCause def.now pairs.now) }
     {
         let pairs = borrowed(alloc, pairs)?;
         let mut row = Row::new(alloc);
@@ -132,7 +130,6 @@ impl Row {
         ensures refused { IfErr result (IsRefusedRow def.now pairs.now) }
         ensures names { OnOk result (StandByName def.now.fields self.new.values) }
         ensures exact { IsBuilt (result_and result (Ok self.new)) (row_of def.now pairs.now) }
-        ensures cause { IfErr result (HasRowCause def.now pairs.now) }
         ensures empty { OnErr result (self.new ≡ record { kinds = []; values = [] }) }
     {
         match fill(alloc, def, pairs, &mut self.kinds, &mut self.values) {
@@ -155,7 +152,6 @@ impl Row {
     ) -> Result<(), RowFault>
         ensures row { OnOk result (IsRowOf def.now self.new) }
         ensures exact { IsBuilt (result_and result (Ok self.new)) (row_of def.now (pairs_given def.now.fields values.now)) }
-        ensures cause { IfErr result (HasRowCause def.now (pairs_given def.now.fields values.now)) }
         ensures empty { OnErr result (self.new ≡ record { kinds = []; values = [] }) }
     {
         match fill_with_values(alloc, def, values, &mut self.kinds, &mut self.values) {
@@ -240,7 +236,6 @@ fn fill(
     ensures row { OnOk result (IsRowOf def.now (record { kinds = kinds.new.items; values = map datum_of values.new.items })) }
     ensures exact { IsBuilt (result_and result (Ok (record { kinds = kinds.new.items; values = map datum_of values.new.items })))
         (row_of def.now pairs.now) }
-    ensures cause { IfErr result (HasRowCause def.now pairs.now) }
 {
     let fields = def.fields();
     if read_in_order(alloc, fields, pairs, kinds, values)? {
@@ -261,7 +256,6 @@ fn fill_by_name(
     ensures row { OnOk result (IsRowOf def.now (record { kinds = kinds.new.items; values = map datum_of values.new.items })) }
     ensures exact { IsBuilt (result_and result (Ok (record { kinds = kinds.new.items; values = map datum_of values.new.items })))
         (row_of def.now pairs.now) }
-    ensures cause { IfErr result (HasRowCause def.now pairs.now) }
 {
     let fields = def.fields();
     if !given_values(alloc, fields, pairs, values)? {
@@ -277,14 +271,13 @@ fn fill_by_name(
 /// Why pairs give no row of an event: the first that is wrong, else the first field that is missing.
 fn refusal(alloc: Global, def: &EventDef, pairs: &[BorrowedPair<'_>]) -> RowFault
     requires { first_wrong def.now.fields [] pairs.now ≡ None → IsSome (first_missing def.now.fields pairs.now) }
-    ensures exact { IsBuilt (Err result) (row_of def.now pairs.now) }
-    ensures cause { HasRowCause def.now pairs.now result }
+    ensures { IsBuilt (Err result) (row_of def.now pairs.now) }
 {
-    if let Some((name, cause)) = wrong_pair(def.fields(), pairs) {
-        return bad_row(alloc, name, cause);
+    if let Some((name, cause, at)) = wrong_pair(def.fields(), pairs) {
+        return bad_row(alloc, name, cause, Some(at));
     }
     match missing_field(def.fields(), pairs) {
-        Some(name) => bad_row(alloc, name, RowCause::Missing),
+        Some(name) => bad_row(alloc, name, RowCause::Missing, None),
         None => unreachable!(),
     }
 }
@@ -302,7 +295,6 @@ fn fill_with_values(
     ensures row { OnOk result (IsRowOf def.now (record { kinds = kinds.new.items; values = map datum_of values.new.items })) }
     ensures exact { IsBuilt (result_and result (Ok (record { kinds = kinds.new.items; values = map datum_of values.new.items })))
         (row_of def.now (pairs_given def.now.fields given.now)) }
-    ensures cause { IfErr result (HasRowCause def.now (pairs_given def.now.fields given.now)) }
 {
     let fields = def.fields();
     if take_values(alloc, fields, given, kinds, values)? {
@@ -325,7 +317,6 @@ fn fill_with_pairs(
     ensures row { OnOk result (IsRowOf def.now (record { kinds = kinds.new.items; values = map datum_of values.new.items })) }
     ensures exact { IsBuilt (result_and result (Ok (record { kinds = kinds.new.items; values = map datum_of values.new.items })))
         (row_of def.now pairs.items) }
-    ensures cause { IfErr result (HasRowCause def.now pairs.items) }
 {
     let lent = borrowed(alloc, &pairs)?;
     fill(alloc, def, &lent, kinds, values)

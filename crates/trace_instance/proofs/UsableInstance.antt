@@ -5,6 +5,7 @@ use Rattle.std.proofs.lemmas.List.Elements.{All-map}
 use Rattle.std.specs.List.{AllByRecursion}
 use Rattle.std.proofs.lemmas.Slice.Eq.{bytes_eq-Decides}
 use Rattle.trace_filter.specs.Filters.{Parsed}
+use Rattle.trace_format.specs.declared.bad_row.BadRow.{BadRow}
 use Rattle.trace_format.specs.Cells.{Cells}
 use Rattle.trace_format.specs.Definitions.{Definition}
 use Rattle.trace_format.specs.Rows.{row_of}
@@ -134,7 +135,7 @@ emitted-named : (past : List Request) (request : Request) (e : Emitted) → emit
     → (name : List ℕ) × (event_named name past ≡ Some e.k)
 emitted-named past (Emission name cpu pid pairs) e is = (name, found (event_named name past) is)
   where
-    built : (k : NumberedEvent) (row : Result Cells (List ℕ)) → emitted_row (now_of past + 1) cpu pid k row ≡ Some e → Some k ≡ Some e.k
+    built : (k : NumberedEvent) (row : Result Cells BadRow) → emitted_row (now_of past + 1) cpu pid k row ≡ Some e → Some k ≡ Some e.k
     built k (Ok row) same = ap (option_map (λ (brought : Emitted). brought.k)) same
     built k (Err wrong) same = absurd (cc)
 

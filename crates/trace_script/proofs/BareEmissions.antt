@@ -1,5 +1,5 @@
 -- Emissions read where they lie: their words are cut, their numbers read, and their pairs taken one after the other.
-use Rattle.std.proofs.Common.{◌≡◌, ◌≢◌, ℕ, ℤ, ◌-◌, ◌^◌, ◌≤◌, nat_lt, Bool, true, false, ◌&&◌, ◌||◌, ◌==◌, if◌then◌else◌, List, [], ◌∷◌, ◌++◌, length, Option, Some, None, Result, Ok, Err, IsErr, IsSome, IfOk, IfSome, IfNone, codes, refl, ap, sym, subst, ◌∙◌, arith}
+use Rattle.std.proofs.Common.{◌≡◌, ◌≢◌, ℕ, ℤ, pos, ◌-◌, ◌^◌, ◌≤◌, nat_lt, Bool, true, false, ◌&&◌, ◌||◌, ◌==◌, if◌then◌else◌, List, [], ◌∷◌, ◌++◌, length, Option, Some, None, Result, Ok, Err, IsErr, IsSome, IfOk, IfSome, IfNone, codes, refl, ap, sym, subst, ◌∙◌, arith}
 use Rattle.std.proofs.lemmas.Bool.Decides.{nat_tests}
 use Rattle.std.proofs.lemmas.List.{append-nil}
 use Rattle.std.specs.List.{list_all, list_any}
@@ -170,6 +170,30 @@ module _ (line rest : List ℕ) (is : line ≡ codes "emit " ++ rest) where
   rest_is_bare bare =
       let same : highest_rank line ≡ highest_rank (codes "emit " ++ rest) = ap highest_rank is in
       omega (arith, bare, same)
+
+-- three words before a line
+front_cut : (line : List ℕ) → tokens_of (codes "0 0 e " ++ line) ≡ behind (Word (codes "0") ∷ Word (codes "0") ∷ Word (codes "e") ∷ []) (tokens_of line)
+unfolding tokens_of
+front_cut line =
+    three_words (Word (codes "0")) (Word (codes "0")) (Word (codes "e")) (codes "0 0 e " ++ line) (codes "0 e " ++ line) (codes "e " ++ line) (tokens_of line)
+    refl refl refl
+
+zero_is : process_id (codes "0") ≡ Some (pos 0)
+unfolding process_id
+zero_is = refl
+
+-- the pairs that a line is, behind them
+pub pairs_said : (line : List ℕ) (items : List Pair) → length line ≤ 4085 → highest_rank line ≡ 0 → pairs_in line ≡ Some items → items ≢ []
+    → line_of (codes "emit 0 0 e " ++ line) ≡ Ok (Ask (Emit (codes "e") 0 (pos 0) items))
+pairs_said line items short bare are some =
+    line_said (codes "emit 0 0 e " ++ line) (codes "0 0 e " ++ line) refl (omega (arith, short)) (omega (arith, bare))
+    ∙ rest_read (codes "0 0 e " ++ line) line (codes "0") (codes "0") (codes "e") 0 (pos 0) items (front_cut line) refl zero_is are some
+
+pub pairs_said_if : (E : Type 0) (line : List ℕ) (items : List Pair) (cut : Result Bool E) → length line ≤ 4085 → highest_rank line ≡ 0
+    → IfOk cut (λ is. is ≡ true → pairs_in line ≡ Some items) → IfOk cut (λ is. is ≡ true → items ≢ [])
+    → IfOk cut (λ is. is ≡ true → line_of (codes "emit 0 0 e " ++ line) ≡ Ok (Ask (Emit (codes "e") 0 (pos 0) items)))
+pairs_said_if E line items (Ok is) short bare are some = λ yes. pairs_said line items short bare (are yes) (some yes)
+pairs_said_if E line items (Err error) short bare are some = are
 
 module _ (line rest : List ℕ) (said : line_of line ≡ asked_after_emit rest) where
   -- a line that asks for something is no faulty emission

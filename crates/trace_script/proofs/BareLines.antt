@@ -6,16 +6,13 @@ use Rattle.std.specs.Str.{bytes_eq}
 use Rattle.std.proofs.lemmas.Bool.Decides.{nat_tests}
 use Rattle.std.specs.List.{prefix_len}
 use Rattle.trace_lex.specs.Blanks.{is_blank}
-use Rattle.trace_script.specs.Lines.{asked_of, says_nothing, spoken}
+use Rattle.trace_script.specs.Lines.{says_nothing}
 use Rattle.trace_script.specs.PlainEmissions.{is_spaced}
 use Rattle.trace_script.specs.Tokens.{Between, is_end, behind, tokens_of}
 use Rattle.trace_script.specs.private.Bytes.{rank, highest_rank}
-use Rattle.trace_script.specs.private.Emissions.{asked_by_emission}
 use Rattle.trace_script.specs.private.Words.{is_plain, begins_with_quote, BeginsWord}
-use Rattle.trace_script.specs.declared.token.Token.{Token}
 use Rattle.trace_script.specs.declared.token.Token.TheVariants.{Word}
 use Rattle.trace_script.proofs.ByteLemmas.{unquoted, later_le}
-use Rattle.trace_script.proofs.EmissionLines.{emission_line}
 use Rattle.trace_script.proofs.GrammarLaws.{led, blank_leads}
 use Rattle.trace_script.proofs.TakingLemmas.{unquoted_drop, no_quote}
 use Rattle.trace_script.proofs.WordLemmas.{plain_word, word_at, drop_more, take_more, is_nil}
@@ -215,15 +212,3 @@ emit_cut rest = refl
 
 pub emit_says : (line rest : List ℕ) → line ≡ codes "emit " ++ rest → says_nothing line ≡ false
 emit_says line rest is = rw is refl
-
--- a line of five words, the first of them `emit`
-pub five_words : (line rest pair cpu pid event : List ℕ) → line ≡ codes "emit " ++ rest
-    → tokens_of rest ≡ behind (Word cpu ∷ Word pid ∷ Word event ∷ []) (tokens_of pair) → tokens_of pair ≡ Some (Word pair ∷ [])
-    → tokens_of line ≡ Some (Word (codes "emit") ∷ Word cpu ∷ Word pid ∷ Word event ∷ Word pair ∷ [])
-five_words line rest pair cpu pid event is e f = rw (is, emit_cut rest, e, f) refl
-
--- what is asked for by a line that is cut so
-pub emission_spoken : (line : List ℕ) (tokens : List Token) → says_nothing line ≡ false → tokens_of line ≡ Some (Word (codes "emit") ∷ tokens)
-    → spoken line ≡ asked_by_emission tokens
-unfolding spoken asked_of
-emission_spoken line tokens says cut = rw (says, cut) (emission_line (codes "emit") tokens refl)

@@ -1,7 +1,6 @@
 -- Steps of the loops that read a command, and what `echo` writes.
-use Rattle.std.proofs.Common.{◌≡◌, ℕ, suc, arith, ◌==◌, if◌then◌else◌, List, [], ◌∷◌, ◌++◌, length, length-append, map, Bool, false, Option, Some, None, Result, Ok, refl, ap, sym, ◌∙◌, append_assoc}
+use Rattle.std.proofs.Common.{◌≡◌, ◌≢◌, ℕ, List, [], ◌∷◌, ◌++◌, map, Bool, Option, Some, None, Result, Ok, refl, ap, sym, ◌∙◌, append_assoc}
 use Rattle.std.proofs.lemmas.List.{append-nil}
-use Rattle.std.proofs.lemmas.Bool.Decides.{nat_tests}
 use Rattle.std.specs.List.{join_with_byte}
 use Rattle.std.specs.Option.{option_map}
 use Rattle.trace_format.specs.declared.pair.Pair.{Pair}
@@ -13,27 +12,18 @@ use Rattle.trace_script.specs.declared.fault.ScriptFault.{ScriptFault}
 use Rattle.trace_script.specs.declared.token.Token.{Token}
 use Rattle.trace_script.specs.declared.token.Token.TheVariants.{Word, Redirect}
 
-regrouped : (x joined space word : List ℕ) → x ++ (32 ∷ (joined ++ space ++ word)) ≡ x ++ (32 ∷ joined) ++ space ++ word
-regrouped x joined space word =
-    ap (λ (rest : List ℕ). x ++ (32 ∷ rest)) (append_assoc joined space word)
-    ∙ (sym (append_assoc x (32 ∷ joined) (space ++ word)) ∙ sym (append_assoc (x ++ (32 ∷ joined)) space word))
-
-later_space : (n : ℕ) → ◌≡◌ {A = List ℕ} (if suc n == 0 then [] else 32 ∷ []) (32 ∷ [])
-later_space n = grind (arith, nat_tests)
-
 -- one more word
-pub join_push : (words : List (List ℕ)) (word : List ℕ) → join_with_byte 32 (words ++ word ∷ []) ≡ join_with_byte 32 words ++ (if length words == 0 then [] else 32 ∷ []) ++ word
-join_push [] word = refl
-join_push (x ∷ []) word = sym (append_assoc x (32 ∷ []) word)
-join_push (x ∷ y ∷ words) word =
-    ap (λ (rest : List ℕ). x ++ (32 ∷ rest)) (join_push (y ∷ words) word)
-    ∙ (ap (λ (space : List ℕ). x ++ (32 ∷ (join_with_byte 32 (y ∷ words) ++ space ++ word))) (later_space (length words))
-    ∙ (regrouped x (join_with_byte 32 (y ∷ words)) (32 ∷ []) word
-    ∙ ap (λ (space : List ℕ). x ++ (32 ∷ join_with_byte 32 (y ∷ words)) ++ space ++ word) (sym (later_space (suc (length words))))))
+pub join_push : (words : List (List ℕ)) (word : List ℕ) → words ≢ [] → join_with_byte 32 (words ++ word ∷ []) ≡ join_with_byte 32 words ++ 32 ∷ word
+join_push [] word some = absurd (some refl)
+join_push (x ∷ []) word some = refl
+join_push (x ∷ y ∷ words) word some =
+    ap (λ (rest : List ℕ). x ++ (32 ∷ rest)) (join_push (y ∷ words) word (λ e. cc))
+    ∙ sym (append_assoc x (32 ∷ join_with_byte 32 (y ∷ words)) (32 ∷ word))
 
 -- some words are not none
-pub push_some : (words : List (List ℕ)) (word : List ℕ) → false ≡ (length (words ++ word ∷ []) == 0)
-push_some words word = grind (arith, nat_tests, length-append)
+pub push_some : (words : List (List ℕ)) (word : List ℕ) → words ++ word ∷ [] ≢ []
+push_some [] word = λ e. cc
+push_some (x ∷ words) word = λ e. cc
 
 -- pairs found one after the other
 pub pairs_append : (xs : List Pair) (y : Pair) (rest : Option (List Pair)) → option_map (λ more. (xs ++ y ∷ []) ++ more) rest ≡ option_map (λ more. xs ++ more) (option_map (λ more. y ∷ more) rest)

@@ -19,6 +19,6 @@ pub mod BareReads
 pub mod MarkLemmas
 pub mod FirstLines
 pub mod FirstReads
-pub mod OnePair
+pub mod ListedLemmas
 pub mod FaultOrder
 pub mod NumberLemmas

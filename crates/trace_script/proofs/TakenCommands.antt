@@ -1,7 +1,7 @@
 -- Commands whose tokens are taken one by one.
-use Rattle.std.proofs.Common.{◌≡◌, ℕ, Bool, true, false, List, [], ◌∷◌, ◌++◌, length, Option, Some, None, Result, Ok, Err, MatchOption, IsErrAnd, refl, ap, sym, subst, ◌∙◌, arith}
+use Rattle.std.proofs.Common.{◌≡◌, ℕ, ◌+◌, ◌==◌, take, drop, position, Bool, true, false, List, [], ◌∷◌, ◌++◌, length, Option, Some, None, Result, Ok, Err, MatchOption, IsErrAnd, refl, ap, sym, subst, ◌∙◌, arith}
 use Rattle.std.specs.Option.{option_map}
-use Rattle.std.proofs.lemmas.List.{append-nil}
+use Rattle.std.proofs.lemmas.List.{append-nil, drop-drop}
 use Rattle.trace_format.specs.declared.pair.Pair.{Pair}
 use Rattle.trace_script.specs.Outcomes.{or_fault, Fails, Gives, ◌>>=◌}
 use Rattle.trace_script.specs.Lines.{pair_of, pairs_of, emission_with, emission_of, only_word, take_of}
@@ -15,44 +15,51 @@ use Rattle.trace_script.specs.declared.token.Token.TheVariants.{Word, Redirect}
 
 -- ---- pairs
 
-pub is_pair : (o : Option Pair) (pair : Pair) → or_fault WrongWords o ≡ Ok pair → o ≡ Some pair
-is_pair None pair e = absurd (cc)
-is_pair (Some p) pair e = cc
+-- a word with a `=`
+pub pair_cut : (word name rest value : List ℕ) (at : ℕ) → Some at ≡ position (λ b. b == 61) word → name ≡ take at word → rest ≡ drop at word → value ≡ drop 1 rest
+    → ◌≡◌ {A = Option Pair} (Some (record { name = name; value = value })) (pair_of word)
+unfolding pair_of
+pair_cut word name rest value at found front back after =
+    let behind : value ≡ drop (at + 1) word = after ∙ ap (drop 1) back ∙ drop-drop 1 at word in
+    rw (front, behind) (ap (option_map (λ at. record { name = take at word; value = drop (at + 1) word })) found)
 
-pub is_no_pair : (o : Option Pair) (fault : ScriptFault) → or_fault WrongWords o ≡ Err fault → (o ≡ None) × (fault ≡ WrongWords)
-is_no_pair None fault e = (refl, cc)
-is_no_pair (Some p) fault e = absurd (cc)
+-- and one without
+pub no_equals : (word : List ℕ) → None ≡ position (λ b. b == 61) word → None ≡ pair_of word
+unfolding pair_of
+no_equals word none = ap (option_map (λ at. record { name = take at word; value = drop (at + 1) word })) none
 
 -- a pair is taken
-pub pair_taken : (tokens more : List Token) (word : List ℕ) (pair : Pair) → tokens ≡ Word word ∷ more → or_fault WrongWords (pair_of word) ≡ Ok pair → IsPairAnd tokens pair more
+pub pair_taken : (tokens more : List Token) (word : List ℕ) (pair : Pair) → tokens ≡ Word word ∷ more → pair_of word ≡ Some pair → IsPairAnd tokens pair more
 unfolding pairs_of
 pair_taken tokens more word pair is found = record {
-  pairs = ap pairs_of is ∙ ap (λ (o : Option Pair). Rattle.std.specs.Option.option_and_then (λ pair. option_map (λ pairs. pair ∷ pairs) (pairs_of more)) o) (is_pair (pair_of word) pair found);
+  pairs = ap pairs_of is ∙ ap (λ (o : Option Pair). Rattle.std.specs.Option.option_and_then (λ pair. option_map (λ pairs. pair ∷ pairs) (pairs_of more)) o) found;
   shorter = let e : length tokens ≡ length (Word word ∷ more) = ap length is in omega arith;
 }
 
+no_pairs : (tokens left : List Token) (items : List Pair) → option_map (λ more. items ++ more) (pairs_of left) ≡ pairs_of tokens → pairs_of left ≡ None
+    → or_fault WrongWords (pairs_of tokens) ≡ Err WrongWords
+no_pairs tokens left items e none = ap (or_fault WrongWords) (sym e ∙ ap (λ (o : Option (List Pair)). option_map (λ more. items ++ more) o) none)
+
 -- the next token is a word, and no pair
-pub no_pair : (error : LineError) (tokens more : List Token) (word : List ℕ) → tokens ≡ Word word ∷ more → Fails error (or_fault WrongWords (pair_of word)) → Fails error (or_fault WrongWords (pairs_of tokens))
+pub no_pair : (tokens left more : List Token) (items : List Pair) (word : List ℕ) → option_map (λ more. items ++ more) (pairs_of left) ≡ pairs_of tokens → left ≡ Word word ∷ more
+    → pair_of word ≡ None → or_fault WrongWords (pairs_of tokens) ≡ Err WrongWords
 unfolding pairs_of
-no_pair Memory tokens more word is fails = tt
-no_pair (Fault fault) tokens more word is fails =
-    let h = is_no_pair (pair_of word) fault fails in
-    ap (λ ts. or_fault WrongWords (pairs_of ts)) is
-    ∙ (ap (λ (o : Option Pair). or_fault WrongWords (Rattle.std.specs.Option.option_and_then (λ pair. option_map (λ pairs. pair ∷ pairs) (pairs_of more)) o)) h.0 ∙ ap Err (sym h.1))
+no_pair tokens left more items word e is none =
+    no_pairs tokens left items e
+    (ap pairs_of is ∙ ap (λ (o : Option Pair). Rattle.std.specs.Option.option_and_then (λ pair. option_map (λ pairs. pair ∷ pairs) (pairs_of more)) o) none)
 
 -- the next token is a redirection
-pub pair_redirected : (tokens more : List Token) (append : Bool) → tokens ≡ Redirect append ∷ more → or_fault WrongWords (pairs_of tokens) ≡ Err WrongWords
+pub pairs_redirected : (tokens left more : List Token) (items : List Pair) (append : Bool) → option_map (λ more. items ++ more) (pairs_of left) ≡ pairs_of tokens → left ≡ Redirect append ∷ more
+    → or_fault WrongWords (pairs_of tokens) ≡ Err WrongWords
 unfolding pairs_of
-pair_redirected tokens more append is = ap (λ ts. or_fault WrongWords (pairs_of ts)) is
+pairs_redirected tokens left more items append e is = no_pairs tokens left items e (ap pairs_of is)
 
-pub pairs_of_none : (tokens : List Token) → tokens ≡ [] → pairs_of tokens ≡ Some []
+-- all are taken
+pub pairs_done : (tokens left : List Token) (items : List Pair) → option_map (λ more. items ++ more) (pairs_of left) ≡ pairs_of tokens → left ≡ []
+    → or_fault WrongWords (pairs_of tokens) ≡ Ok items
 unfolding pairs_of
-pairs_of_none tokens is = ap pairs_of is
-
--- a pair is taken that is the last
-pub one_pair : (tokens more : List Token) (pair : Pair) → pairs_of tokens ≡ option_map (λ more. pair ∷ more) (pairs_of more) → more ≡ [] → or_fault WrongWords (pairs_of tokens) ≡ Ok (pair ∷ [])
-unfolding pairs_of
-one_pair tokens more pair taken none = ap (or_fault WrongWords) (taken ∙ ap (λ ts. option_map (λ more. pair ∷ more) (pairs_of ts)) none)
+pairs_done tokens left items e none =
+    ap (or_fault WrongWords) (sym e ∙ ap (λ ts. option_map (λ more. items ++ more) (pairs_of ts)) none) ∙ ap Ok (append-nil items)
 
 pub none_taken : {A : Type 0} (o : Option A) (P : Type 0) (Q : A → Type 0) → MatchOption o P Q → ((a : A) → o ≡ Some a → ⊥) → P
 none_taken None P Q h none = h
@@ -108,32 +115,6 @@ no_count tokens none = no_word (λ ts. take_of ts ≡ Err WrongWords) refl (λ a
 
 -- ---- whole commands
 
--- pairs are taken up to the end
-pub pairs_done : (tokens left : List Token) (first : Pair) (items : List Pair) → option_map (λ more. items ++ more) (pairs_of left) ≡ option_map (λ more. first ∷ more) (pairs_of tokens) → left ≡ []
-    → or_fault WrongWords (option_map (λ more. first ∷ more) (pairs_of tokens)) ≡ Ok items
-unfolding pairs_of
-pairs_done tokens left first items e none =
-    ap (or_fault WrongWords) (sym e ∙ ap (λ ts. option_map (λ more. items ++ more) (pairs_of ts)) none) ∙ ap Ok (append-nil items)
-
--- a redirection comes where a pair had to come
-pub more_redirected : (tokens left more : List Token) (first : Pair) (items : List Pair) (append : Bool) → option_map (λ more. items ++ more) (pairs_of left) ≡ option_map (λ more. first ∷ more) (pairs_of tokens) → left ≡ Redirect append ∷ more
-    → or_fault WrongWords (option_map (λ more. first ∷ more) (pairs_of tokens)) ≡ Err WrongWords
-unfolding pairs_of
-more_redirected tokens left more first items append e is =
-    ap (or_fault WrongWords) (sym e ∙ ap (λ ts. option_map (λ more. items ++ more) (pairs_of ts)) is)
-
-no_pairs_of : (o : Option (List Pair)) (fault : ScriptFault) → or_fault WrongWords o ≡ Err fault → (o ≡ None) × (fault ≡ WrongWords)
-no_pairs_of None fault e = (refl, cc)
-no_pairs_of (Some ps) fault e = absurd (cc)
-
--- or a word that is no pair
-pub more_wrong : (error : LineError) (tokens left more : List Token) (first : Pair) (items : List Pair) (word : List ℕ) → option_map (λ more. items ++ more) (pairs_of left) ≡ option_map (λ more. first ∷ more) (pairs_of tokens) → left ≡ Word word ∷ more
-    → Fails error (or_fault WrongWords (pair_of word)) → Fails error (or_fault WrongWords (option_map (λ more. first ∷ more) (pairs_of tokens)))
-more_wrong Memory tokens left more first items word e is fails = tt
-more_wrong (Fault fault) tokens left more first items word e is fails =
-    let h = no_pairs_of (pairs_of left) fault (no_pair (Fault fault) left more word is fails) in
-    ap (or_fault WrongWords) (sym e ∙ ap (λ o. option_map (λ more. items ++ more) o) h.0) ∙ ap Err (sym h.1)
-
 -- an emission with a CPU, a process, an event and a pair or more
 emission_is : (tokens after behind pairs : List Token) (cpu pid event : List ℕ) → tokens ≡ Word cpu ∷ after → after ≡ Word pid ∷ behind → behind ≡ Word event ∷ pairs → (pairs ≡ [] → ⊥)
     → emission_of tokens ≡ (or_fault WrongWords (pairs_of pairs) >>= λ pairs. emission_with cpu pid event pairs)
@@ -155,8 +136,8 @@ bad_pairs (Fault fault) tokens after behind pairs cpu pid event is then at some 
     emission_is tokens after behind pairs cpu pid event is then at some ∙ ap (λ r. r >>= λ pairs. emission_with cpu pid event pairs) fails
 
 -- and without a pair
-pub no_pairs : (tokens after behind pairs : List Token) (cpu pid event : List ℕ) → tokens ≡ Word cpu ∷ after → after ≡ Word pid ∷ behind → behind ≡ Word event ∷ pairs → pairs ≡ []
+pub no_pairs_after : (tokens after behind pairs : List Token) (cpu pid event : List ℕ) → tokens ≡ Word cpu ∷ after → after ≡ Word pid ∷ behind → behind ≡ Word event ∷ pairs → pairs ≡ []
     → emission_of tokens ≡ Err WrongWords
 unfolding emission_of
-no_pairs tokens after behind pairs cpu pid event is then at none =
+no_pairs_after tokens after behind pairs cpu pid event is then at none =
     ap emission_of is ∙ (ap (λ ts. emission_of (Word cpu ∷ ts)) then ∙ (ap (λ ts. emission_of (Word cpu ∷ Word pid ∷ ts)) at ∙ ap (λ ts. emission_of (Word cpu ∷ Word pid ∷ Word event ∷ ts)) none))

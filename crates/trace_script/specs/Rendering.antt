@@ -18,7 +18,7 @@ detail_of (FilterSyntax at cause) = codes " at " ++ decimal at
 detail_of (NoSuchField at) = codes " at " ++ decimal at
 detail_of (WrongOperator at cause) = codes " at " ++ decimal at
 detail_of (HistSyntax at cause) = codes " at " ++ decimal at
-detail_of (BadRow field) = 32 ∷ field
+detail_of (BadRow bad) = 32 ∷ bad.field
 detail_of _ = []
 
 -- the name that is printed for a fault

@@ -3,6 +3,7 @@ pub mod Bytes
 pub mod Emissions
 pub mod Reads
 pub mod Marks
+pub mod Listed
 pub mod TokensIn
 pub mod TokensLeft
 pub mod Words

@@ -7,11 +7,12 @@ ghost use Rattle.trace_command.specs.declared.command.CommandOf.TheVariants as c
 ghost use Rattle.trace_format.specs.Reading.{definition_of};
 ghost use Rattle.trace_script.specs.Changes.{change_of, change_of_request, declares};
 
+use crate::cut::LineRoom;
 use crate::fault::LineError;
 use crate::line::{Line, prepare};
 use crate::outcome::Outcome;
 use std::alloc::{AllocError, Global};
-use trace_command::{FileName, OwnedCommand, address_of, instance_of};
+use trace_command::{Command, FileName, address_of, instance_of};
 use trace_format::{DefinitionFault, EventDef};
 use trace_lex::Text;
 
@@ -48,25 +49,25 @@ fn declared_by(alloc: Global, path: &[u8], text: &[u8]) -> Result<Option<EventDe
 }
 
 /// What a command changes that was done.
-fn change_of_command(alloc: Global, command: &OwnedCommand) -> Result<Option<Change>, AllocError>
+fn change_of_command(alloc: Global, command: &Command<'_>) -> Result<Option<Change>, AllocError>
     ensures { IfOk result (λ change. change ≡ change_of_request (request_of command.now)) }
 {
     match command {
-        OwnedCommand::Mkdir(path) => match instance_of(path.as_bytes()) {
+        Command::Mkdir(path) => match instance_of(path.as_bytes()) {
             Some(name) => Ok(Some(Change::Makes(Text::from_slice(alloc, name)?))),
             None => Ok(None),
         },
-        OwnedCommand::Rmdir(path) => match instance_of(path.as_bytes()) {
+        Command::Rmdir(path) => match instance_of(path.as_bytes()) {
             Some(name) => Ok(Some(Change::Removes(Text::from_slice(alloc, name)?))),
             None => Ok(None),
         },
-        OwnedCommand::Write { path, text, .. } => {
+        Command::Write { path, text, .. } => {
             match declared_by(alloc, path.as_bytes(), text.as_bytes())? {
                 Some(event) => Ok(Some(Change::Declares(event))),
                 None => Ok(None),
             }
         }
-        OwnedCommand::Emit { .. } | OwnedCommand::Read { .. } => Ok(None),
+        Command::Emit { .. } | Command::Read { .. } => Ok(None),
     }
 }
 
@@ -81,7 +82,9 @@ pub fn change_of(
     let Outcome::Replied(_) = outcome else {
         return Ok(None);
     };
-    match prepare(alloc, line) {
+    let mut room = LineRoom::new(alloc);
+    let mut pairs = Vec::new(alloc);
+    match prepare(&mut room, &mut pairs, line) {
         Ok(Line::Ask(command)) => change_of_command(alloc, &command),
         Err(LineError::Memory) => Err(AllocError),
         _ => Ok(None),

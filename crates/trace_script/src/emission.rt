@@ -4,29 +4,30 @@
 //! of such a line are slices of it: each ends at the first byte that is not above a space. Another line is left to be read by its tokens,
 //! which would give the same for these.
 
-ghost use Rattle.std.specs.Prelude.{◌≡◌, ◌≢◌, ◌≤◌, ◌<◌, ◌∷◌, ◌++◌, ◌==◌, ◌&&◌, not, ℕ, List, [], length, drop, nat_lt, true, false, Some, None, Ok, IsErr, IsSome, IfOk, IfSome, OnSome, OnErr, IfNone, MatchOption, codes};
+ghost use Rattle.std.specs.Prelude.{◌≡◌, ◌≢◌, ◌≤◌, ◌<◌, ◌∷◌, ◌++◌, ◌==◌, ◌&&◌, not, ℕ, List, [], length, drop, nat_lt, true, false, pos, Some, None, Ok, IsErr, IsSome, IfOk, IfSome, OnSome, OnErr, IfNone, MatchOption, codes};
 ghost use Rattle.std.specs.List.{prefix_len};
 ghost use Rattle.std.specs.Option.{option_map};
-ghost use Rattle.trace_script.specs.Lines.{says_nothing, line_of};
-ghost use Rattle.trace_script.specs.Outcomes.{Gives};
+ghost use Rattle.trace_command.specs.declared.command.CommandOf.TheVariants.{Emit};
+ghost use Rattle.trace_script.specs.Lines.{line_of};
+ghost use Rattle.trace_script.specs.declared.line.Line.TheVariants.{Ask};
 ghost use Rattle.trace_script.specs.PlainEmissions.{emission_said, is_spaced, IsPlainEmission};
 ghost use Rattle.trace_script.specs.Tokens.{behind, tokens_of};
 ghost use Rattle.trace_script.specs.private.Bytes.{highest_rank};
-ghost use Rattle.trace_script.specs.private.Emissions.{asked_after_emit, asked_by_emission, emission_in, pairs_in, tokens_in};
+ghost use Rattle.trace_script.specs.private.Emissions.{asked_after_emit, emission_in, pairs_in, tokens_in};
 ghost use Rattle.trace_script.specs.declared.token.Token.TheVariants.{Word as IsWord};
 
 use crate::bytes::is_bare;
-use crate::command::{emission_with, pair};
-use crate::fault::LineError;
-use crate::line::{Line, MOST_BYTES};
+use crate::line::MOST_BYTES;
 use crate::number::{cpu_number, process_id};
 use crate::prefix::len_before;
-use std::alloc::{AllocError, Global};
-use trace_command::Pairs;
+use std::alloc::AllocError;
 use trace_format::BorrowedPair;
 
 /// How many bytes `emit` and a space are.
 pub(crate) const EMIT_BYTES: usize = 5;
+
+/// How many bytes stand before the pairs of `emit 0 0 e `.
+const FRONT_BYTES: usize = 11;
 
 /// An emission's words but its pairs, as they lie in its line.
 #[derive(Clone, Copy)]
@@ -123,6 +124,21 @@ fn cut_pairs<'a>(line: &'a [u8], pairs: &mut Vec<BorrowedPair<'a>>) -> Result<bo
         rest = next;
     }
     Ok(false)
+}
+
+/// Leaves in a list the pairs that a line is, if it has no quotes and no `>` and one blank between each two: those of the line of an emission that they
+/// end, as here of `e`. Whether the line is such. Every other line is left to [`crate::prepare`].
+pub fn plain_pairs<'a>(
+    line: &'a [u8],
+    pairs: &mut Vec<BorrowedPair<'a>>,
+) -> Result<bool, AllocError>
+    ensures { IfOk result (λ are. are ≡ true
+        → line_of (codes "emit 0 0 e " ++ line.now) ≡ Ok (Ask (Emit (codes "e") 0 (pos 0) pairs.new.items))) }
+{
+    if line.len() > MOST_BYTES - FRONT_BYTES || !is_bare(line) {
+        return Ok(false);
+    }
+    cut_pairs(line, pairs)
 }
 
 /// Whether a line is one word.
@@ -258,26 +274,4 @@ fn cut_emission<'a>(
         return Ok(None);
     };
     cut_bare(rest, pairs)
-}
-
-/// The words of a line without quotes and `>`, if it is an emission of one pair with one blank between each two words.
-pub(crate) fn emission_words(line: &[u8]) -> Option<EmissionWords<'_>>
-    requires { highest_rank line.now ≡ 0 }
-    ensures tokens { IfSome result (λ words. tokens_of line.now ≡ Some (IsWord (codes "emit") ∷ tokens_in words (IsWord words.pairs.now ∷ []))) }
-    ensures says { OnSome result (says_nothing line.now ≡ false) }
-{
-    let words = words_after(after_emit(line)?)?;
-    if !is_word(words.pairs) {
-        return None;
-    }
-    Some(words)
-}
-
-/// The line of an emission of these words.
-pub(crate) fn emission_line(alloc: Global, words: EmissionWords<'_>) -> Result<Line, LineError>
-    ensures { Gives (λ line. line) result (asked_by_emission (tokens_in words.entry (IsWord words.entry.pairs.now ∷ []))) }
-{
-    let pair = pair(alloc, words.pairs)?;
-    let command = emission_with(alloc, words.cpu, words.pid, words.event, Pairs::from(pair))?;
-    Ok(Line::Ask(command))
 }

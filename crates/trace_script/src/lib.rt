@@ -4,6 +4,7 @@
 mod bytes;
 mod change;
 mod command;
+mod cut;
 mod emission;
 mod fault;
 mod first;
@@ -16,11 +17,11 @@ mod prefix;
 mod read;
 mod token;
 mod tokens;
-mod word;
 
 pub use change::{Change, change_of, declared};
 pub use command::writes_are_as_written;
-pub use emission::{EmissionHead, plain_emission};
+pub use cut::LineRoom;
+pub use emission::{EmissionHead, plain_emission, plain_pairs};
 pub use fault::{LineError, ScriptFault};
 pub use first::{FirstCommand, first_emission};
 pub use line::{

@@ -10,30 +10,31 @@ ghost use Rattle.trace_script.specs.private.Words.{begins_as_end, is_block_word,
 ghost use Rattle.trace_script.specs.Tokens.{is_quote, tokens_of};
 ghost use Rattle.trace_script.specs.declared.fault.ScriptFault.{ScriptFault as FaultValue};
 ghost use Rattle.trace_script.specs.Lines.{named_line, asked_of, says_nothing, spoken, line_of};
-ghost use Rattle.trace_script.specs.declared.token.Token.{Token};
+ghost use Rattle.trace_script.specs.declared.token.Token.{Token as TokenValue};
 ghost use Rattle.trace_script.specs.declared.line.Line.{Line as LineValue};
 ghost use Rattle.trace_script.specs.declared.line.Line.TheVariants.{End};
 
 use crate::bytes::{OTHER, QUOTE, highest_rank};
-use crate::command::{command, emission, is_emit};
-use crate::emission::{emission_line, emission_words};
+use crate::command::command;
+use crate::cut::{LineRoom, cut};
+use crate::emission::plain_emission;
 use crate::fault::{LineError, ScriptFault};
-use crate::token::{is_quote, tokens, without_blanks};
-use crate::tokens::{BorrowedToken, Tokens};
-use std::alloc::Global;
-use trace_command::OwnedCommand;
+use crate::token::{Token, is_quote, without_blanks};
+use crate::tokens::Tokens;
+use trace_command::Command;
+use trace_format::BorrowedPair;
 use trace_lex::is_blank;
 
 /// The most bytes that a line may have.
 pub(crate) const MOST_BYTES: usize = 4096;
 
 /// What a line of a script asks for.
-#[derive(Clone, PartialEq, Eq, Drop)]
-pub enum Line {
+#[derive(Drop)]
+pub enum Line<'a> {
     /// Nothing: the line is empty, blank or a comment.
     Blank,
-    /// This command.
-    Ask(OwnedCommand),
+    /// This command. Its strings and pairs lie elsewhere.
+    Ask(Command<'a>),
     /// `parallel`: a part begins whose threads run side by side.
     Parallel,
     /// `thread`: the commands of the part's next thread begin.
@@ -50,7 +51,7 @@ fn is_block_word(name: &[u8]) -> bool
 }
 
 /// The line of a parallel part that has this name.
-fn block_line(name: &[u8]) -> Line
+fn block_line<'a>(name: &[u8]) -> Line<'a>
     ensures { result ≡ block_line name.now }
 {
     if name == b"parallel".as_slice() {
@@ -62,15 +63,18 @@ fn block_line(name: &[u8]) -> Line
     Line::End
 }
 
-/// The line of a name, with the tokens that follow it. It is kept out of line, so that an emission doesn't take the room of the other
-/// commands.
-#[inline(never)]
+/// The line of a name, with the tokens that follow it.
 #[tactic(auto, using(crate::proofs::BlockLines::block_alone, crate::proofs::BlockLines::block_followed, crate::proofs::BlockLines::asks_command, crate::proofs::BlockLines::no_command))]
-fn any_line(alloc: Global, name: &[u8], tokens: &mut Tokens<'_>) -> Result<Line, LineError>
+fn named<'a, 'p>(
+    name: &[u8],
+    tokens: &mut Tokens<'a>,
+    text: &'a mut Vec<u8>,
+    pairs: &'p mut Vec<BorrowedPair<'a>>,
+) -> Result<Line<'p>, LineError>
     ensures { Gives (λ line. line) result (named_line name.now tokens.old) }
 {
     if !is_block_word(name) {
-        return Ok(Line::Ask(command(alloc, name, tokens)?));
+        return Ok(Line::Ask(command(name, tokens, text, pairs)?));
     }
     if tokens.is_empty() {
         Ok(block_line(name))
@@ -79,27 +83,18 @@ fn any_line(alloc: Global, name: &[u8], tokens: &mut Tokens<'_>) -> Result<Line,
     }
 }
 
-/// The line of this name, with the tokens that follow it. Most lines are emissions, so these are looked for first.
-#[tactic(auto, using(crate::proofs::EmissionLines::emission_line))]
-fn named(alloc: Global, name: &[u8], mut tokens: Tokens<'_>) -> Result<Line, LineError>
-    ensures { Gives (λ line. line) result (named_line name.now tokens.entry) }
-{
-    if is_emit(name) {
-        return Ok(Line::Ask(emission(alloc, &mut tokens)?));
-    }
-    any_line(alloc, name, &mut tokens)
-}
-
 /// What the tokens of a line ask for. The first of them names it.
 #[tactic(auto, unfolding(crate::specs::Lines::asked_of))]
-fn asked(alloc: Global, mut tokens: Tokens<'_>) -> Result<Line, LineError>
+fn asked<'a, 'p>(
+    mut tokens: Tokens<'a>,
+    text: &'a mut Vec<u8>,
+    pairs: &'p mut Vec<BorrowedPair<'a>>,
+) -> Result<Line<'p>, LineError>
     ensures { Gives (λ line. line) result (asked_of tokens.entry) }
 {
     match tokens.next() {
-        Some(BorrowedToken::Word(name)) => named(alloc, name, tokens),
-        Some(BorrowedToken::Redirect { .. }) | None => {
-            Err(LineError::Fault(ScriptFault::UnknownCommand))
-        }
+        Some(Token::Word(name)) => named(name.as_bytes(), &mut tokens, text, pairs),
+        Some(Token::Redirect { .. }) | None => Err(LineError::Fault(ScriptFault::UnknownCommand)),
     }
 }
 
@@ -115,19 +110,26 @@ fn says_nothing(line: &[u8]) -> bool
     true
 }
 
-/// What a line asks for that may have quotes. It is kept out of line, as `any_line` is.
-#[inline(never)]
-fn quoted(alloc: Global, line: &[u8]) -> Result<Line, LineError>
+/// What a line asks for in which quotes are.
+fn quoted<'a, 'p>(
+    room: &'a mut LineRoom,
+    pairs: &'p mut Vec<BorrowedPair<'a>>,
+    line: &[u8],
+) -> Result<Line<'p>, LineError>
     ensures { Gives (λ line. line) result (asked_after (tokens_of line.now)) }
 {
-    let list = tokens(alloc, line)?;
-    asked(alloc, Tokens::of_list(&list))
+    cut(room, line)?;
+    asked(Tokens::of_list(&room.list), &mut room.text, pairs)
 }
 
-/// What a line of lawful length and bytes asks for. It is kept out of line, so that an emission of one pair doesn't take the room of the others.
-#[inline(never)]
+/// What a line of lawful length and bytes asks for.
 #[tactic(auto, unfolding(crate::specs::Lines::spoken))]
-fn spoken(alloc: Global, line: &[u8], has_quotes: bool) -> Result<Line, LineError>
+fn spoken<'a, 'p>(
+    room: &'a mut LineRoom,
+    pairs: &'p mut Vec<BorrowedPair<'a>>,
+    line: &'a [u8],
+    has_quotes: bool,
+) -> Result<Line<'p>, LineError>
     requires { has_quotes ≡ false → list_any is_quote line.now ≡ false }
     ensures { Gives (λ line. line) result (spoken line.now) }
 {
@@ -135,14 +137,18 @@ fn spoken(alloc: Global, line: &[u8], has_quotes: bool) -> Result<Line, LineErro
         return Ok(Line::Blank);
     }
     if has_quotes {
-        return quoted(alloc, line);
+        return quoted(room, pairs, line);
     }
-    asked(alloc, Tokens::of_line(line))
+    asked(Tokens::of_line(line), &mut room.text, pairs)
 }
 
-/// What a line asks for. A fault is the first that is found, in the order of [`ScriptFault`].
-#[tactic(auto, using(crate::proofs::ByteLemmas::lawful, crate::proofs::ByteLemmas::not_lawful, crate::proofs::ByteLemmas::unquoted, crate::proofs::BareLines::emission_spoken), unfolding(crate::specs::Lines::line_of))]
-pub fn prepare(alloc: Global, line: &[u8]) -> Result<Line, LineError>
+/// What a line asks for that is no plain emission.
+#[tactic(auto, using(crate::proofs::ByteLemmas::lawful, crate::proofs::ByteLemmas::not_lawful, crate::proofs::ByteLemmas::unquoted), unfolding(crate::specs::Lines::line_of))]
+fn any_line<'a, 'p>(
+    room: &'a mut LineRoom,
+    pairs: &'p mut Vec<BorrowedPair<'a>>,
+    line: &'a [u8],
+) -> Result<Line<'p>, LineError>
     ensures { Gives (λ line. line) result (line_of line.now) }
 {
     if line.len() > MOST_BYTES {
@@ -152,12 +158,24 @@ pub fn prepare(alloc: Global, line: &[u8]) -> Result<Line, LineError>
     if rank >= OTHER {
         return Err(LineError::Fault(ScriptFault::BadByte));
     }
-    if rank == 0 {
-        if let Some(words) = emission_words(line) {
-            return emission_line(alloc, words);
-        }
-    }
-    spoken(alloc, line, rank >= QUOTE)
+    room.clear();
+    spoken(room, pairs, line, rank >= QUOTE)
+}
+
+/// What a line asks for. A fault is the first that is found, in the order of [`ScriptFault`]. The words of a command are slices of the line, or lie in
+/// the room: those in which quotes are, and those that an `echo` joins. Pairs are left in the list.
+pub fn prepare<'a, 'p>(
+    room: &'a mut LineRoom,
+    pairs: &'p mut Vec<BorrowedPair<'a>>,
+    line: &'a [u8],
+) -> Result<Line<'p>, LineError>
+    ensures { Gives (λ line. line) result (line_of line.now) }
+{
+    let Some(head) = plain_emission(line, pairs)? else {
+        return any_line(room, pairs, line);
+    };
+    let command = Command::emit(head.event, head.cpu, head.pid, pairs.as_slice());
+    Ok(Line::Ask(command))
 }
 
 /// Whether a string begins with the first two bytes of `end`, or with a quote in the place of one of them.
@@ -183,8 +201,8 @@ pub fn may_end(line: &[u8]) -> bool
 /// The grammar of commands: tokens ask for a command, or for a line of a parallel part, exactly where they are written as it is. So they
 /// ask for one thing at most.
 pub fn commands_are_as_written()
-    ensures written { (tokens : List Token) (line : LineValue) → asked_of tokens ≡ Ok line → IsAskedBy tokens line }
-    ensures read { (tokens : List Token) (line : LineValue) → IsAskedBy tokens line → asked_of tokens ≡ Ok line }
+    ensures written { (tokens : List TokenValue) (line : LineValue) → asked_of tokens ≡ Ok line → IsAskedBy tokens line }
+    ensures read { (tokens : List TokenValue) (line : LineValue) → IsAskedBy tokens line → asked_of tokens ≡ Ok line }
 {}
 
 /// The grammar of a line: it asks for something, or for nothing, exactly if it is written so. So it asks for one thing at most.

@@ -30,7 +30,7 @@ fn detail(alloc: Global, refusal: &Refusal) -> Result<Vec<u8>, AllocError>
         | Refusal::NoSuchField { at }
         | Refusal::WrongOperator { at, .. }
         | Refusal::HistSyntax { at, .. } => offset_text(alloc, *at),
-        Refusal::BadRow { field } => field_name(alloc, field.as_bytes()),
+        Refusal::BadRow { row } => field_name(alloc, row.get().field.as_bytes()),
         _ => Ok(Vec::new(alloc)),
     }
 }

@@ -3,6 +3,7 @@ use Rattle.std.specs.Prelude.{◌≡◌, Vec, ℕ, ◌+◌, List, [], ◌∷◌,
 use Rattle.std.specs.declared.alloc.Global.{Global}
 use Rattle.trace_command.specs.declared.command.Reply.{Reply}
 use Rattle.trace_command.specs.declared.refusal.Refusal.{Refusal}
+use Rattle.script_reader.specs.AskingLines.{command_in}
 use Rattle.script_reader.specs.declared.part.Numbered.{Numbered}
 use Rattle.parallel_output.specs.ThreadLines.{thread_line}
 use Rattle.parallel_output.specs.ThreadTexts.{numbered_text, numbered_outcomes}
@@ -41,4 +42,4 @@ pub record AreOutcomesOf (threads : List (List Numbered)) (became : List (Option
 
 -- the command that a line asks for, which a part's thread keeps
 abbrev pub asked_command : AskedLine → Command
-asked_command asked = asked.command.value
+asked_command asked = command_in asked.line.now

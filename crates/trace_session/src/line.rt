@@ -22,8 +22,8 @@ use trace_workers::ask;
 /// The outcome of a line that is no command. Out of line, so that commands don't pay for what the other lines drop.
 #[inline(never)]
 #[tactic(auto, unfolding(crate::specs::Sessions::turn_of))]
-pub(crate) fn unasked(said: Result<Line, ScriptFault>) -> Option<Outcome>
-    ensures { (g : Config) (before : Progress) (text : List ℕ) → ((command : CommandValue) → said ≢ Ok (Line.Ask command)) → said ≡ line_of text
+pub(crate) fn unasked(said: Result<Line<'_>, ScriptFault>) -> Option<Outcome>
+    ensures { (g : Config) (before : Progress) (text : List ℕ) → ((command : CommandValue) → said.entry ≢ Ok (Line.Ask command)) → said.entry ≡ line_of text
         → turn_of g before text ≡ record { outcome = result; progress = before } }
 {
     match said {

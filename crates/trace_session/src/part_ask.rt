@@ -11,7 +11,7 @@ use crate::part_line::AskedLine;
 use shared_book::SharedBook;
 use std::alloc::{AllocError, Global};
 use ticket_lock::Pass;
-use trace_script::{Line, plain_emission, prepare};
+use trace_script::{Line, LineRoom, plain_emission, prepare};
 use trace_workers::{Asked, Ready};
 
 /// The command of a line that asks for one. So only memory can be missing.
@@ -19,10 +19,12 @@ use trace_workers::{Asked, Ready};
 fn prepared<'a>(alloc: Global, line: &[u8]) -> Result<Ready<'a>, AllocError>
     ensures { IfOk result (λ ready. (command : Command) → line_of line.now ≡ Ok (Ask command) → command_of ready ≡ command) }
 {
-    let Ok(Line::Ask(command)) = prepare(alloc, line) else {
+    let mut room = LineRoom::new(alloc);
+    let mut pairs = Vec::new(alloc);
+    let Ok(Line::Ask(command)) = prepare(&mut room, &mut pairs, line) else {
         return Err(AllocError);
     };
-    Ok(Ready::Command(command))
+    Ok(Ready::Command(command.copied(alloc)?))
 }
 
 impl<'a> Asked for AskedLine<'a> {

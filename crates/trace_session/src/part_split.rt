@@ -19,13 +19,9 @@ fn split_thread<'a>(
 {
     let mut numbers = Vec::with_capacity(alloc, thread.len())?;
     let mut lines = Vec::with_capacity(alloc, thread.len())?;
-    for PartLine {
-        number,
-        line,
-        command,
-    } in thread {
+    for PartLine { number, line, .. } in thread {
         numbers.push(number)?;
-        lines.push(AskedLine { line, command })?;
+        lines.push(AskedLine { line })?;
     }
     Ok((numbers, lines))
 }

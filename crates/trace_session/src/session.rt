@@ -25,6 +25,7 @@ use std::sync::Wait;
 use std::thread::Threads;
 use ticket_lock::{Pass, TicketLock};
 use trace_command::{Config, Refusal};
+use trace_script::LineRoom;
 use trace_workers::Gate;
 
 /// The status after one more item, which is no fault.
@@ -43,6 +44,7 @@ fn do_items<B: SharedBook + Send, R: Threads + Wait + Sync, W: Sink, G: Gate + S
     env: &Environment<'_, B, R, G>,
     pass: Pass<B>,
     script: &[u8],
+    room: &mut LineRoom,
     replies: &mut Replies,
     writer: &mut W,
 ) -> Result<Status, Stop>
@@ -113,7 +115,8 @@ fn do_items<B: SharedBook + Send, R: Threads + Wait + Sync, W: Sink, G: Gate + S
             }
             NextItem::Other => {}
         }
-        let Ok(other) = other_item(env.alloc, number, text) else {
+        let mut others = Vec::new(env.alloc);
+        let Ok(other) = other_item(env.alloc, room, &mut others, number, text) else {
             return Err(Stop::Memory);
         };
         let (back, done) = do_item(env, pass, number, other.item, replies, writer);
@@ -160,7 +163,8 @@ fn do_script<B: SharedBook + Send, R: Threads + Wait + Sync, W: Sink, G: Gate + 
         (W.contents writer.old) (W.contents writer.new) (W.heard writer.old) (W.heard writer.new) }
 {
     let mut replies = Replies::new(env.alloc)?;
-    match do_items(env, pass, script, &mut replies, writer) {
+    let mut room = LineRoom::new(env.alloc);
+    match do_items(env, pass, script, &mut room, &mut replies, writer) {
         Err(Stop::Device) => Err(Stop::Device),
         ran => {
             replies.flush(writer)?;

@@ -31,7 +31,7 @@ use std::alloc::Global;
 use std::sync::Wait;
 use std::thread;
 use ticket_lock::Pass;
-use trace_command::{Command, OwnedCommand, Refusal, Reply};
+use trace_command::{Command, Refusal, Reply};
 use trace_script::{Line, Outcome, ScriptFault};
 use trace_workers::Gate;
 
@@ -100,35 +100,12 @@ pub(crate) fn do_other_command<B: SharedBook, R: Wait, W: Sink, G>(
     do_command(env, pass, line, command, replies, writer)
 }
 
-/// Runs a command whose strings are its own, and writes its output.
-fn do_owned_command<B: SharedBook, R: Wait, W: Sink, G>(
-    env: &Environment<'_, B, R, G>,
-    pass: Pass<B>,
-    line: NumberedText<'_>,
-    command: &OwnedCommand,
-    replies: &mut Replies,
-    writer: &mut W,
-) -> (Pass<B>, Result<Status, Stop>)
-    requires of { IsOf env.now.lock.now pass }
-    requires says { line_of line.text.now ≡ Ok (Ask command.now) }
-    ensures of { IsOf env.now.lock.now result.0 }
-    ensures ran { RunsLine W.wants_first line.entry.number line.entry.text.now (view_of pass) (view_of result.0)
-        (outlet (W.contents writer.old) (W.failures writer.old) (W.heard writer.old) replies.old)
-        (outlet (W.contents writer.new) (W.failures writer.new) (W.heard writer.new) replies.new) result.1 }
-{
-    let Ok(lent) = command.lend_pairs(env.alloc) else {
-        return (pass, Err(Stop::Memory));
-    };
-    let command = command.lent(lent.as_slice());
-    do_other_command(env, pass, line, &command, replies, writer)
-}
-
 /// Runs a single line, and writes its output.
 fn do_line<B: SharedBook, R: Wait, W: Sink, G>(
     env: &Environment<'_, B, R, G>,
     pass: Pass<B>,
     line: NumberedText<'_>,
-    said: Result<Line, ScriptFault>,
+    said: Result<Line<'_>, ScriptFault>,
     replies: &mut Replies,
     writer: &mut W,
 ) -> (Pass<B>, Result<Status, Stop>)
@@ -140,7 +117,7 @@ fn do_line<B: SharedBook, R: Wait, W: Sink, G>(
         (outlet (W.contents writer.new) (W.failures writer.new) (W.heard writer.new) replies.new) result.1 }
 {
     match said {
-        Ok(Line::Ask(command)) => do_owned_command(env, pass, line, &command, replies, writer),
+        Ok(Line::Ask(command)) => do_other_command(env, pass, line, &command, replies, writer),
         said => {
             let outcome = unasked(said);
             (
@@ -194,7 +171,7 @@ pub(crate) fn do_item<
     env: &Environment<'_, B, R, G>,
     pass: Pass<B>,
     number: usize,
-    item: ItemRead<'_>,
+    item: ItemRead<'_, '_>,
     replies: &mut Replies,
     writer: &mut W,
 ) -> (Pass<B>, Result<Status, Stop>)

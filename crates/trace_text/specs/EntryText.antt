@@ -16,9 +16,6 @@ fill columns text = replicate (columns - length text) 32
 abbrev pub on_the_right : ℕ → List ℕ → List ℕ
 on_the_right columns text = fill columns text ++ text
 
-abbrev pub on_the_left : ℕ → List ℕ → List ℕ
-on_the_left columns text = text ++ fill columns text
-
 -- a bucket by its number, as the key's modifier shows it: a number in decimal digits, or in hexadecimal ones; the power of 2 up to which it
 -- goes; its least and its greatest number
 abbrev pub bucket_text : Modifier → ℤ → List ℕ
@@ -30,7 +27,7 @@ bucket_text (Buckets size) n = codes "~ " ++ signed_decimal n ++ codes "-" ++ si
 -- numbers on the right of 10 columns, strings on the left of 16
 abbrev pub key_value : Modifier → Datum → List ℕ
 key_value modifier (Whole n) = on_the_right 10 (bucket_text modifier n)
-key_value modifier (Bytes bytes) = on_the_left 16 bytes
+key_value modifier (Bytes bytes) = bytes ++ fill 16 bytes
 
 -- a key's name and value
 abbrev pub key_text : Key × Datum → List ℕ

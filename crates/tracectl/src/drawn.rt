@@ -6,8 +6,8 @@ use crate::bars::bars_of;
 use std::alloc::{AllocError, Global};
 use std::io;
 use std::io::Write;
-use trace_command::{EventFile, FileName, OwnedCommand, Reply, address_of};
-use trace_script::{Line, LineError, Outcome, prepare};
+use trace_command::{Command, EventFile, FileName, Reply, address_of};
+use trace_script::{Line, LineError, LineRoom, Outcome, prepare};
 use trace_session::Sink;
 
 /// The output of a session, and a second writer, to which the histograms are drawn that its lines read.
@@ -21,8 +21,10 @@ pub struct Drawn<S, E> {
 
 /// Whether a line reads a `hist` file.
 fn reads_hist(alloc: Global, line: &[u8]) -> Result<bool, AllocError> {
-    match prepare(alloc, line) {
-        Ok(Line::Ask(OwnedCommand::Read { path, .. })) => Ok(matches!(
+    let mut room = LineRoom::new(alloc);
+    let mut pairs = Vec::new(alloc);
+    match prepare(&mut room, &mut pairs, line) {
+        Ok(Line::Ask(Command::Read { path, .. })) => Ok(matches!(
             address_of(path.as_bytes()).file,
             Some(FileName::OfEvent(_, EventFile::Hist))
         )),

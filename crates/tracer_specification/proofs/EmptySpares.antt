@@ -4,6 +4,7 @@ use Rattle.std.proofs.lemmas.Bool.{and_parts, false≢true}
 use Rattle.std.proofs.lemmas.List.{length-replicate}
 use Rattle.page_ring.specs.Events as ring
 use Rattle.trace_buffer.specs.Families.{all_cleared}
+use Rattle.trace_format.specs.declared.bad_row.BadRow.{BadRow}
 use Rattle.trace_format.specs.Definitions.{Definition}
 use Rattle.trace_format.specs.Cells.{Cells}
 use Rattle.trace_format.specs.Rows.{row_of}
@@ -107,7 +108,7 @@ acting-has_snapshot_trigger instance past (Emission name cpu pid pairs) is = by 
     by_trigger e (Some t) was there h =
         named-passes (λ (event : Definition). is_some (snapshot_trigger_of instance event past)) past name e.k there (ap is_some was)
 
-    by_row : (k : NumberedEvent) (row : Result Cells (List ℕ)) → event_named name past ≡ Some k
+    by_row : (k : NumberedEvent) (row : Result Cells BadRow) → event_named name past ≡ Some k
         → is_exchanged_by instance past (emitted_row (now_of past + 1) cpu pid k row) ≡ true → has_snapshot_trigger instance past ≡ true
     by_row k (Err missing) there h = absurd (false≢true h)
     by_row k (Ok row) there h =

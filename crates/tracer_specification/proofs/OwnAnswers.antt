@@ -6,6 +6,8 @@ use Rattle.std.specs.Prelude.{nat_lt, not, ◌&&◌, ◌||◌, is_some, length}
 use Rattle.trace_filter.specs.declared.fault.FilterFault.{FilterFault}
 use Rattle.trace_filter.specs.declared.fault.FilterFault.TheVariants as filters
 use Rattle.trace_filter.specs.Filters.{Parsed, answer_of}
+use Rattle.std.specs.Result.{result_map_both}
+use Rattle.trace_format.specs.declared.bad_row.BadRow.{BadRow}
 use Rattle.trace_format.specs.Catalogs.{id_for}
 use Rattle.trace_format.specs.Cells.{Cells}
 use Rattle.trace_format.specs.Definitions.{Definition}
@@ -36,7 +38,7 @@ use Rattle.trace_command.specs.declared.file_name.EventFile.TheVariants as per_e
 use Rattle.trace_command.specs.declared.file_name.TopFile.TheVariants as top
 use Rattle.trace_command.specs.declared.refusal.Refusal.{Refusal}
 use Rattle.trace_command.specs.declared.refusal.Refusal.TheVariants as refusals
-use Rattle.tracer_specification.specs.History.{row_answer, event_answer, emission_answer, added_answer, read_declaration_answer, declaration_answer, switch_answer, taken_answer, filter_answer, named_filter_answer, filter_of_all_answer, option_answer, tracing_answer, spare_answer, snapshot_answer, most_triggers, trigger_count, room_answer, asked_answer, fitting_answer, new_hist_answer, said_answer, trigger_answer, named_trigger_answer, text_of, write_answer, whole_text, read_answer, most_instances, named_answer, make_answer, remove_answer, missing_cpu, missing_event, missing, unless_refused, file_answer, instance_answer, answer_with_room, unless_full, answer, past_of, answer_to}
+use Rattle.tracer_specification.specs.History.{event_answer, emission_answer, added_answer, read_declaration_answer, declaration_answer, switch_answer, taken_answer, filter_answer, named_filter_answer, filter_of_all_answer, option_answer, tracing_answer, spare_answer, snapshot_answer, trigger_count, room_answer, asked_answer, fitting_answer, new_hist_answer, said_answer, trigger_answer, named_trigger_answer, text_of, write_answer, whole_text, read_answer, most_instances, named_answer, make_answer, remove_answer, missing_cpu, missing_event, missing, unless_refused, file_answer, instance_answer, answer_with_room, unless_full, answer, past_of, answer_to}
 use Rattle.tracer_specification.specs.Settings.{NumberedEvent, event_named, declared_events, written_flag, written_option, written_tracing, instance_names, is_there, clears_filter, can_take}
 use Rattle.tracer_specification.specs.Snapshots.{SnapshotWrite, Frees, Takes, Empties, written_snapshot}
 use Rattle.tracer_specification.specs.Triggers.{Trigger, snapshot_trigger_of, has_snapshot_trigger}
@@ -124,7 +126,7 @@ spare in_use (Some Takes) = tt
 spare in_use (Some Empties) = tt
 
 room : (attached : Option Trigger) (hists : List HistTrigger) → IsOwn (room_answer attached hists)
-room attached hists = either (nat_lt (trigger_count attached hists) most_triggers) _ _ tt tt
+room attached hists = either (nat_lt (trigger_count attached hists) 4) _ _ tt tt
 
 asked : (action : Action) → IsOwn (asked_answer action)
 asked actions.Attach = tt
@@ -195,9 +197,9 @@ shown g instance past limit file = whole limit (text_of g instance past file)
 
 -- ---- all requests
 
-rows : (r : Result Cells (List ℕ)) → IsOwn (row_answer r)
+rows : (r : Result Cells BadRow) → IsOwn (result_map_both (λ (row : Cells). replies.Done) refusals.BadRow r)
 rows (Ok row) = tt
-rows (Err name) = tt
+rows (Err bad) = tt
 
 events : (k : Option NumberedEvent) (pairs : List Pair) → IsOwn (event_answer k pairs)
 events None pairs = tt

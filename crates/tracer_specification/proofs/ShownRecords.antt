@@ -4,6 +4,7 @@ use Rattle.std.specs.List.{AllZip}
 use Rattle.std.specs.Option.{option_to_list}
 use Rattle.std.proofs.lemmas.Option.{get_or_from_slice_get, slice_get_within, none-some, same_Some}
 use Rattle.trace_record.specs.declared.head.Head.{Head}
+use Rattle.trace_format.specs.declared.bad_row.BadRow.{BadRow}
 use Rattle.trace_format.specs.declared.kind.Kind.{Kind}
 use Rattle.trace_format.specs.declared.pair.Pair.{Pair}
 use Rattle.trace_format.specs.Catalogs.{event_of}
@@ -36,7 +37,7 @@ row_of-is_row event pairs row built = by (first_wrong event.fields [] pairs) (fi
     given_row : Cells
     given_row = record { kinds = kinds_of event; values = filter_map (given pairs) event.fields }
 
-    by : (wrong missing : Option (List ℕ)) → first_missing event.fields pairs ≡ missing → row_unless wrong missing given_row ≡ Ok row → IsRowOf event row
+    by : (wrong : Option BadRow) (missing : Option (List ℕ)) → first_missing event.fields pairs ≡ missing → row_unless wrong missing given_row ≡ Ok row → IsRowOf event row
     by (Some name) missing is h = absurd (cc)
     by None (Some name) is h = absurd (cc)
     by None None is h =
@@ -116,9 +117,9 @@ pub record IsEmission (past : List Request) (request : Request) (e : Emitted) : 
 pub emission-is : (past : List Request) (request : Request) (e : Emitted) → emitted past request ≡ Some e → IsEmission past request e
 emission-is past (Emission name cpu pid pairs) e is = by_event (event_named name past) refl is
   where
-    by_row : (k : NumberedEvent) (built : Result Cells (List ℕ)) → event_named name past ≡ Some k → row_of k.event pairs ≡ built
+    by_row : (k : NumberedEvent) (built : Result Cells BadRow) → event_named name past ≡ Some k → row_of k.event pairs ≡ built
         → emitted_row (now_of past + 1) cpu pid k built ≡ Some e → IsEmission past (Emission name cpu pid pairs) e
-    by_row k (Err field) named built h = absurd (none-some e h)
+    by_row k (Err bad) named built h = absurd (none-some e h)
     by_row k (Ok row) named built h =
         let this : Emitted = record { k = k; row = row; cpu = cpu; pid = pid; timestamp = now_of past + 1 } in
         let same : this ≡ e = same_Some _ _ h in

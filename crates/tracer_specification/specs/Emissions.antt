@@ -3,6 +3,7 @@ use Rattle.std.specs.Prelude.{ℕ, ◌+◌, ℤ, Bool, true, ◌&&◌, List, len
 use Rattle.trace_record.specs.Record.{record_of}
 use Rattle.trace_filter.specs.Filters.{parsed_of}
 use Rattle.trace_filter.specs.Values.{holds_of}
+use Rattle.trace_format.specs.declared.bad_row.BadRow.{BadRow}
 use Rattle.trace_format.specs.Cells.{Cells, payload_of}
 use Rattle.trace_format.specs.Definitions.{Definition}
 use Rattle.trace_format.specs.Rows.{row_of}
@@ -32,9 +33,9 @@ pub record Emitted : Type 0 where
   pub timestamp : ℕ
 
 -- an emission of a declared event, whose pairs give a row
-abbrev pub emitted_row : ℕ → ℕ → ℤ → NumberedEvent → Result Cells (List ℕ) → Option Emitted
+abbrev pub emitted_row : ℕ → ℕ → ℤ → NumberedEvent → Result Cells BadRow → Option Emitted
 emitted_row timestamp cpu pid k (Ok row) = Some (record { k = k; row = row; cpu = cpu; pid = pid; timestamp = timestamp })
-emitted_row timestamp cpu pid k (Err name) = None
+emitted_row timestamp cpu pid k (Err bad) = None
 
 abbrev pub emitted_event : ℕ → ℕ → ℤ → List Pair → Option NumberedEvent → Option Emitted
 emitted_event timestamp cpu pid pairs None = None

@@ -1,6 +1,7 @@
 -- The answer that the requests done so far give a request, and which histories are legal. The newest request comes first.
 use Rattle.std.specs.Prelude.{ℕ, ◌+◌, ◌<◌, ◌^◌, nat_lt, Bool, not, ◌&&◌, ◌||◌, is_some, IsOk, if◌then◌else◌, List, [], ◌∷◌, length, map, reverse, All, Option, Some, None, Result, Ok, Err, ⊤}
 use Rattle.std.specs.List.{list_any}
+use Rattle.std.specs.Result.{result_map_both}
 use Rattle.trace_command.specs.Paths.{File, SyntheticEvents, OfInstance, OfCpu, OfEvent}
 use Rattle.trace_command.specs.declared.file_name.CpuFile.TheVariants as per_cpu
 use Rattle.trace_command.specs.declared.file_name.EventFile.TheVariants as per_event
@@ -42,13 +43,9 @@ use Rattle.trace_command.specs.declared.refusal.Refusal.TheVariants.{NoSuchFile,
 -- ---- emissions
 
 -- the row is read last
-abbrev pub row_answer : Result Cells (List ℕ) → Result Reply Refusal
-row_answer (Ok row) = Ok Done
-row_answer (Err name) = Err (BadRow name)
-
 abbrev pub event_answer : Option NumberedEvent → List Pair → Result Reply Refusal
 event_answer None pairs = Err NoSuchEvent
-event_answer (Some k) pairs = row_answer (row_of k.event pairs)
+event_answer (Some k) pairs = result_map_both (λ row. Done) BadRow (row_of k.event pairs)
 
 -- an emission: first its CPU, then its event, then its row
 unfoldable pub emission_answer : Config → List Request → List ℕ → ℕ → List Pair → Result Reply Refusal
@@ -58,17 +55,13 @@ emission_answer g past name cpu pairs = if nat_lt cpu g.cpus then event_answer (
 
 -- an event that is added: first its name, then its fields and the number of events, then its record's size
 abbrev pub added_answer : Result ℕ CatalogFault → Result Reply Refusal
-added_answer (Ok id) = Ok Done
-added_answer (Err fault) = Err (refusal_of_catalog fault)
+added_answer id = result_map_both (λ id. Done) refusal_of_catalog id
 
--- a definition that was read: first whether it may begin anew, and then whether it can be added
-abbrev pub new_event_answer : Config → List Request → Bool → Definition → Result Reply Refusal
-new_event_answer g past append definition =
-    if not append && nat_lt 0 (length (declared_events past)) then Err Busy else added_answer (id_for (declared_events past) definition g.page_bytes)
-
--- a declaration: first its text, which is refused at the place where it is wrong, for this cause
+-- a declaration: first its text, which is refused at the place where it is wrong, for this cause; then whether it may begin anew, and then whether it can
+-- be added
 abbrev pub read_declaration_answer : Config → List Request → Bool → DeclarationCause → Result Definition ℕ → Result Reply Refusal
-read_declaration_answer g past append cause (Ok definition) = new_event_answer g past append definition
+read_declaration_answer g past append cause (Ok definition) =
+    if not append && nat_lt 0 (length (declared_events past)) then Err Busy else added_answer (id_for (declared_events past) definition g.page_bytes)
 read_declaration_answer g past append cause (Err at) = Err (BadDefinition at cause)
 
 unfoldable pub declaration_answer : Config → List Request → Bool → List ℕ → Result Reply Refusal
@@ -80,8 +73,7 @@ switch_answer text = if is_some (written_flag text) then Ok Done else Err BadVal
 
 -- a filter that an event can take, or why it can't
 abbrev pub taken_answer : Result Parsed FilterFault → Result Reply Refusal
-taken_answer (Ok filter) = Ok Done
-taken_answer (Err fault) = Err (refusal_of_filter fault)
+taken_answer filter = result_map_both (λ filter. Done) refusal_of_filter filter
 
 -- a filter of an event: the text that clears, or one that the event can take
 unfoldable pub filter_answer : List ℕ → Definition → Result Reply Refusal
@@ -117,17 +109,13 @@ spare_answer in_use (Some Empties) = Ok Done
 unfoldable pub snapshot_answer : Option (List ℕ) → List Request → List ℕ → Result Reply Refusal
 snapshot_answer instance past text = spare_answer (has_snapshot_trigger instance past) (written_snapshot text)
 
--- how many triggers an event may have in an instance, of all kinds
-abbrev pub most_triggers : ℕ
-most_triggers = 4
-
 abbrev pub trigger_count : Option Trigger → List HistTrigger → ℕ
 trigger_count None hists = length hists
 trigger_count (Some t) hists = length hists + 1
 
--- one more trigger
+-- one more trigger: an event may have four in an instance, of all kinds
 abbrev pub room_answer : Option Trigger → List HistTrigger → Result Reply Refusal
-room_answer attached hists = if nat_lt (trigger_count attached hists) most_triggers then Ok Done else Err (TooMany limit.Triggers)
+room_answer attached hists = if nat_lt (trigger_count attached hists) 4 then Ok Done else Err (TooMany limit.Triggers)
 
 -- what is asked of a hist trigger that is attached
 abbrev pub asked_answer : Action → Result Reply Refusal

@@ -1,7 +1,8 @@
 -- Scripts of settings and refusals with the answers that the definitions give them, worked by hand (ftrace.rst, "The File System", "Instances";
 -- events.rst, "Using Event Tracing", "Event filtering"). The checker computes them.
-use Rattle.std.specs.Prelude.{ℕ, pos, List, [], ◌∷◌, ◌++◌, map, Result, Err, codes}
+use Rattle.std.specs.Prelude.{ℕ, pos, List, [], ◌∷◌, ◌++◌, map, Some, Result, Err, codes}
 use Rattle.trace_format.specs.declared.fault.DeclarationCause.TheVariants.{FieldType}
+use Rattle.trace_format.specs.declared.fault.RowCause.TheVariants.{Unknown}
 use Rattle.trace_trigger.specs.declared.fault.OperatorCause.TheVariants.{Compared}
 use Rattle.trace_command.specs.Commands.{Command}
 use Rattle.trace_command.specs.declared.command.CommandOf.TheVariants.{Emit, Mkdir, Rmdir}
@@ -191,13 +192,17 @@ emptied =
 abbrev pub emit_x : ℕ → List ℕ → Command
 emit_x cpu event = Emit event cpu (pos 7) (pair (codes "x") (codes "1") ∷ [])
 
+-- why `tick` has no row of it
+abbrev pub no_x : Refusal
+no_x = BadRow (record { field = codes "x"; cause = Unknown; pair = Some 0 })
+
 -- the first refusal is told: of the CPU, the event, the row; of the instance, the file, the CPU or the event, what the file allows; of what a
 -- declaration says, `>`, its name, its size
 abbrev pub refused_in_order : List Turn
 refused_in_order =
     with_tick (emit_x 9 (codes "none") gives Err NoSuchCpu
     ∷ emit_x 0 (codes "none") gives Err NoSuchEvent
-    ∷ emit_x 0 (codes "tick") gives Err (BadRow (codes "x"))
+    ∷ emit_x 0 (codes "tick") gives Err no_x
     ∷ cat (in_instance (codes "none")) gives Err NoSuchInstance
     ∷ echo (codes "1") (in_instance (codes "none")) gives Err NoSuchInstance
     ∷ cat (codes "none") gives Err NoSuchFile
@@ -248,7 +253,7 @@ abbrev pub full_history : List Turn
 full_history =
     with_tick (tick 0 (codes "1") gives Err HistoryFull
     ∷ cat (codes "tracing_on") gives Err HistoryFull
-    ∷ emit_x 0 (codes "tick") gives Err (BadRow (codes "x"))
+    ∷ emit_x 0 (codes "tick") gives Err no_x
     ∷ cat (codes "none") gives Err NoSuchFile
     ∷ Mkdir (codes "instances/a") gives Err HistoryFull
     ∷ [])

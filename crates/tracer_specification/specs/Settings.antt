@@ -101,13 +101,9 @@ event_named_in events name = option_and_then (numbered_event events) (id_of even
 abbrev pub event_named : List ℕ → List Request → Option NumberedEvent
 event_named name past = event_named_in (declared_events past) name
 
--- 0 is off, 1 is on, another number is neither
-abbrev pub flag_of : ℕ → Option Bool
-flag_of n = if n == 0 then Some false else (if n == 1 then Some true else None)
-
--- the switch that is written to a file
+-- the switch that is written to a file: 0 is off, 1 is on, another number is neither
 unfoldable pub written_flag : List ℕ → Option Bool
-written_flag text = option_and_then flag_of (written_number text)
+written_flag text = option_and_then (λ n. if n == 0 then Some false else (if n == 1 then Some true else None)) (written_number text)
 
 -- how a write after this past switches an event: one to its own switch or, where it is declared by then, to that of all events
 abbrev pub switches : List ℕ → List Request → File → List ℕ → Option Bool

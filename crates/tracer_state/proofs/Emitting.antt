@@ -6,6 +6,8 @@ use Rattle.std.specs.Option.{option_map}
 use Rattle.std.proofs.lemmas.List.{get_or-map}
 use Rattle.std.proofs.lemmas.Bool.{false≢true, lt-ltb}
 use Rattle.trace_filter.specs.Filters.{Parsed, parsed_of}
+use Rattle.std.specs.Result.{result_map_both}
+use Rattle.trace_format.specs.declared.bad_row.BadRow.{BadRow}
 use Rattle.trace_format.specs.Cells.{Cells, record_size_of}
 use Rattle.trace_format.specs.Definitions.{Definition}
 use Rattle.trace_format.specs.Rows.{row_of}
@@ -14,11 +16,12 @@ use Rattle.trace_command.specs.Refusals.{IsFoundEarly}
 use Rattle.trace_command.specs.Requests.{Request, Emission}
 use Rattle.trace_command.specs.declared.command.Config.{Config}
 use Rattle.trace_command.specs.declared.command.Reply.TheVariants as reply
+use Rattle.trace_command.specs.declared.refusal.Refusal.TheVariants as refusal
 use Rattle.tracer_specification.specs.Declarations.{IsFit, IsIndexOf}
 use Rattle.tracer_specification.specs.Settings.{NumberedEvent, declared_events, event_named, event_named_in, filter_of, is_enabled, kept_filter, now_of}
 use Rattle.tracer_specification.specs.Emissions.{Emitted, filter_holds, is_recorded}
 use Rattle.tracer_specification.specs.HistTriggers.{counted_row}
-use Rattle.tracer_specification.specs.History.{emission_answer, row_answer}
+use Rattle.tracer_specification.specs.History.{emission_answer}
 use Rattle.tracer_specification.specs.Snapshots.{is_exchanged_by}
 use Rattle.tracer_specification.specs.Triggers as triggers
 use Rattle.tracer_specification.specs.Triggers.{acts, is_left, passes, times_left, snapshot_trigger_of}
@@ -107,9 +110,9 @@ pub found-late : (g : Config) (past : List Request) (name : List ℕ) (cpu : ℕ
 unfolding emission_answer
 found-late g past name cpu pairs k inside there early = by (row_of k.event pairs) (rw (lt-ltb cpu g.cpus inside, there) at early)
   where
-    by : (row : Result Cells (List ℕ)) → IsFoundEarly (row_answer row) → ⊥
+    by : (row : Result Cells BadRow) → IsFoundEarly (result_map_both (λ (row : Cells). reply.Done) refusal.BadRow row) → ⊥
     by (Ok row) late = late
-    by (Err field) late = false≢true late
+    by (Err bad) late = false≢true late
 
 -- where an instance records it, some instance does
 recorded-at : (instances : List Named) (reaches : List Reach) (recorded : Bool) (k : ℕ)

@@ -10,6 +10,7 @@ use Rattle.trace_format.specs.Catalogs.{AreEvents, event_of, id_of}
 use Rattle.trace_format.specs.Definitions.{Definition}
 use Rattle.trace_format.specs.Rows.{IsBuilt, row_of}
 use Rattle.trace_format.specs.Values.{pairs_given}
+use Rattle.trace_format.specs.declared.bad_row.BadRow.{BadRow as WrongRow}
 use Rattle.trace_format.specs.declared.fault.RowFault.{RowFault}
 use Rattle.trace_format.specs.declared.fault.RowFault.TheVariants as fault
 use Rattle.trace_format.specs.declared.field_value.FieldValue.{FieldValue}
@@ -99,10 +100,10 @@ no-event g state past number cpu pid values stands none inside =
     rw (← stands.events, ← none, lt-ltb cpu g.cpus inside, no-unnamed past stands.distinct) refl
 
 -- then its row
-bad-row : (g : Config) (past : List Request) (name : List ℕ) (cpu : ℕ) (pairs : List Pair) (k : NumberedEvent) (field : List ℕ) → cpu < g.cpus
-    → event_named name past ≡ Some k → row_of k.event pairs ≡ Err field → emission_answer g past name cpu pairs ≡ Err (BadRow field)
+bad-row : (g : Config) (past : List Request) (name : List ℕ) (cpu : ℕ) (pairs : List Pair) (k : NumberedEvent) (bad : WrongRow) → cpu < g.cpus
+    → event_named name past ≡ Some k → row_of k.event pairs ≡ Err bad → emission_answer g past name cpu pairs ≡ Err (BadRow bad)
 unfolding emission_answer
-bad-row g past name cpu pairs k field inside there built = rw (lt-ltb cpu g.cpus inside, there, built) refl
+bad-row g past name cpu pairs k bad inside there built = rw (lt-ltb cpu g.cpus inside, there, built) refl
 
 -- and then memory may be refused
 pub no-memory : (g : Config) (past : List Request) (name : List ℕ) (cpu : ℕ) (pairs : List Pair) (k : NumberedEvent) → cpu < g.cpus
@@ -113,8 +114,8 @@ no-memory g past name cpu pairs k inside there =
 pub no-row : (g : Config) (past : List Request) (name : List ℕ) (cpu : ℕ) (pairs : List Pair) (k : NumberedEvent) (refused : RowFault) → cpu < g.cpus
     → event_named name past ≡ Some k → IsBuilt (Err refused) (row_of k.event pairs)
     → IsRefusal (refusal_of_row refused) (emission_answer g past name cpu pairs)
-no-row g past name cpu pairs k (fault.BadRow field cause) inside there built =
-    let is : emission_answer g past name cpu pairs ≡ Err (BadRow field) = bad-row g past name cpu pairs k field inside there built in
+no-row g past name cpu pairs k (fault.BadRow bad) inside there built =
+    let is : emission_answer g past name cpu pairs ≡ Err (BadRow bad) = bad-row g past name cpu pairs k bad inside there built in
     (λ other. is, λ early. is)
 no-row g past name cpu pairs k fault.Memory inside there built = no-memory g past name cpu pairs k inside there
 

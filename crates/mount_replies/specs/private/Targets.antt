@@ -52,7 +52,7 @@ abbrev pub NotesInjection : Owner → File → ℕ → MountSeen → MountSeen �
 NotesInjection owner file index old new stop told =
     IsToldFor stop.fault told
     × ((past : List Request) (event : Definition) → HasLedTo past old → slice_get (declared_events past) index ≡ Some event
-    → new ≡ record old { errors = errors_after (noted_line event (begun owner (now_of past) (path_of old.scene (nodes.File owner file))) stop.line.now told) old.errors })
+    → new ≡ record old { errors = errors_after (noted_line (begun owner (now_of past) (path_of old.scene (nodes.File owner file))) stop.line.now told) old.errors })
 
 abbrev pub IsRefusedFor : Option Stop → Option LineRefused → Type 0
 IsRefusedFor None refused = refused ≡ None
@@ -70,7 +70,7 @@ EndsStream old new target index after size progress reply =
     (past : List Request) (event : Definition) → HasLedTo past old → slice_get (declared_events past) index ≡ Some event
     → (refused : Option LineRefused) × IsRefusedFor progress.stop refused
     × Ends old new (injected target.handle after size old.files progress.done refused)
-    (noted_if_first (noted_line event (begun target.owner (now_of past) (path_of old.scene (nodes.File target.owner target.file)))) progress.done refused) old.errors reply
+    (noted_if_first (noted_line (begun target.owner (now_of past) (path_of old.scene (nodes.File target.owner target.file)))) progress.done refused) old.errors reply
 
 -- what ending a line comes to: the line was done, or not, which is noted
 pub record EndsLineAs (past : List Request) (old new : MountSeen) (file : OpenSeen) (event : Definition) (asking : List ℕ → Asking) (line : List ℕ) (refused : Option LineRefused) : Type 0 where
@@ -82,7 +82,7 @@ pub record EndsLineAs (past : List Request) (old new : MountSeen) (file : OpenSe
   pub counted : new.counted ≡ old.counted
   pub done : ℕ
   pub runs : IsRun (terms_of old) past 0 (line_at_once asking line) (record { past = after; done = done; refused = refused })
-  pub errors : new.errors ≡ errors_after (noted_if_first (noted_line event (begun_now (terms_of old) (service_of after old) file)) done refused) old.errors
+  pub errors : new.errors ≡ errors_after (noted_if_first (noted_line (begun_now (terms_of old) (service_of after old) file)) done refused) old.errors
 
 abbrev pub refused_by : List ℕ → Result (Unit {0}) LineFault → Option LineRefused
 refused_by line (Ok done) = None

@@ -18,10 +18,6 @@ use Rattle.trace_script.specs.declared.token.Token.TheVariants.{Word}
 abbrev pub tokens_in : EmissionWords → List Token → List Token
 tokens_in words pairs = Word words.cpu.now ∷ Word words.pid.now ∷ Word words.event.now ∷ pairs
 
--- what a line asks for in which these tokens follow `emit`
-abbrev pub asked_by_emission : List Token → Result Line ScriptFault
-asked_by_emission tokens = emission_of tokens >>= λ command. Ok (Ask command)
-
 -- the pairs that a string writes, if each of its words is one
 abbrev pub pairs_in : List ℕ → Option (List Pair)
 pairs_in text = option_and_then pairs_of (tokens_of text)

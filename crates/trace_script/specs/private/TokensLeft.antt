@@ -10,17 +10,10 @@ use Rattle.trace_script.specs.declared.line.Line.{Line}
 use Rattle.trace_script.specs.Tokens.{tokens_of}
 use Rattle.trace_script.specs.declared.token.Token.{Token}
 use Rattle.trace_script.specs.declared.token.Token.TheVariants as token
-use Rattle.trace_script.specs.declared.tokens.BorrowedToken.{BorrowedToken}
-use Rattle.trace_script.specs.declared.tokens.BorrowedToken.TheVariants.{Word, Redirect}
 
 -- the tokens of what is left of a line
 abbrev pub tokens_left : List ℕ → List Token
 tokens_left rest = unwrap_or (tokens_of rest) []
-
--- a token that is shown by its bytes
-abbrev pub token_of : BorrowedToken → Token
-token_of (Word word) = token.Word word.now
-token_of (Redirect append) = token.Redirect append
 
 -- whether tokens begin with a word
 abbrev pub begins_with_word : List Token → Bool

@@ -2,10 +2,7 @@ use Rattle.mount_replies.proofs.LineLemmas.{asked, faulty}
 use Rattle.mount_replies.proofs.injection.pairs_of_line.Goals as goal
 
 pub returns-in-Ok : goal.returns-in-Ok
-returns-in-Ok c =
-    rw c.pairs_asked.ensures
-    (asked c.args.line.now c.in_ok-text.text.items c.in-Ok.line c.in_ok-text.ensures (rw c.deref.ensures.value at c.in-Ok.ensures))
+returns-in-Ok c = λ line is. rw c.pairs_asked.ensures (asked line c.args.text.now c.in-Ok.line is c.in-Ok.ensures)
 
 pub returns-in-Err-Fault : goal.returns-in-Err-Fault
-returns-in-Err-Fault c =
-    faulty c.args.line.now c.in_ok-text.text.items _ c.in_ok-text.ensures (rw (c.in-Err-Fault.field-0-is, c.deref.ensures.value) at c.in-Err-Fault.ensures)
+returns-in-Err-Fault c = λ line is. faulty line c.args.text.now _ is (rw c.in-Err-Fault.field-0-is at c.in-Err-Fault.ensures)

@@ -1,5 +1,6 @@
 use Rattle.std.proofs.Common.{rules, ◌≡◌, List, Some, Result, Ok, ℕ, map, sym, ap, ◌∙◌, subst}
 use Rattle.std.specs.List.{AllZip}
+use Rattle.trace_format.specs.declared.bad_row.BadRow.{BadRow}
 use Rattle.trace_format.specs.declared.kind.Kind.{Kind}
 use Rattle.trace_format.specs.declared.event.Field.{Field}
 use Rattle.trace_format.specs.declared.pair.Pair.{Pair}
@@ -38,5 +39,5 @@ returns-then-branch-clause-exact c =
     row_in_order definition c.fields-fields.ensures.definition c.args.pairs.now values found.in_order
     ∙ ap (λ (ks : List Kind). built (record { kinds = ks; values = values })) (sym found.kinds_are)
   where
-    built : Cells → Result Cells (List ℕ)
+    built : Cells → Result Cells BadRow
     built row = Ok row

@@ -1,5 +1,6 @@
 use Rattle.std.proofs.Common.{rules, ◌≡◌, List, Some, Result, Ok, ℕ, map, sym, ap, ◌∙◌, subst}
 use Rattle.std.specs.List.{AllZip}
+use Rattle.trace_format.specs.declared.bad_row.BadRow.{BadRow}
 use Rattle.trace_format.specs.declared.kind.Kind.{Kind}
 use Rattle.trace_format.specs.declared.event.Field.{Field}
 use Rattle.trace_format.specs.declared.field_value.FieldValue.{FieldValue}
@@ -40,5 +41,5 @@ returns-then-branch-clause-exact c =
     row_in_order definition c.fields-fields.ensures.definition (pairs_given definition.fields c.args.given.now) values found.in_order
     ∙ ap (λ (ks : List Kind). built (record { kinds = ks; values = values })) (sym found.kinds_are)
   where
-    built : Cells → Result Cells (List ℕ)
+    built : Cells → Result Cells BadRow
     built row = Ok row

@@ -6,7 +6,7 @@ use Rattle.library_tracer.proofs.console.Console.line.Goals.{in-Ok-Ask, in-Ok-Bl
 pub returns-clause-done : goal.returns-clause-done
 returns-clause-done c =
     elim c.match-prepare.branch [
-      | in-Ok-Ask w ↦ rw w.self-is (asking_line _ _ _ _ (rw w.in-Ok-Ask.field-0-is at w.in-Ok-Ask.ensures) w.ask_owned.ensures)
+      | in-Ok-Ask w ↦ rw w.self-is (asking_line _ _ _ _ (rw w.in-Ok-Ask.field-0-is at w.in-Ok-Ask.ensures) w.ask.ensures.done)
       | in-Ok-Blank w ↦ rw w.self-is (blank_line _ _ _ (rw w.in-Ok-Blank.field-0-is at w.in-Ok-Blank.ensures) w.tell.ensures)
       | in-Ok-Parallel w ↦
           (let of_part : IsOfPart w.in-Ok-Parallel.field-0 = search rules in

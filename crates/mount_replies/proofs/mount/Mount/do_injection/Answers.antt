@@ -1,11 +1,9 @@
-use Rattle.std.proofs.Common.{◌≡◌, ◌<◌, ◌^◌, ◌%◌, sym, ap, subst, ◌∙◌, arith, w32}
-use Rattle.std.proofs.lemmas.Int.{to_z_pos}
-use Rattle.trace_command.specs.Requests.{request_of}
-use Rattle.trace_command.specs.declared.command.Config.{Config}
+use Rattle.std.proofs.Common.{◌≡◌, List, Option, Some, sym, ap, ◌∙◌}
+use Rattle.trace_format.specs.declared.pair.Pair.{Pair}
 use Rattle.mount_replies.specs.Injections.{pairs_of_line}
-use Rattle.mount_replies.specs.Lines.{asked_by_line}
-use Rattle.mount_replies.specs.Mounted.{HasLedTo, MountSeen}
-use Rattle.mount_replies.proofs.StreamLemmas.{blank-asks, blank-done, event-asks, event-done, event-refused, memory-line, no-event-asks, other-asks, same-event, wrong-line}
+use Rattle.mount_replies.specs.Lines.{asked_by_line, asked_by_pairs}
+use Rattle.mount_replies.proofs.LineLemmas.{plain-asked}
+use Rattle.mount_replies.proofs.StreamLemmas.{asks-same, blank-asks, blank-done, memory-line, other-asks}
 use Rattle.mount_replies.proofs.mount.Mount.do_injection.Goals as goal
 
 pub returns-then-is_blank : goal.returns-then-is_blank
@@ -13,47 +11,18 @@ returns-then-is_blank c = λ past own mounted is.
     blank-done past c.args.self.now (asked_by_line c.args.self.now.live.config.cpus c.args.pid own c.args.line.now) mounted
     (blank-asks c.args.self.now.live.config.cpus c.args.pid own c.args.line.now (sym c.is_blank.ensures ∙ c.if-is_blank.true))
 
-pub returns-in-Ok : goal.returns-in-Ok
-returns-in-Ok c =
-    let there = rw c.from.ensures at c.in-Some.ensures in
-    let low : c.args.pid % 2 ^ 31 < 2 ^ 31 = omega arith in
-    let asked = rw c.in-Ok-Some.field-0-is at (c.in-Ok-Some.ensures.asked (c.args.pid % 2 ^ 31) (to_z_pos w32 (c.args.pid % 2 ^ 31) low)) in
-    let quiet = rw c.in-Ok-Some.field-0-is at c.in-Ok-Some.ensures.quiet in
-    let cpus_are : c.config.result.now.cpus ≡ c.args.self.now.live.config.cpus =
-    ap (λ (g : Config). g.cpus) c.config.ensures ∙ ap (λ (m : MountSeen). m.live.config.cpus) c.self.view_is in
+pub returns-in-Ok-true : goal.returns-in-Ok-true
+returns-in-Ok-true c =
+    let cpus = c.args.self.now.live.config.cpus in
+    let plain : pairs_of_line c.args.line.now ≡ Some c.as_slice.result.now =
+    plain-asked c.args.line.now c.plain_pairs.new.pairs.items (c.in-Ok-true.ensures c.in-Ok-true.field-0-test)
+    ∙ ap (λ (pairs : List Pair). Some pairs) (sym c.as_slice.ensures.value) in
     λ past own mounted is.
-    let led = subst (λ (m : MountSeen). HasLedTo past m) (sym c.self.view_is) mounted in
-    event-done past c.args.self.now c.ask_emission.new.self (request_of c.in-Ok-Some.command)
-    (asked_by_line c.args.self.now.live.config.cpus c.args.pid own c.args.line.now) c.in-Ok.field-0 (c.in-Ok.ensures past mounted) quiet
-    (event-asks c.config.result.now.cpus c.args.self.now.live.config.cpus c.args.pid c.in-Some.own.now own c.args.line.now (request_of c.in-Ok-Some.command)
-    (sym c.is_blank.ensures ∙ c.if-is_blank.false) cpus_are (same-event c.in-Some.own.now own _ (there past led.lives) is) asked)
-
-pub returns-in-Ok-Some : goal.returns-in-Ok-Some
-returns-in-Ok-Some c =
-    let there = rw c.from.ensures at c.in-Some.ensures in
-    let low : c.args.pid % 2 ^ 31 < 2 ^ 31 = omega arith in
-    let asked = rw c.in-Ok-Some.field-0-is at (c.in-Ok-Some.ensures.asked (c.args.pid % 2 ^ 31) (to_z_pos w32 (c.args.pid % 2 ^ 31) low)) in
-    let cpus_are : c.config.result.now.cpus ≡ c.args.self.now.live.config.cpus =
-    ap (λ (g : Config). g.cpus) c.config.ensures ∙ ap (λ (m : MountSeen). m.live.config.cpus) c.self.view_is in
-    λ past own mounted is.
-    let led = subst (λ (m : MountSeen). HasLedTo past m) (sym c.self.view_is) mounted in
-    event-refused past c.args.self.now c.ask_emission.new.self (request_of c.in-Ok-Some.command)
-    (asked_by_line c.args.self.now.live.config.cpus c.args.pid own c.args.line.now) c.in-Err-ask_emission.refusal (c.in-Err-ask_emission.ensures past mounted)
-    (event-asks c.config.result.now.cpus c.args.self.now.live.config.cpus c.args.pid c.in-Some.own.now own c.args.line.now (request_of c.in-Ok-Some.command)
-    (sym c.is_blank.ensures ∙ c.if-is_blank.false) cpus_are (same-event c.in-Some.own.now own _ (there past led.lives) is) asked)
-
-pub returns-in-Ok-None : goal.returns-in-Ok-None
-returns-in-Ok-None c =
-    let there = rw c.from.ensures at c.in-Some.ensures in
-    let low : c.args.pid % 2 ^ 31 < 2 ^ 31 = omega arith in
-    let asked = rw c.in-Ok-None.field-0-is at (c.in-Ok-None.ensures.asked (c.args.pid % 2 ^ 31) (to_z_pos w32 (c.args.pid % 2 ^ 31) low)) in
-    let cpus_are : c.config.result.now.cpus ≡ c.args.self.now.live.config.cpus =
-    ap (λ (g : Config). g.cpus) c.config.ensures ∙ ap (λ (m : MountSeen). m.live.config.cpus) c.self.view_is in
-    λ past own mounted is.
-    let led = subst (λ (m : MountSeen). HasLedTo past m) (sym c.self.view_is) mounted in
-    wrong-line past c.args.self.now (asked_by_line c.args.self.now.live.config.cpus c.args.pid own c.args.line.now) mounted
-    (no-event-asks c.config.result.now.cpus c.args.self.now.live.config.cpus c.args.pid c.in-Some.own.now own c.args.line.now
-    (sym c.is_blank.ensures ∙ c.if-is_blank.false) cpus_are (same-event c.in-Some.own.now own _ (there past led.lives) is) asked)
+    asks-same past c.args.self.now c.do_pairs.new.self (asked_by_pairs cpus c.args.pid own (Some c.as_slice.result.now))
+    (asked_by_line cpus c.args.pid own c.args.line.now) c.do_pairs.result
+    (other-asks cpus c.args.pid own c.args.line.now (sym c.is_blank.ensures ∙ c.if-is_blank.false)
+    ∙ ap (λ (pairs : Option (List Pair)). asked_by_pairs cpus c.args.pid own pairs) plain)
+    (c.do_pairs.ensures past own mounted is)
 
 pub returns : goal.returns
 returns c = λ past own mounted is.

@@ -1,12 +1,11 @@
 use Rattle.std.proofs.Common.{ℕ, List, ap, ◌∙◌}
-use Rattle.refusal_explanations.specs.Explanations.{IsExplained}
 use Rattle.refusal_explanations.specs.Layout.{shown}
 use Rattle.refusal_explanations.proofs.explainer.Explainer.told_of_command.Goals as goal
 
 pub returns : goal.returns
 returns c =
-    let words : List ℕ = c.deref-4.result.now in
-    let meant : List ℕ = c.deref-5.result.now in
+    let words : List ℕ = c.deref-2.result.now in
+    let meant : List ℕ = c.deref-3.result.now in
     record {
       caret = c.in_ok-caret.caret;
       under = c.in_ok-caret.ensures;

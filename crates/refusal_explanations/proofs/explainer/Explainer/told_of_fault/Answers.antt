@@ -1,5 +1,4 @@
 use Rattle.std.proofs.Common.{ℕ, List, ap, ◌∙◌}
-use Rattle.refusal_explanations.specs.Explanations.{IsExplained}
 use Rattle.refusal_explanations.specs.Layout.{shown}
 use Rattle.refusal_explanations.proofs.explainer.Explainer.told_of_fault.Goals as goal
 

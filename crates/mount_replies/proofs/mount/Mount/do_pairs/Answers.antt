@@ -1,0 +1,14 @@
+use Rattle.std.proofs.Common.{Some, refl}
+use Rattle.mount_replies.specs.Lines.{asked_by_pairs}
+use Rattle.mount_replies.proofs.StreamLemmas.{memory-line}
+use Rattle.mount_replies.proofs.mount.Mount.do_pairs.Goals as goal
+
+pub returns-in_default-2 : goal.returns-in_default-2
+returns-in_default-2 c = λ past own mounted is.
+    memory-line past c.args.self.now c.args.self.now.live.config.cpus c.args.pid own (Some c.args.pairs.now)
+    (asked_by_pairs c.args.self.now.live.config.cpus c.args.pid own (Some c.args.pairs.now)) mounted refl
+
+pub returns : goal.returns
+returns c = λ past own mounted is.
+    memory-line past c.args.self.now c.args.self.now.live.config.cpus c.args.pid own (Some c.args.pairs.now)
+    (asked_by_pairs c.args.self.now.live.config.cpus c.args.pid own (Some c.args.pairs.now)) mounted refl
