@@ -20,6 +20,7 @@
 
 #include <stddef.h>
 #include <stdint.h>
+#include <time.h>
 
 #ifdef __cplusplus
 extern "C" {
@@ -137,6 +138,19 @@ uint64_t tracectl_entries(tracectl *handle);
  * 0 if none does; below 0 is what tracectl_take of this path would be refused with, as -1 for N1 NoSuchFile, or -TRACECTL_NOT_OPEN. It takes no
  * memory and is no command: nothing changes, the reply neither. */
 int32_t tracectl_waiting(tracectl *handle, const char *path, size_t path_length);
+
+/* ---- Time. ---- */
+
+/* The time in nanoseconds, since some moment that stays the same while the machine runs. A tracer's own clock counts emissions: it orders them, and
+ * tells no durations. So who wants those declares a field for them, as `u64 at`, and emits this number (examples/c/durations.c). It is here where
+ * time.h has POSIX's clock_gettime: with gcc's and clang's own dialect (-std=gnu11), or where _POSIX_C_SOURCE is 199309L or more. */
+#ifdef CLOCK_MONOTONIC
+static inline uint64_t tracectl_now(void) {
+    struct timespec now;
+    clock_gettime(CLOCK_MONOTONIC, &now);
+    return (uint64_t)now.tv_sec * 1000000000u + (uint64_t)now.tv_nsec;
+}
+#endif
 
 #ifdef __cplusplus
 }

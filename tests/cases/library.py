@@ -90,6 +90,29 @@ def called(program, tracer_of, script, does_another_way=lambda tracer, line: Fal
     return text_differences("replies", replies, wanted(script).stdout) + text_differences("replies and the list", replies + files, listed)
 
 
+def without_times(histograms):
+    """A text of histograms without what clocks decide: one row in place of those of each, with the sum of their hits, and no number of entries."""
+    lines = []
+    for line in histograms.splitlines():
+        row = re.fullmatch(rb"\{ (\w+): .* \} hitcount: +(\d+)", line)
+        if row:
+            before = lines.pop()[1] if lines and isinstance(lines[-1], tuple) else 0
+            lines.append((row[1], before + int(row[2])))
+        else:
+            lines.append(re.sub(rb"Entries: \d+", b"Entries", line))
+    return b"".join(b"%s: %d\n" % line if isinstance(line, tuple) else line + b"\n" for line in lines)
+
+
+def timed_case(name, command, stdout):
+    """That a program prints what a file has, but for what clocks decide."""
+
+    def found(_):
+        got = run(command)
+        return differences(got._replace(stdout=without_times(got.stdout)), Outcome(0, without_times(stdout.read_bytes()), b""))
+
+    return Case(name, found)
+
+
 def example_case(name, command, folder, stdout):
     settings = ["env", "PYTHONDONTWRITEBYTECODE=1", "TRACECTL_LIBRARY=%s" % (folder / "libtracectl.so")]
     return Case(name, lambda _: differences(run(settings + command), Outcome(0, stdout.read_bytes(), b"")))
@@ -116,6 +139,7 @@ def library_cases():
     scripts = [script for script in scripts_of(TOP / "tests" / "rows") if is_plain(script)]
     return [
         example_case("examples/c/million.c", [folder / "million"], folder, TOP / "examples" / "c" / "million.stdout"),
+        timed_case("examples/c/durations.c", [folder / "durations"], TOP / "examples" / "c" / "durations.stdout"),
         example_case("tests/library_cases/memory.c", [folder / "memory"], folder, CASES / "memory.stdout"),
         example_case("tests/library_cases/limits.c", [folder / "limits"], folder, CASES / "limits.stdout"),
         example_case("tests/library_cases/values.c", [folder / "values"], folder, CASES / "values.stdout"),
