@@ -20,7 +20,11 @@ pub mod Looks
 pub mod AlikePasts
 pub mod LookedTables
 pub mod LaterReads
+pub mod IdleEmissions
+pub mod IdleAnswers
+pub mod IdleEvents
 pub mod SmallPasts
+pub mod IdleExamples
 pub mod LegalPasts
 pub mod DistinctRows
 pub mod GroupedSums

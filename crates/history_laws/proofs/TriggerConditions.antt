@@ -42,7 +42,7 @@ meets-as-read tree event (Some condition) (Some filter) defined read e row =
 
 -- ---- rows
 
-named-itself : (name : List ℕ) (past : List Request) (k : NumberedEvent) → event_named name past ≡ Some k → name ≡ k.event.name
+pub named-itself : (name : List ℕ) (past : List Request) (k : NumberedEvent) → event_named name past ≡ Some k → name ≡ k.event.name
 named-itself name past k there =
     let numbered = named-is_numbered (declared_events past) name k there in
     let index = index_of_id (declared_events past) name k.id k.event numbered.named numbered.there in

@@ -6,7 +6,9 @@ pub mod CpuSums
 pub mod OneOrder
 pub mod TriggerTrees
 pub mod Looks
+pub mod IdleEvents
 pub mod SmallPasts
+pub mod IdleExamples
 pub mod LegalPasts
 pub mod GroupedRows
 pub mod HistogramRows
