@@ -1,8 +1,10 @@
 -- Calls and their entries, as calls are made, cut and put together.
-use Rattle.std.proofs.Common.{◌≡◌, ◌≢◌, ℕ, ◌≤◌, ◌<◌, inl, inr, Bool, true, false, ◌==◌, nat_le, nat_lt, List, [], ◌∷◌, ◌++◌, filter, All, Result, Ok, Err, refl, sym, ap, ◌∙◌, subst, append_assoc, append-nil, arith}
+use Rattle.std.proofs.Common.{◌≡◌, ◌≢◌, ℕ, zero, suc, ◌≤◌, ◌<◌, inl, inr, Bool, true, false, ◌==◌, nat_le, nat_lt, List, [], ◌∷◌, ◌++◌, filter, All, AllPairs, Result, Ok, Err, refl, sym, ap, ◌∙◌, subst, append_assoc, append-nil, arith}
 use Rattle.std.proofs.lemmas.Bool.{cases_lt}
 use Rattle.std.proofs.lemmas.Bool.Decides.{nat_tests}
 use Rattle.std.proofs.lemmas.List.Elements.{filter-append, All-append, All-filter, All-head, All-tail, All-nil, All-push, All-weaker}
+use Rattle.std.proofs.lemmas.List.Kept.{AllPairs-cons, AllPairs-filter}
+use Rattle.std.proofs.lemmas.List.Quantifiers.{all_pairs_push}
 use Rattle.ticket_lock.specs.Entries.{is_under, entries_under, Continues}
 use Rattle.shared_book.specs.Asks.{caller_of}
 use Rattle.trace_command.specs.Refusals.{IsAnswer}
@@ -11,7 +13,7 @@ use Rattle.trace_command.specs.declared.command.Entry.{Entry}
 use Rattle.trace_command.specs.declared.command.Reply.{Reply}
 use Rattle.trace_command.specs.declared.refusal.Refusal.{Refusal}
 use Rattle.tracer_specification.specs.History.{answer_to}
-use Rattle.shared_tracer.specs.CallLogs.{entries_if_done, entries_of_call, entries_of_calls, entries_by, calls_below, calls_from, IsPlaced, AreAllCalls}
+use Rattle.shared_tracer.specs.CallLogs.{entries_if_done, entries_of_call, entries_of_calls, entries_by, calls_below, calls_from, IsPlaced, IsSeenBy, AreAllCalls}
 use Rattle.shared_tracer.specs.declared.call.Call.{Call}
 
 -- ---- entries
@@ -108,6 +110,18 @@ placed-grows g history rest call is = record {
 all_placed-grow : (g : Config) (history rest : List Entry) (calls : List Call) → All (IsPlaced g history) calls → All (IsPlaced g (history ++ rest)) calls
 all_placed-grow g history rest calls placed = All-weaker (IsPlaced g history) (IsPlaced g (history ++ rest)) (λ call. placed-grows g history rest call) calls placed
 
+-- two lists in order are in order together where no call is under a number of both
+in_order-append : (xs ys : List Call) → AllPairs IsSeenBy xs → AllPairs IsSeenBy ys → All (λ (x : Call). All (λ (y : Call). x.by ≢ y.by) ys) xs
+    → AllPairs IsSeenBy (xs ++ ys)
+in_order-append [] ys first second others = second
+in_order-append (x ∷ xs) ys first second others =
+    let P : Call → Type 0 = λ (c : Call). All (λ (y : Call). c.by ≢ y.by) ys in
+    let unlike : All (λ (y : Call). x.by ≢ y.by) ys = All-head P x xs others in
+    let apart : All (IsSeenBy x) ys = All-weaker (λ (y : Call). x.by ≢ y.by) (IsSeenBy x) (λ y other same. absurd (other same)) ys unlike in
+    AllPairs-cons IsSeenBy x (xs ++ ys)
+    (All-append (IsSeenBy x) xs ys (λ k d within. first zero (suc k) d (omega arith) (omega arith)) apart)
+    (in_order-append xs ys (λ i j d before within. first (suc i) (suc j) d (omega arith) (omega arith)) second (All-tail P x xs others))
+
 -- one call more
 pub all-made : (g : Config) (low end : ℕ) (seen : List Entry) (calls : List Call) (call : Call) → AreAllCalls g low end seen calls
     → Continues caller_of low end seen call.found → call.seen ≡ seen → low ≤ call.by → call.by < end
@@ -126,6 +140,8 @@ all-made g low end seen calls call all (others, is, none) known above below answ
             place = sym (append-nil (call.found ++ left));
             answer = answer;
           };
+      in_order = all_pairs_push IsSeenBy calls call all.in_order
+          (λ k d within same. let placed = all.placed k d within in (placed.later, known ∙ placed.place));
       once = λ by from to.
           let old : entries_by by seen ≡ entries_by by (entries_of_calls calls) = all.once by from to in
           let idle : entries_by by others ≡ [] = none_by low end by others none from to in
@@ -143,6 +159,7 @@ pub all-below : (g : Config) (low middle end : ℕ) (seen : List Entry) (calls :
     → AreAllCalls g low middle seen (calls_below middle calls)
 all-below g low middle end seen calls order all = record {
   placed = All-filter (λ (c : Call). nat_lt c.by middle) (IsPlaced g seen) calls all.placed;
+  in_order = AllPairs-filter IsSeenBy (λ (c : Call). nat_lt c.by middle) calls all.in_order;
   once = λ by from to.
       all.once by from (omega (arith, to, order))
       ∙ sym (of_kept_calls (λ (c : Call). nat_lt c.by middle) by calls (λ c no same. absurd (let h = rw same at no in grind (arith, nat_tests))));
@@ -157,6 +174,7 @@ pub all-from : (g : Config) (low middle end : ℕ) (seen : List Entry) (calls : 
     → AreAllCalls g middle end seen (calls_from middle calls)
 all-from g low middle end seen calls order all = record {
   placed = All-filter (λ (c : Call). nat_le middle c.by) (IsPlaced g seen) calls all.placed;
+  in_order = AllPairs-filter IsSeenBy (λ (c : Call). nat_le middle c.by) calls all.in_order;
   once = λ by from to.
       all.once by (omega (arith, from, order)) to
       ∙ sym (of_kept_calls (λ (c : Call). nat_le middle c.by) by calls (λ c no same. absurd (let h = rw same at no in grind (arith, nat_tests))));
@@ -196,6 +214,11 @@ all-met g low middle end one other history calls more up down first second on_fi
   placed = All-append (IsPlaced g history) calls more
       (subst (λ (es : List Entry). All (IsPlaced g es) calls) (sym on_first.1) (all_placed-grow g one on_first.0 calls first.placed))
       (subst (λ (es : List Entry). All (IsPlaced g es) more) (sym on_second.1) (all_placed-grow g other on_second.0 more second.placed));
+  in_order = in_order-append calls more first.in_order second.in_order
+      (All-weaker (λ (c : Call). (low ≤ c.by) × (c.by < middle)) (λ (c : Call). All (λ (d : Call). c.by ≢ d.by) more)
+      (λ c below. All-weaker (λ (d : Call). (middle ≤ d.by) × (d.by < end)) (λ (d : Call). c.by ≢ d.by)
+      (λ d above same. omega (arith, below.1, above.0, same)) more second.named)
+      calls first.named);
   once = λ by from to.
       let both : entries_by by (entries_of_calls (calls ++ more)) ≡ entries_by by (entries_of_calls calls) ++ entries_by by (entries_of_calls more) =
       ap (λ (es : List Entry). entries_by by es) (entries_of_calls-append calls more) ∙ entries_by-append by (entries_of_calls calls) (entries_of_calls more) in
@@ -227,6 +250,7 @@ all-once g end history calls all callers by = elim (cases_lt by end) [
 pub all-none : (g : Config) (low end : ℕ) (seen : List Entry) → seen ≡ [] → AreAllCalls g low end seen []
 all-none g low end seen none = record {
   placed = All-nil (IsPlaced g seen);
+  in_order = λ i j d before within. absurd (omega (arith, within));
   once = λ by from to. ap (λ (es : List Entry). entries_by by es) none;
   named = All-nil (λ (c : Call). (low ≤ c.by) × (c.by < end));
 }
@@ -236,6 +260,7 @@ pub all-idle : (g : Config) (low end : ℕ) (seen history : List Entry) (calls :
     → AreAllCalls g low end seen calls → AreAllCalls g low end history calls
 all-idle g low end seen history calls goes all = record {
   placed = subst (λ (es : List Entry). All (IsPlaced g es) calls) (sym goes.1) (all_placed-grow g seen goes.0 calls all.placed);
+  in_order = all.in_order;
   once = λ by from to. seen_on low end by seen history goes from to ∙ all.once by from to;
   named = all.named;
 }

@@ -71,5 +71,6 @@ one_history g v entries calls all names is legal rising callers =
       legal = legal;
       rising = rising;
       placed = whole.placed;
+      in_order = whole.in_order;
       once = all-once g 65536 entries calls whole callers;
     }

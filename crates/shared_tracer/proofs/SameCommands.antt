@@ -9,7 +9,7 @@ use Rattle.tracer_specification.specs.Settings.{declared_events}
 use Rattle.tracer_state.specs.ValueEmissions.{emission_by, emission_of}
 use Rattle.tracer_state.specs.declared.emission.ValuesEmission.{ValuesEmission}
 use Rattle.tracer_state.proofs.Histories.{past_of-push}
-use Rattle.shared_tracer.specs.AskedCommands.{emission_command, values_command, command_after}
+use Rattle.shared_tracer.specs.AskedCommands.{numbered_emission, values_command, command_after}
 use Rattle.shared_tracer.specs.declared.asked.Asked.{Asked}
 use Rattle.shared_tracer.specs.declared.asked.Asked.TheVariants as asks
 
@@ -17,7 +17,9 @@ use Rattle.shared_tracer.specs.declared.asked.Asked.TheVariants as asks
 pub values-request : (events : List Definition) (emission : ValuesEmission) → request_of (values_command events emission) ≡ emission_by events emission
 values-request events emission = go (event_of events emission.event)
   where
-    go : (event : Option Definition) → request_of (emission_command event emission) ≡ emission_of event emission.cpu emission.pid emission.values.now
+    go : (event : Option Definition)
+        → request_of (numbered_emission event emission.cpu emission.pid emission.values.now)
+        ≡ emission_of event emission.cpu emission.pid emission.values.now
     go None = refl
     go (Some event) = refl
 

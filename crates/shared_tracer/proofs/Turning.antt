@@ -129,6 +129,7 @@ turn_looked tells v h w served answer tracer g config base same numbers drawn fi
         let below : P h.seen w.front = ahead_of served w.front h.seen (omega (arith, back.front, drawn.front)) finds.below in
         subst (λ (es : List Entry). P es w.front) (sym back.seen) below;
   };
+  rises = record { risen = omega (arith, drawn.risen, back.front); all_names = λ all. back.front ∙ drawn.all_names all };
   undone = record { others = finds.seen.0; seen = back.seen ∙ finds.seen.1; by_others = finds.seen.2 };
   tracer = tracer;
   config = subst (λ (k : Config). k ≡ with_limit k.history_limit tracer.config) (numbers_of-determines config g (base ∙ sym same)) numbers;

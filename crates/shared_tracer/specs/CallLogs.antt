@@ -1,5 +1,5 @@
 -- The calls that a caller made, oldest first, and their places in a history.
-use Rattle.std.specs.Prelude.{◌≡◌, ℕ, ◌==◌, ◌≤◌, ◌<◌, List, [], ◌∷◌, ◌++◌, filter, nat_le, nat_lt, All, Result, Ok, Err}
+use Rattle.std.specs.Prelude.{◌≡◌, ℕ, ◌==◌, ◌≤◌, ◌<◌, List, [], ◌∷◌, ◌++◌, filter, nat_le, nat_lt, All, AllPairs, Result, Ok, Err}
 use Rattle.trace_command.specs.Refusals.{IsAnswer}
 use Rattle.trace_command.specs.declared.command.Config.{Config}
 use Rattle.trace_command.specs.declared.command.Entry.{Entry}
@@ -50,9 +50,14 @@ pub record IsPlaced (g : Config) (history : List Entry) (call : Call) : Type 0 w
   pub place : history ≡ call.found ++ entries_of_call call ++ later
   pub answer : IsAnswer call.answer (answer_to g call.found call.command)
 
--- These are all calls under the numbers from `low` up to below `end`, as far as this much of the history was seen: each has its place in it, and the
--- entries of each number are those of its calls that were done, in their order.
+-- A later call under the same number had seen all that the earlier one found, and its entry if it was done.
+abbrev pub IsSeenBy : Call → Call → Type 0
+IsSeenBy one other = one.by ≡ other.by → (more : List Entry) × (other.seen ≡ one.found ++ entries_of_call one ++ more)
+
+-- These are all calls under the numbers from `low` up to below `end`, as far as this much of the history was seen: each has its place in it, those under
+-- one number are in the order in which they were made, and the entries of each number are those of its calls that were done, in their order.
 pub record AreAllCalls (g : Config) (low end : ℕ) (seen : List Entry) (calls : List Call) : Type 0 where
   pub placed : All (IsPlaced g seen) calls
+  pub in_order : AllPairs IsSeenBy calls
   pub once : (by : ℕ) → low ≤ by → by < end → entries_by by seen ≡ entries_by by (entries_of_calls calls)
   pub named : All (λ (call : Call). (low ≤ call.by) × (call.by < end)) calls

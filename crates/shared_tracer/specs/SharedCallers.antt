@@ -1,6 +1,6 @@
 -- What is said of the callers of a shared tracer.
-use Rattle.std.specs.Prelude.{◌≡◌, ◌≢◌, List, [], ◌∷◌, ◌++◌, Result, Err}
-use Rattle.ticket_lock.specs.Calls.{view_of, drawn_view, IsOf, IsTicketOf}
+use Rattle.std.specs.Prelude.{◌≡◌, ◌≢◌, ◌<◌, ◌^◌, List, [], ◌∷◌, ◌++◌, Result, Err}
+use Rattle.ticket_lock.specs.Calls.{view_of, drawn_view, IsOf, IsTicketOf, HasLooked}
 use Rattle.ticket_lock.specs.declared.views.View.{View}
 use Rattle.trace_command.specs.Commands.{Command}
 use Rattle.trace_command.specs.Requests.{request_of}
@@ -13,7 +13,7 @@ use Rattle.trace_instance.specs.MemoryTaken.{TakesNoMemory}
 use Rattle.tracer_specification.specs.History.{answer_to, past_of}
 use Rattle.tracer.specs.LiveSeen.{LiveSeen}
 use Rattle.tracer.specs.Lives.{IsLive}
-use Rattle.shared_book.specs.Asks.{GoesOn, IsUndone}
+use Rattle.shared_book.specs.Asks.{GoesOn, Rises, IsUndone}
 use Rattle.shared_book.specs.Bases.{numbers_of}
 use Rattle.shared_tracer.specs.CallLogs.{AreAllCalls, entries_of_call}
 use Rattle.shared_tracer.specs.RaisedLimits.{with_limit}
@@ -55,6 +55,10 @@ pub record IsInLineOf (shared : SharedTracer) (line : InLine) : Type 0 where
   pub of : IsTicketOf shared.lock line.drawn
   pub asks : Asks shared (line_view line) (line_calls line)
 
+-- A caller had no turn: others were in line, or another drew at the same moment, and tickets are left. It saw nothing more of the history.
+abbrev pub HasNoTurn : View Entry → View Entry → Type 0
+HasNoTurn v w = HasLooked v w × (w.front < 2 ^ 63)
+
 -- A call was made: it is the last of those that the caller made. It asked for this command under the caller's first number, after all that the caller had
 -- seen, and the caller has now seen all that it found, and its entry if it was done.
 pub record IsCallMade (v w : View Entry) (command : Command) (answered : Result Reply Refusal) (before after : List Call) : Type 0 where
@@ -77,10 +81,11 @@ abbrev pub NeedsNoMemory : Config → View Entry → Command → Refusal → Typ
 NeedsNoMemory g w command refusal =
     refusal ≢ Worn → TakesNoMemory (past_of w.seen) (request_of command) → answer_to g w.seen command ≡ Err refusal
 
--- A look in a turn told what it tells of the tracer that all commands led to which the caller sees now. Since it last saw the history it did nothing itself.
--- The tracer has the numbers of this configuration, but for the limit.
+-- A look in a turn told what it tells of the tracer that all commands led to which the caller sees now. A ticket was drawn for it, after all that the
+-- caller had seen, and since then the caller did nothing itself. The tracer has the numbers of this configuration, but for the limit.
 pub record IsLookedAt {A : Type 0} (g : Config) (tells : LiveSeen → A → Type 0) (v w : View Entry) (answer : A) : Type 0 where
   pub goes_on : GoesOn v w
+  pub rises : Rises v w
   pub undone : IsUndone v w
   pub tracer : LiveSeen
   pub config : g ≡ with_limit g.history_limit tracer.config

@@ -10,7 +10,7 @@
 //!
 //! Nothing here but `ask` waits: `try_ask` has a turn if nobody is in line, and `draw` puts a caller in line, whose turn `ask_in_line` tries.
 
-ghost use Rattle.std.specs.Prelude.{◌≡◌, ◌≢◌, ◌↔◌, ◌⊎◌, ◌+◌, ◌<◌, ◌≤◌, [], ◌++◌, IfOk, IfErr, IfSome, IfNone, IsOk, OnOk, OnSome, MatchResult};
+ghost use Rattle.std.specs.Prelude.{◌≡◌, ◌≢◌, ◌↔◌, ◌⊎◌, ◌+◌, ◌<◌, ◌≤◌, [], ◌++◌, Err, IfOk, IfErr, IfSome, IfNone, IsOk, OnOk, OnSome, MatchResult};
 ghost use Rattle.ticket_lock.specs.Calls.{IsRoot, AreHalves, IsMet, IsWorn, HasLooked};
 ghost use Rattle.ticket_lock.specs.Views.{HasAllNames};
 ghost use Rattle.trace_command.specs.Configs.{IsInRange};
@@ -45,7 +45,7 @@ pub struct SharedTracer {
 }
 
 impl SharedTracer {
-    ghost use Rattle.shared_tracer.specs.SharedCallers.{caller_view, calls_of, line_view, line_calls, config_of, IsCallerOf, IsInLineOf, IsLookedAt, IsMade, NeedsNoMemory};
+    ghost use Rattle.shared_tracer.specs.SharedCallers.{caller_view, calls_of, line_view, line_calls, config_of, IsCallerOf, IsInLineOf, IsLookedAt, HasNoTurn, IsMade, NeedsNoMemory};
     ghost use Rattle.shared_tracer.specs.SharedHistories.{IsOneHistory};
 
     /// A tracer of which nothing was asked, and its root caller, which has all numbers from 0 to 65,535. It does `limit` commands, at most `MOST_DONE`,
@@ -179,7 +179,8 @@ impl SharedTracer {
         }
     }
 
-    /// As `ask`, but it waits for nobody: if somebody else has a turn, or is in line for one, there is no answer and nothing was run.
+    /// As `ask`, but it waits for nobody: if somebody else has a turn, or is in line for one, there is no answer and nothing was run. That is never so once
+    /// all tickets are drawn: then it is refused with `Worn`.
     #[inline(always)]
     pub fn try_ask(
         &self,
@@ -199,7 +200,7 @@ impl SharedTracer {
             (command_after (caller_view result.0).seen asked.now))) }
         ensures made { IfSome result.1 (λ answer. IsMade (caller_view caller) (caller_view result.0)
             (command_after (caller_view result.0).seen asked.now) answer (calls_of caller) (calls_of result.0)) }
-        ensures busy { IfNone result.1 (HasLooked (caller_view caller) (caller_view result.0) × (calls_of result.0 ≡ calls_of caller)) }
+        ensures busy { IfNone result.1 (HasNoTurn (caller_view caller) (caller_view result.0) × (calls_of result.0 ≡ calls_of caller)) }
     {
         let Caller { pass, calls } = caller;
         let seen = seen_by(&pass);
@@ -226,7 +227,7 @@ impl SharedTracer {
         requires { IsCallerOf self.now caller }
         ensures of { MatchResult result (λ line. IsInLineOf self.now line) (λ c. IsCallerOf self.now c) }
         ensures looked { IfOk result (λ line. HasLooked (caller_view caller) (line_view line) × (line_calls line ≡ calls_of caller)) }
-        ensures failed { IfErr result (λ c. (HasLooked (caller_view caller) (caller_view c) ⊎ IsWorn (caller_view caller) (caller_view c))
+        ensures failed { IfErr result (λ c. (HasNoTurn (caller_view caller) (caller_view c) ⊎ IsWorn (caller_view caller) (caller_view c))
             × (calls_of c ≡ calls_of caller)) }
     {
         let Caller { pass, calls } = caller;
@@ -240,7 +241,8 @@ impl SharedTracer {
         }
     }
 
-    /// As `ask`, of a caller that is in line: if its ticket isn't served yet, it comes back as it was and nothing was run.
+    /// As `ask`, of a caller that is in line: if its ticket isn't served yet, it comes back as it was and nothing was run. It has its ticket, so it is never
+    /// refused with `Worn`.
     #[inline(always)]
     pub fn ask_in_line(
         &self,
@@ -258,6 +260,7 @@ impl SharedTracer {
             IsLegal (config_of self.now) (line_view line).seen → IsLegal (config_of self.now) (caller_view r.0).seen) }
         ensures takes_none { IfOk result (λ r. IfErr r.1 (NeedsNoMemory (config_of self.now) (caller_view r.0)
             (command_after (caller_view r.0).seen asked.now))) }
+        ensures unworn { IfOk result (λ r. r.1 ≢ Err refusal.Worn) }
         ensures made { IfOk result (λ r. IsMade (line_view line) (caller_view r.0) (command_after (caller_view r.0).seen asked.now) r.1
             (line_calls line) (calls_of r.0)) }
         ensures busy { IfErr result (λ l. (line_view l ≡ line_view line) × (line_calls l ≡ line_calls line)) }
@@ -282,7 +285,7 @@ impl SharedTracer {
         ensures calls { MatchResult result (λ r. calls_of r.0 ≡ calls_of caller) (λ c. calls_of c ≡ calls_of caller) }
         ensures looked { IfOk result (λ r. IfOk r.1 (IsLookedAt (config_of self.now) (L.tells look.now) (caller_view caller) (caller_view r.0))) }
         ensures worn { IfOk result (λ r. IfErr r.1 (λ refused. (refused ≡ refusal.Worn) × IsWorn (caller_view caller) (caller_view r.0))) }
-        ensures busy { IfErr result (λ c. HasLooked (caller_view caller) (caller_view c)) }
+        ensures busy { IfErr result (λ c. HasNoTurn (caller_view caller) (caller_view c)) }
     {
         let Caller { pass, calls } = caller;
         let seen = seen_by(&pass);
