@@ -13,6 +13,7 @@ enum { FIRST = 1000 };
 #define TEXT(text) (text), sizeof(text) - 1
 
 static tracectl tracer = TRACECTL_CLOSED;
+static tracectl_thread thread = TRACECTL_LEFT;
 
 /* The bytes of the process that are in memory. */
 static long resident(void) {
@@ -28,7 +29,7 @@ static void emit_texts(long count) {
     char fields[] = "n=100";
     for (long i = 0; i < count; i++) {
         fields[4] = (char)('0' + i % 10);
-        if (tracectl_emit(&tracer, TEXT("tick"), 0, 7, TEXT(fields))) exit(1);
+        if (tracectl_emit(&thread, TEXT("tick"), 0, 7, TEXT(fields))) exit(1);
     }
 }
 
@@ -36,7 +37,7 @@ static void emit_values(long count) {
 #ifdef VALUES
     for (long i = 0; i < count; i++) {
         tracectl_value n = tracectl_unsigned(100 + i % 10);
-        if (tracectl_emit_values(&tracer, 1, 0, 7, &n, 1)) exit(1);
+        if (tracectl_emit_values(&thread, 1, 0, 7, &n, 1)) exit(1);
     }
 #else
     if (count) exit(2);
@@ -46,7 +47,7 @@ static void emit_values(long count) {
 /* So many reads of a ring's statistics. */
 static void read_stats(long count) {
     for (long i = 0; i < count; i++)
-        if (tracectl_read(&tracer, TEXT("per_cpu/cpu0/stats"))) exit(1);
+        if (tracectl_read(&thread, TEXT("per_cpu/cpu0/stats"))) exit(1);
 }
 
 static void (*const runs[])(long count) = {emit_texts, emit_values, read_stats};
@@ -55,11 +56,11 @@ enum { RUNS = sizeof runs / sizeof *runs };
 
 static int begin(int count, char **lines) {
     tracectl_settings settings = {.cpus = 1, .pages = 2, .page_bytes = 64, .history_limit = LIMIT};
-    if (tracectl_open(&tracer, &settings) || tracectl_append(&tracer, TEXT("synthetic_events"), TEXT("tick u64 n"))
-        || tracectl_write(&tracer, TEXT("events/synthetic/tick/enable"), TEXT("1")))
+    if (tracectl_open(&tracer, &settings) || tracectl_join(&tracer, &thread) || tracectl_append(&thread, TEXT("synthetic_events"), TEXT("tick u64 n"))
+        || tracectl_write(&thread, TEXT("events/synthetic/tick/enable"), TEXT("1")))
         return 0;
     for (int i = 0; i < count; i++)
-        if (tracectl_line(&tracer, lines[i], strlen(lines[i]))) return 0;
+        if (tracectl_line(&thread, lines[i], strlen(lines[i]))) return 0;
     return 1;
 }
 
@@ -72,5 +73,5 @@ int main(int count, char **words) {
     long before = resident();
     for (int i = 0; i < RUNS; i++) runs[i](counts[i] < FIRST ? 0 : counts[i] - FIRST);
     printf("%ld\n", resident() - before);
-    return (int)tracectl_close(&tracer);
+    return tracectl_leave(&thread) || tracectl_close(&tracer);
 }

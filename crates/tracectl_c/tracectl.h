@@ -1,17 +1,29 @@
-/* tracectl as a C library: a tracer with ftrace's synthetic events, ring buffers, filters, snapshots and histograms, each call a function.
+/* tracectl as a C library: a tracer with ftrace's synthetic events, ring buffers, filters, snapshots and histograms, which the threads of a program share.
+ * Each call is a function.
  *
- * A tracer keeps no list of what it was asked, so its memory does not grow with the number of commands: it has its rings, events, instances and
- * tables, and the last reply.
+ *     tracectl tracer = TRACECTL_CLOSED;              tracectl_open(&tracer, &settings);      once
+ *     tracectl_thread thread = TRACECTL_LEFT;         tracectl_join(&tracer, &thread);        in each thread that asks something
+ *                                                     tracectl_write(&thread, ..); ..         as often as it likes
+ *                                                     tracectl_leave(&thread);
+ *                                                     tracectl_close(&tracer);                once all have left
  *
- * What each call leaves, and its status, is proved whatever was asked before it (crates/tracectl_c/src/lib.rt). Nothing checks the C side, so the
- * proof holds only if the caller upholds this:
+ * One call at a time has its turn at the tracer, and is answered as all the calls before it say, of whichever thread they were. A reply and the last outcome
+ * belong to the thread's handle. A tracer keeps no list of what it was asked, so its memory does not grow with the number of commands: it has its rings,
+ * events, instances and tables, and for each thread the last reply.
  *
- *  - A handle is set to TRACECTL_CLOSED (all zeros) before it is first opened. Only these functions change it, and it is not copied.
- *  - One call at a time works on a handle, on the thread that opened it. Each thread may have handles of its own.
+ * The functions that a user calls are here and in tracectl.c. Each tries until the call had its turn. What one try leaves, and its status, is proved
+ * whatever was asked before it (crates/tracectl_c/src/lib.rt). Nothing checks the C side, so the proof holds only if these files, of which that is said
+ * where they do it, and their caller uphold this:
+ *
+ *  - A handle is set to TRACECTL_CLOSED or TRACECTL_LEFT (all zeros) before it is first used. Only these functions change it, and it is not copied. That
+ *    of a tracer stays where it is until it is closed.
+ *  - A thread's handle is used by the thread that joined with it, and one call at a time. (A call from a signal handler, or from what a call itself calls, as
+ *    malloc, is refused with TRACECTL_IN_CALL.) The lock in tracectl.c is held while a tracer's handle is used.
  *  - No pointer is null. A string is a pointer to bytes that nobody writes during the call, and how many they are, below 2^63; its last byte
  *    need not be 0. A string of no bytes has a pointer too, and so has an array of no values. Nobody writes an array of values during the call, and
  *    it has fewer than 2^58. Memory that a call writes to overlaps none of its other arguments.
- *  - No call comes from a signal handler, nor from the child of a fork in a process with threads.
+ *  - No call comes from a signal handler, nor from the child of a fork in a process with threads. (Of a tracer that was opened before the fork, all calls in
+ *    the child are refused with TRACECTL_FORKED.)
  *  - malloc, realloc and free come from one allocator, and align blocks to 16 bytes. They may refuse memory: the call is then refused
  *    (TRACECTL_MEMORY), and has changed nothing.
  */
@@ -26,13 +38,47 @@
 extern "C" {
 #endif
 
-/* A tracer. Its fields belong to the library. */
-typedef struct tracectl {
+/* The functions of this header are compiled in tracectl.c, too, for who calls them by name, as Python's ctypes. */
+#ifndef TRACECTL_FUNCTION
+#define TRACECTL_FUNCTION static inline
+#endif
+
+/* What the library has of a tracer, and of a thread that has joined one. */
+struct tracectl_passes {
+    uint64_t state;
+    void *passes;
+};
+
+struct tracectl_console {
     uint64_t state;
     void *console;
+};
+
+/* A tracer. Its fields belong to the library. */
+typedef struct tracectl {
+    struct tracectl_passes passes;
+    uint32_t cpus;
+    uint32_t forks;
 } tracectl;
 
-#define TRACECTL_CLOSED {0, 0}
+#define TRACECTL_CLOSED {{0, 0}, 0, 0}
+
+/* A thread that has joined a tracer: of each such there is one, which is on the heap, since the thread may end while the handle is gone. */
+struct tracectl_seat {
+    struct tracectl_console console;
+    uint32_t in_call;
+    uint32_t forks; /* in the process, when it joined */
+    tracectl *tracer;
+    struct tracectl_seat *next; /* of the same thread, in another tracer */
+    int32_t thread;
+};
+
+/* A thread's handle. Its field belongs to the library. */
+typedef struct tracectl_thread {
+    struct tracectl_seat *seat;
+} tracectl_thread;
+
+#define TRACECTL_LEFT {0}
 
 /* What a tracer is made with. When as many commands were done as the limit says, each further one that could be done is refused
  * (TRACECTL_HISTORY_FULL). */
@@ -57,32 +103,116 @@ enum {
     TRACECTL_BAD_NUMBER = 106,
     TRACECTL_BLOCK_OUT_OF_PLACE = 107, /* parallel, thread and end */
     TRACECTL_NOT_OPEN = 200,
-    TRACECTL_ALREADY_OPEN = 201
+    TRACECTL_ALREADY_OPEN = 201,
+    TRACECTL_BUSY = 202,           /* of one try: somebody else has a turn. The functions that a user calls have no such status */
+    TRACECTL_NOT_JOINED = 203,     /* the thread's handle has left, or never joined */
+    TRACECTL_ALREADY_JOINED = 204,
+    TRACECTL_NO_PASS_LEFT = 205,   /* 1,024 threads have joined */
+    TRACECTL_STILL_JOINED = 206,   /* a tracer that is to be closed has threads that have not left */
+    TRACECTL_FORKED = 207,         /* the process is a child, and what it calls was opened or joined in its parent */
+    TRACECTL_IN_CALL = 208,        /* the thread is within another call */
+    TRACECTL_OTHER_THREAD = 209    /* a handle is to leave that another thread joined with */
 };
 
 /* Opens a handle: a tracer of which nothing was asked. TRACECTL_BAD_VALUE: a setting is out of range. */
-uint32_t tracectl_open(tracectl *handle, const tracectl_settings *settings);
+uint32_t tracectl_open(tracectl *tracer, const tracectl_settings *settings);
 
-/* Closes a handle and gives its memory back. */
-uint32_t tracectl_close(tracectl *handle);
+/* Closes a handle and gives its memory back, once all threads have left it; before that it is refused with TRACECTL_STILL_JOINED, and stays open. */
+uint32_t tracectl_close(tracectl *tracer);
+
+/* Has the thread that calls join a tracer, with a handle of its own. At most 1,024 have joined at a time; any number may come and go. */
+uint32_t tracectl_join(tracectl *tracer, tracectl_thread *thread);
+
+/* Has it leave again. A thread that ends without it leaves by itself. */
+uint32_t tracectl_leave(tracectl_thread *thread);
+
+/* Where a call is made: the CPU that the thread runs on, modulo those of its tracer, and the thread's number in the system. 0 and 0 where the thread has
+ * not joined. */
+typedef struct tracectl_place {
+    uint32_t cpu;
+    int32_t thread;
+} tracectl_place;
+
+tracectl_place tracectl_here(const tracectl_thread *thread);
+
+/* ---- One try of each call, which is proved. Only tracectl.c and the functions below call these. ---- */
+
+typedef struct tracectl_value tracectl_value;
+
+uint32_t tracectl_try_open(struct tracectl_passes *passes, const tracectl_settings *settings);
+uint32_t tracectl_try_close(struct tracectl_passes *passes);
+uint32_t tracectl_try_join(struct tracectl_passes *passes, struct tracectl_console *console);
+uint32_t tracectl_try_leave(struct tracectl_passes *passes, struct tracectl_console *console);
+uint32_t tracectl_try_line_up(struct tracectl_console *console);
+uint32_t tracectl_try_line(struct tracectl_console *console, const char *line, size_t line_length);
+uint32_t tracectl_try_emit(struct tracectl_console *console, const char *event, size_t event_length, uint32_t cpu, int32_t process, const char *fields,
+                           size_t fields_length);
+uint32_t tracectl_try_emit_values(struct tracectl_console *console, uint32_t event, uint32_t cpu, int32_t process, const tracectl_value *values,
+                                  size_t count);
+uint32_t tracectl_try_write(struct tracectl_console *console, const char *path, size_t path_length, const char *text, size_t text_length);
+uint32_t tracectl_try_append(struct tracectl_console *console, const char *path, size_t path_length, const char *text, size_t text_length);
+uint32_t tracectl_try_read(struct tracectl_console *console, const char *path, size_t path_length);
+uint32_t tracectl_try_take(struct tracectl_console *console, const char *path, size_t path_length, uint64_t limit);
+uint32_t tracectl_try_files(struct tracectl_console *console);
+uint32_t tracectl_try_entries(struct tracectl_console *console, uint64_t *entries);
+int32_t tracectl_try_waiting(struct tracectl_console *console, const char *path, size_t path_length);
+size_t tracectl_try_reply_length(struct tracectl_console *console);
+size_t tracectl_try_reply(struct tracectl_console *console, size_t from, char *room, size_t room_length);
+size_t tracectl_try_offset(struct tracectl_console *console);
+
+/* How many forks led from the process that first opened a tracer to this one. */
+extern volatile uint32_t tracectl_forks;
+
+/* Begins a call, unless it is refused: has the status of that. */
+TRACECTL_FUNCTION uint32_t tracectl_begin(const tracectl_thread *thread) {
+    struct tracectl_seat *seat = thread->seat;
+    if (!seat) return TRACECTL_NOT_JOINED;
+    if (seat->forks != tracectl_forks) return TRACECTL_FORKED;
+    if (seat->in_call) return TRACECTL_IN_CALL;
+    seat->in_call = 1;
+    __atomic_signal_fence(__ATOMIC_SEQ_CST);
+    return TRACECTL_DONE;
+}
+
+/* Ends a call that was begun. */
+TRACECTL_FUNCTION void tracectl_end(const tracectl_thread *thread) {
+    __atomic_signal_fence(__ATOMIC_SEQ_CST);
+    thread->seat->in_call = 0;
+}
+
+/* Waits a little after this try, the so-many-th that came to nothing. Who tried a thousand times gets in line, where its turn is sure to come. */
+void tracectl_wait(struct tracectl_console *console, uint32_t tries);
 
 /* ---- Commands. One that is refused changes nothing but the reply. ---- */
 
 /* A line of a script (docs/FILES.md), without its newline. A blank line and a comment do nothing. */
-uint32_t tracectl_line(tracectl *handle, const char *line, size_t line_length);
+TRACECTL_FUNCTION uint32_t tracectl_line(tracectl_thread *thread, const char *line, size_t line_length) {
+    uint32_t tries = 0, status = tracectl_begin(thread);
+    if (status) return status;
+    while ((status = tracectl_try_line(&thread->seat->console, line, line_length)) == TRACECTL_BUSY) tracectl_wait(&thread->seat->console, ++tries);
+    tracectl_end(thread);
+    return status;
+}
 
 /* An event happens on a CPU, in a process. Its fields are NAME=VALUE each, with a byte 0 between each two: "prev=1\0next=2". A value is
  * written as in a script, but without quotes, and may have any bytes but 0. */
-uint32_t tracectl_emit(tracectl *handle, const char *event, size_t event_length, uint32_t cpu, int32_t process, const char *fields,
-                       size_t fields_length);
+TRACECTL_FUNCTION uint32_t tracectl_emit(tracectl_thread *thread, const char *event, size_t event_length, uint32_t cpu, int32_t process,
+                                         const char *fields, size_t fields_length) {
+    uint32_t tries = 0, status = tracectl_begin(thread);
+    if (status) return status;
+    while ((status = tracectl_try_emit(&thread->seat->console, event, event_length, cpu, process, fields, fields_length)) == TRACECTL_BUSY)
+        tracectl_wait(&thread->seat->console, ++tries);
+    tracectl_end(thread);
+    return status;
+}
 
 /* A value of a field: a number of 64 bits with or without a sign, or bytes. The functions after it make one. */
-typedef struct tracectl_value {
+struct tracectl_value {
     uint32_t kind;       /* one of those below */
     uint64_t number;     /* of TRACECTL_SIGNED the same 64 bits as the number with its sign */
     const char *bytes;   /* not null, whatever the kind */
     size_t bytes_length; /* below 2^63, and 0 is right for a number */
-} tracectl_value;
+};
 
 enum { TRACECTL_UNSIGNED = 0, TRACECTL_SIGNED = 1, TRACECTL_BYTES = 2 };
 
@@ -105,39 +235,115 @@ static inline tracectl_value tracectl_bytes(const char *bytes, size_t bytes_leng
  * events/synthetic/EVENT/format (1 for the event that was declared first, and so on), and its fields have the values, in order of declaration. A
  * value means what its text does: a number its decimal digits. Refused as tracectl_emit is, a number that no event has as a name that none has (5),
  * and a value beyond the last field as one of a field with no name; and with TRACECTL_BAD_VALUE if a kind is none of the three. */
-uint32_t tracectl_emit_values(tracectl *handle, uint32_t event, uint32_t cpu, int32_t process, const tracectl_value *values, size_t count);
+TRACECTL_FUNCTION uint32_t tracectl_emit_values(tracectl_thread *thread, uint32_t event, uint32_t cpu, int32_t process, const tracectl_value *values,
+                                                size_t count) {
+    uint32_t tries = 0, status = tracectl_begin(thread);
+    if (status) return status;
+    while ((status = tracectl_try_emit_values(&thread->seat->console, event, cpu, process, values, count)) == TRACECTL_BUSY)
+        tracectl_wait(&thread->seat->console, ++tries);
+    tracectl_end(thread);
+    return status;
+}
 
 /* Writes a string to a file (docs/FILES.md), as `echo TEXT > PATH` does, and appends it, as `echo TEXT >> PATH`. */
-uint32_t tracectl_write(tracectl *handle, const char *path, size_t path_length, const char *text, size_t text_length);
-uint32_t tracectl_append(tracectl *handle, const char *path, size_t path_length, const char *text, size_t text_length);
+TRACECTL_FUNCTION uint32_t tracectl_write(tracectl_thread *thread, const char *path, size_t path_length, const char *text, size_t text_length) {
+    uint32_t tries = 0, status = tracectl_begin(thread);
+    if (status) return status;
+    while ((status = tracectl_try_write(&thread->seat->console, path, path_length, text, text_length)) == TRACECTL_BUSY)
+        tracectl_wait(&thread->seat->console, ++tries);
+    tracectl_end(thread);
+    return status;
+}
+
+TRACECTL_FUNCTION uint32_t tracectl_append(tracectl_thread *thread, const char *path, size_t path_length, const char *text, size_t text_length) {
+    uint32_t tries = 0, status = tracectl_begin(thread);
+    if (status) return status;
+    while ((status = tracectl_try_append(&thread->seat->console, path, path_length, text, text_length)) == TRACECTL_BUSY)
+        tracectl_wait(&thread->seat->console, ++tries);
+    tracectl_end(thread);
+    return status;
+}
 
 /* Reads a file to its end, as `cat PATH` does, and at most so many records of a pipe, as `take LIMIT PATH`. What was read is the reply. */
-uint32_t tracectl_read(tracectl *handle, const char *path, size_t path_length);
-uint32_t tracectl_take(tracectl *handle, const char *path, size_t path_length, uint64_t limit);
+TRACECTL_FUNCTION uint32_t tracectl_read(tracectl_thread *thread, const char *path, size_t path_length) {
+    uint32_t tries = 0, status = tracectl_begin(thread);
+    if (status) return status;
+    while ((status = tracectl_try_read(&thread->seat->console, path, path_length)) == TRACECTL_BUSY) tracectl_wait(&thread->seat->console, ++tries);
+    tracectl_end(thread);
+    return status;
+}
 
-/* ---- The last outcome. ---- */
+TRACECTL_FUNCTION uint32_t tracectl_take(tracectl_thread *thread, const char *path, size_t path_length, uint64_t limit) {
+    uint32_t tries = 0, status = tracectl_begin(thread);
+    if (status) return status;
+    while ((status = tracectl_try_take(&thread->seat->console, path, path_length, limit)) == TRACECTL_BUSY)
+        tracectl_wait(&thread->seat->console, ++tries);
+    tracectl_end(thread);
+    return status;
+}
+
+/* ---- The thread's last outcome. ---- */
 
 /* Lists the files that there are, as `tracectl --list` does: a line for each, which has r, w or rw, a space and the file's path. The list is the
- * reply until the next command or list. */
-uint32_t tracectl_files(tracectl *handle);
+ * reply until the thread's next command or list. */
+TRACECTL_FUNCTION uint32_t tracectl_files(tracectl_thread *thread) {
+    uint32_t tries = 0, status = tracectl_begin(thread);
+    if (status) return status;
+    while ((status = tracectl_try_files(&thread->seat->console)) == TRACECTL_BUSY) tracectl_wait(&thread->seat->console, ++tries);
+    tracectl_end(thread);
+    return status;
+}
 
-/* How many bytes the reply has: what the last command read, or the name of the field whose value is wrong (N21 BadRow), or the list; else 0. None of
- * the calls from here on changes the reply. */
-size_t tracectl_reply_length(tracectl *handle);
+/* How many bytes the reply has: what the thread's last command read, or the name of the field whose value is wrong (N21 BadRow), or the list; else 0. None
+ * of the calls from here on changes the reply. */
+TRACECTL_FUNCTION size_t tracectl_reply_length(tracectl_thread *thread) {
+    size_t length;
+    if (tracectl_begin(thread)) return 0;
+    length = tracectl_try_reply_length(&thread->seat->console);
+    tracectl_end(thread);
+    return length;
+}
 
 /* Copies the reply from this byte on, as far as there is room, and returns how many bytes. */
-size_t tracectl_reply(tracectl *handle, size_t from, char *room, size_t room_length);
+TRACECTL_FUNCTION size_t tracectl_reply(tracectl_thread *thread, size_t from, char *room, size_t room_length) {
+    size_t count;
+    if (tracectl_begin(thread)) return 0;
+    count = tracectl_try_reply(&thread->seat->console, from, room, room_length);
+    tracectl_end(thread);
+    return count;
+}
 
-/* Where the string of the last command is wrong, as how many bytes stand before that; SIZE_MAX if its refusal has no such offset. */
-size_t tracectl_offset(tracectl *handle);
+/* Where the string of the thread's last command is wrong, as how many bytes stand before that; SIZE_MAX if its refusal has no such offset. */
+TRACECTL_FUNCTION size_t tracectl_offset(tracectl_thread *thread) {
+    size_t offset;
+    if (tracectl_begin(thread)) return SIZE_MAX;
+    offset = tracectl_try_offset(&thread->seat->console);
+    tracectl_end(thread);
+    return offset;
+}
 
-/* How many commands were done. */
-uint64_t tracectl_entries(tracectl *handle);
+/* How many commands were done by all threads. 0 if the call is refused. */
+TRACECTL_FUNCTION uint64_t tracectl_entries(tracectl_thread *thread) {
+    uint64_t entries = 0;
+    uint32_t tries = 0;
+    if (tracectl_begin(thread)) return 0;
+    while (tracectl_try_entries(&thread->seat->console, &entries) == TRACECTL_BUSY) tracectl_wait(&thread->seat->console, ++tries);
+    tracectl_end(thread);
+    return entries;
+}
 
 /* Whether a record waits to be read in a pipe: trace_pipe or per_cpu/cpuN/trace_pipe, of the top instance or of one in instances/. 1 if one does,
- * 0 if none does; below 0 is what tracectl_take of this path would be refused with, as -1 for N1 NoSuchFile, or -TRACECTL_NOT_OPEN. It takes no
+ * 0 if none does; below 0 is what tracectl_take of this path would be refused with, as -1 for N1 NoSuchFile, or -TRACECTL_NOT_JOINED. It takes no
  * memory and is no command: nothing changes, the reply neither. */
-int32_t tracectl_waiting(tracectl *handle, const char *path, size_t path_length);
+TRACECTL_FUNCTION int32_t tracectl_waiting(tracectl_thread *thread, const char *path, size_t path_length) {
+    int32_t waits;
+    uint32_t tries = 0, status = tracectl_begin(thread);
+    if (status) return -(int32_t)status;
+    while ((waits = tracectl_try_waiting(&thread->seat->console, path, path_length)) == -TRACECTL_BUSY)
+        tracectl_wait(&thread->seat->console, ++tries);
+    tracectl_end(thread);
+    return waits;
+}
 
 /* ---- Time. ---- */
 

@@ -1,4 +1,4 @@
-"""tracectl by ctypes: a tracer whose calls are methods. TRACECTL_LIBRARY names the shared object, which examples/c/build makes.
+"""tracectl by ctypes: a tracer whose calls are methods, which threads share. TRACECTL_LIBRARY names the shared object, which examples/c/build makes.
 
 Every argument is checked before anything is called. A string is `str`, which is given as UTF-8, or `bytes`, without a byte 0. A number is an `int`,
 not a `bool`, that fits the C type which takes it. All else is a TypeError or a ValueError, and nothing was done. Python 3.8 or later.
@@ -8,8 +8,8 @@ from __future__ import annotations
 import os
 from collections.abc import Mapping
 from contextlib import AbstractContextManager
-from ctypes import CDLL, Structure, byref, c_char_p, c_int32, c_size_t, c_uint32, c_uint64, create_string_buffer
-from threading import current_thread
+from ctypes import CDLL, Structure, byref, c_char_p, c_int32, c_size_t, c_uint32, c_uint64, c_void_p, create_string_buffer
+from threading import get_ident, local
 from typing import Any, Union
 
 Text = Union[str, bytes]
@@ -19,11 +19,12 @@ NO_OFFSET = c_size_t(-1).value
 UNSIGNED, SIGNED, BYTES = range(3)  # kinds of values
 U32, S32, U64, NUMBER = (0, 2**32 - 1), (-(2**31), 2**31 - 1), (0, 2**64 - 1), (-(2**63), 2**64 - 1)  # the least number and the greatest
 
-# The names of statuses (docs/REFUSALS.md): refusals from 1, faults of lines from 101.
+# The names of statuses (docs/REFUSALS.md): refusals from 1, faults of lines from 101, and what is wrong with a handle from 200 (tracectl.h).
 REFUSALS = """NoSuchFile NotReadable NotWritable BadValue NoSuchEvent EventExists BadDefinition TooBig FilterSyntax NoSuchField WrongOperator
     HistSyntax BadSize TriggerExists NoSuchTrigger TooMany InstanceExists NoSuchInstance Busy NoSuchCpu BadRow HistoryFull Memory Worn"""
 FAULTS = "LineTooLong BadByte UnclosedQuote UnknownCommand WrongWords BadNumber BlockOutOfPlace TooManyThreads"
-NAMES = {**dict(enumerate(REFUSALS.split(), 1)), **dict(enumerate(FAULTS.split(), 101)), 200: "NotOpen", 201: "AlreadyOpen"}
+HANDLES = "NotOpen AlreadyOpen Busy NotJoined AlreadyJoined NoPassLeft StillJoined Forked InCall OtherThread"
+NAMES = {status: name for first, names in ((1, REFUSALS), (101, FAULTS), (200, HANDLES)) for status, name in enumerate(names.split(), first)}
 
 
 def string(what: str, value: Text) -> bytes:
@@ -95,11 +96,30 @@ class Refused(Exception):
         return "%s%s%s (status %d)" % (self.name, at, field, self.status)
 
 
+class Seat:
+    """A thread that has joined a tracer. It leaves when this is let go, which is when the thread ends."""
+
+    def __init__(self, library: CDLL, tracer: Any) -> None:
+        self._leave, self._thread = library.tracectl_leave, get_ident()
+        self.handle = (c_void_p * 1)()  # 0 while it has not joined
+        status = library.tracectl_join(tracer, self.handle)
+        if status:
+            raise Refused(status, NO_OFFSET, b"")
+
+    def leave(self) -> None:
+        """Leaves, if this is the thread that joined: another one leaves by itself when it ends."""
+        if get_ident() == self._thread:
+            self._leave(self.handle)
+
+    __del__ = leave
+
+
 class Tracer(AbstractContextManager):
     """A tracer, to be used in a `with` or closed. A limit of 0 on the number of commands is none.
 
-    Each call is made by the thread that opened the tracer: by another it is a RuntimeError, and nothing was done. A handler of a signal makes no call
-    of a tracer that it may have interrupted, since that would take its reply away.
+    Any thread may call it: with its first call it joins, and it leaves when it ends, or by `leave`. One call at a time has its turn at the tracer; while
+    it runs, or waits for its turn, other threads of Python run. A handler of a signal makes no call of a tracer that it may have interrupted, since that
+    would take its reply away. In the child of a fork each call is refused (Forked).
     """
 
     def __init__(
@@ -116,23 +136,29 @@ class Tracer(AbstractContextManager):
         if not path:
             raise ValueError("neither `library` nor TRACECTL_LIBRARY names the shared object")
         self._library = CDLL(path)
-        self._thread = current_thread()
-        self._handle = (c_uint64 * 2)()  # its two words are 0 while it is closed
-        self._ask("open", byref(settings))
+        self._here = local()  # `seat` is the thread's
+        self._handle = (c_uint64 * 3)()  # its words are 0 while it is closed
+        status = self._library.tracectl_open(self._handle, byref(settings))
+        if status:
+            raise Refused(status, NO_OFFSET, b"")
 
     def __exit__(self, *error: object) -> None:
         self.close()
 
+    def _seat(self) -> Seat:
+        """That of this thread, which joins if it has not."""
+        if not hasattr(self._here, "seat"):
+            self._here.seat = Seat(self._library, self._handle)
+        return self._here.seat
+
     def _call(self, name: str, *given: Any, result: Any = c_uint32) -> int:
         """Calls a function of the library. What is given was checked: values of C types, and bytes, of which C takes a pointer and a length."""
-        if current_thread() is not self._thread:
-            raise RuntimeError("a tracer is used by the thread that opened it, and by no other")
         function = getattr(self._library, "tracectl_" + name)
         function.restype = result
         words: list[Any] = []
         for each in given:
             words += (each, c_size_t(len(each))) if isinstance(each, bytes) else (each,)
-        return function(self._handle, *words)
+        return function(self._seat().handle, *words)
 
     def _ask(self, name: str, *given: Any) -> bytes:
         """Makes a call, and gives its reply."""
@@ -149,9 +175,19 @@ class Tracer(AbstractContextManager):
         count = self._call("reply", c_size_t(0), room, c_size_t(length), result=c_size_t)
         return room.raw[:count]
 
+    def leave(self) -> None:
+        """This thread leaves. Its next call joins again."""
+        if hasattr(self._here, "seat"):
+            self._here.seat.leave()
+            del self._here.seat
+
     def close(self) -> None:
-        """Closes it. Once it is closed, this does nothing, and commands are refused."""
-        self._call("close")
+        """Closes it, and this thread leaves. Refused (StillJoined) while other threads have not ended, and not left. Once it is closed, this does nothing,
+        and commands are refused."""
+        self.leave()
+        status = self._library.tracectl_close(self._handle)
+        if status and NAMES.get(status) != "NotOpen":
+            raise Refused(status, NO_OFFSET, b"")
 
     def line(self, line: Text) -> bytes:
         """Does a line of a script, and gives what it prints."""
@@ -204,5 +240,5 @@ class Tracer(AbstractContextManager):
         return self._ask("files")
 
     def entries(self) -> int:
-        """How many commands were done."""
+        """How many commands were done, by all threads."""
         return self._call("entries", result=c_uint64)

@@ -28,15 +28,32 @@ def unusable():
 
 
 def built():
-    """A folder with the C programs and the shared object, which is removed at the end."""
+    """A folder with the C programs and the shared object, which is removed at the end, and in it that of many threads under ThreadSanitizer, if any."""
     folder = Path(tempfile.mkdtemp())
     atexit.register(shutil.rmtree, str(folder))
     subprocess.run([str(TOP / "examples" / "c" / "build"), str(folder)], check=True)
     heap = Path(subprocess.run(["rt", "doc"], stdout=subprocess.PIPE, check=True).stdout.decode().strip()).parent / "c" / "liblibc_c.a"
-    for name, words in (("memory", ["-Wl,--wrap=malloc,--wrap=realloc,--wrap=free"]), ("limits", []), ("values", [])):
-        words += ["-I", LIBRARY.parent.parent, "-o", folder / name, CASES / (name + ".c"), folder / "libtracectl_c.a", heap]
+    wrapped = {"memory": ["-Wl,--wrap=malloc,--wrap=realloc,--wrap=free"], "refused": ["-Wl,--wrap=malloc"]}
+    for name in ("memory", "limits", "values", "refused", "threads"):
+        words = wrapped.get(name, []) + ["-I", LIBRARY.parent.parent, "-o", folder / name, CASES / (name + ".c"), folder / "libtracectl_c.a", heap, "-pthread"]
         subprocess.run([os.environ.get("CC", "cc")] + [str(word) for word in words], check=True)
-    return folder
+    return folder, built_with_sanitizer(folder, heap)
+
+
+def built_with_sanitizer(folder, heap):
+    """The program of many threads, of which ThreadSanitizer sees what is written in C: the proved part lies in a shared object, of which it sees nothing.
+    None where the compiler has no sanitizer."""
+    compiler, archive, proved, program = os.environ.get("CC", "cc"), folder / "proved.a", folder / "libproved.so", folder / "threads_sanitized"
+    shutil.copy(str(folder / "libtracectl_c.a"), str(archive))
+    subprocess.run(["ar", "d", str(archive), "tracectl.o"], check=True)
+    words = [compiler, "-shared", "-o", proved, "-Wl,--whole-archive", archive, "-Wl,--no-whole-archive", heap]
+    subprocess.run([str(word) for word in words], check=True)
+    words = [compiler, "-fsanitize=thread", "-g", "-O1", "-DEMISSIONS=5000", "-DCOMING=2000", "-I", LIBRARY.parent.parent, "-o", program]
+    words += [CASES / "threads.c", LIBRARY.parent.parent / "tracectl.c", proved, "-Wl,-rpath," + str(folder), "-pthread"]
+    if subprocess.run([str(word) for word in words], stderr=subprocess.DEVNULL).returncode:
+        print("skipped: ThreadSanitizer, which %s does not have" % compiler, flush=True)
+        return None
+    return program
 
 
 def settings_of(words):
@@ -123,12 +140,18 @@ def library_cases():
     if reason:
         print("skipped: the library for C and Python, as %s" % reason, flush=True)
         return []
-    folder = built()
+    folder, sanitized = built()
     sys.path.insert(0, str(PYTHON))
     from tracectl import Tracer
 
     def tracer_of(**settings):
         return Tracer(library=str(folder / "libtracectl.so"), **settings)
+
+    def sanitized_case(program, stdout):
+        """Its threads are fewer, and come and go less often."""
+        wanted_text = re.sub(rb"\d+ threads", b"2000 threads", stdout.read_bytes())
+        command = ["env", "TSAN_OPTIONS=ignore_noninstrumented_modules=1", program]
+        return Case("tests/library_cases/threads.c under ThreadSanitizer", lambda _: differences(run(command), Outcome(0, wanted_text, b"")))
 
     def script_case(script):
         return Case("by calls: " + script.name, lambda program: called(program, tracer_of, script))
@@ -143,5 +166,9 @@ def library_cases():
         example_case("tests/library_cases/memory.c", [folder / "memory"], folder, CASES / "memory.stdout"),
         example_case("tests/library_cases/limits.c", [folder / "limits"], folder, CASES / "limits.stdout"),
         example_case("tests/library_cases/values.c", [folder / "values"], folder, CASES / "values.stdout"),
+        example_case("tests/library_cases/refused.c", [folder / "refused"], folder, CASES / "refused.stdout"),
+        example_case("tests/library_cases/threads.c", [folder / "threads"], folder, CASES / "threads.stdout"),
+        example_case("examples/c/four_threads.c", [folder / "four_threads"], folder, TOP / "examples" / "c" / "four_threads.stdout"),
         example_case("examples/python/ticks.py", [sys.executable, PYTHON / "ticks.py"], folder, PYTHON / "ticks.stdout"),
-    ] + python_cases(folder / "libtracectl.so") + list(map(script_case, scripts)) + [values_case(script) for script in scripts if b"\nemit " in script.read_bytes()]
+        example_case("examples/python/threads.py", [sys.executable, PYTHON / "threads.py"], folder, PYTHON / "threads.stdout"),
+    ] + ([sanitized_case(sanitized, CASES / "threads.stdout")] if sanitized else []) + python_cases(folder / "libtracectl.so") + list(map(script_case, scripts)) + [values_case(script) for script in scripts if b"\nemit " in script.read_bytes()]

@@ -169,13 +169,15 @@ closed.read("trace")
 closed.waiting("trace_pipe")
 """
 ELSEWHERE = """
-elsewhere(t.read, "trace")
+elsewhere(t.read, "tracing_on")
 elsewhere(t.emit, "tick", {"n": 5})
 elsewhere(t.emit_values, 1, 5)
 elsewhere(t.waiting, "trace_pipe")
-elsewhere(t.files)
-elsewhere(t.entries)
+elsewhere(t.read, "events/synthetic/tick/enable")
+elsewhere(t.read, "no_file")
 elsewhere(t.close)
+t.leave()
+t.read("events/synthetic/tick/enable")
 """
 
 
@@ -189,12 +191,12 @@ class Word(str, Enum):
 
 
 def elsewhere(call, *arguments):
-    """Makes a call in another thread, of which it raises what was raised there."""
-    raised = []
+    """Makes a call in another thread, and returns what it returned there, or raises what was raised."""
+    returned, raised = [], []
 
     def make():
         try:
-            call(*arguments)
+            returned.append(call(*arguments))
         except Exception as error:
             raised.append(error)
 
@@ -203,6 +205,7 @@ def elsewhere(call, *arguments):
     thread.join()
     for error in raised:
         raise error
+    return returned[0]
 
 
 def outcome(call, names):
@@ -211,8 +214,8 @@ def outcome(call, names):
         return repr(eval(call, names))
     except Refused as refused:
         return "%s: %s" % (refused.name, refused)
-    except (TypeError, ValueError, RuntimeError) as error:
-        return next(kind.__name__ for kind in (TypeError, ValueError, RuntimeError) if isinstance(error, kind))
+    except (TypeError, ValueError) as error:
+        return "TypeError" if isinstance(error, TypeError) else "ValueError"
 
 
 def show(calls, names, raises=True):
@@ -240,8 +243,9 @@ def main():
         show(RIGHT, names, raises=False)
         tracer.write("events/synthetic/tick/trigger", "hist:keys=n")
         tracer.line("mkdir instances/a")
-        for calls in (REFUSED, ELSEWHERE):
-            show(calls, names)
+        show(REFUSED, names)
+        tracer.write("trace", "")
+        show(ELSEWHERE, names, raises=False)
 
 
 main()

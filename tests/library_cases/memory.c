@@ -1,6 +1,6 @@
 /* Each call while memory is refused: its first allocation, its second and so on, until the call is done. A call that was refused has changed
- * nothing, and the next one may be done. A look at a pipe takes no memory. All that was given out has been given back after an open that was refused,
- * and after a close. Linked with --wrap=malloc, --wrap=realloc and --wrap=free. */
+ * nothing, and the next one may be done. A look at a pipe takes no memory. All that was given out has been given back after an open or a join that was
+ * refused, and after a close. Linked with --wrap=malloc, --wrap=realloc and --wrap=free. */
 #include <stdio.h>
 #include <string.h>
 
@@ -37,6 +37,8 @@ void __wrap_free(void *block) {
 
 static tracectl tracer = TRACECTL_CLOSED;
 
+static tracectl_thread thread = TRACECTL_LEFT;
+
 #define TEXT(text) (text), sizeof(text) - 1
 
 static uint32_t opened(void) {
@@ -44,75 +46,80 @@ static uint32_t opened(void) {
     return tracectl_open(&tracer, &settings);
 }
 
-static uint32_t declared(void) { return tracectl_append(&tracer, TEXT("synthetic_events"), TEXT("long_named_event u64 n; char who[16]")); }
+static uint32_t joined(void) { return tracectl_join(&tracer, &thread); }
 
-static uint32_t enabled(void) { return tracectl_line(&tracer, TEXT("echo 1 > events/synthetic/long_named_event/enable")); }
+static uint32_t declared(void) { return tracectl_append(&thread, TEXT("synthetic_events"), TEXT("long_named_event u64 n; char who[16]")); }
 
-static uint32_t filtered(void) { return tracectl_write(&tracer, TEXT("events/synthetic/long_named_event/filter"), TEXT("n > 2 && who ~ \"a*\"")); }
+static uint32_t enabled(void) { return tracectl_line(&thread, TEXT("echo 1 > events/synthetic/long_named_event/enable")); }
 
-static uint32_t counted(void) { return tracectl_write(&tracer, TEXT("events/synthetic/long_named_event/trigger"), TEXT("hist:keys=who,n:vals=n")); }
+static uint32_t filtered(void) { return tracectl_write(&thread, TEXT("events/synthetic/long_named_event/filter"), TEXT("n > 2 && who ~ \"a*\"")); }
 
-static uint32_t emitted(void) { return tracectl_emit(&tracer, TEXT("long_named_event"), 1, 7, TEXT("n=3\0who=a value of 15")); }
+static uint32_t counted(void) { return tracectl_write(&thread, TEXT("events/synthetic/long_named_event/trigger"), TEXT("hist:keys=who,n:vals=n")); }
+
+static uint32_t emitted(void) { return tracectl_emit(&thread, TEXT("long_named_event"), 1, 7, TEXT("n=3\0who=a value of 15")); }
 
 static uint32_t emitted_by_values(void) {
     tracectl_value values[] = {tracectl_unsigned(4), tracectl_bytes(TEXT("a value of 15"))};
-    return tracectl_emit_values(&tracer, 1, 0, 7, values, 2);
+    return tracectl_emit_values(&thread, 1, 0, 7, values, 2);
 }
 
-static uint32_t made(void) { return tracectl_line(&tracer, TEXT("mkdir instances/long_named_instance")); }
+static uint32_t made(void) { return tracectl_line(&thread, TEXT("mkdir instances/long_named_instance")); }
 
-static uint32_t swapped(void) { return tracectl_append(&tracer, TEXT("instances/long_named_instance/snapshot"), TEXT("1")); }
+static uint32_t swapped(void) { return tracectl_append(&thread, TEXT("instances/long_named_instance/snapshot"), TEXT("1")); }
 
-static uint32_t taken(void) { return tracectl_take(&tracer, TEXT("per_cpu/cpu1/trace_pipe"), 1); }
+static uint32_t taken(void) { return tracectl_take(&thread, TEXT("per_cpu/cpu1/trace_pipe"), 1); }
 
-static uint32_t read_hist(void) { return tracectl_read(&tracer, TEXT("events/synthetic/long_named_event/hist")); }
+static uint32_t read_hist(void) { return tracectl_read(&thread, TEXT("events/synthetic/long_named_event/hist")); }
 
-static uint32_t listed(void) { return tracectl_files(&tracer); }
+static uint32_t listed(void) { return tracectl_files(&thread); }
 
 /* Makes a call until it is done. Tells whether each refusal was one of memory, and left the history as it was. */
 static int is_done(const char *name, uint32_t (*call)(void)) {
-    uint64_t entries = tracectl_entries(&tracer);
+    uint64_t entries = tracectl_entries(&thread);
+    long before = kept;
     for (long count = 0;; count++) {
         left = count;
         uint32_t status = call();
         left = -1;
         if (status == TRACECTL_DONE) return printf("%s: done\n", name) > 0;
-        int leaks = call == opened && kept;
-        if (status != TRACECTL_MEMORY || tracectl_entries(&tracer) != entries || leaks) return printf("%s: status %u\n", name, (unsigned)status) < 0;
+        int leaks = (call == opened && kept) || (call == joined && kept != before);
+        if (status != TRACECTL_MEMORY || tracectl_entries(&thread) != entries || leaks) return printf("%s: status %u\n", name, (unsigned)status) < 0;
     }
 }
 
 /* Tells whether a look at a pipe came to this, took no memory, and left the history and the reply as they were. */
 static int tells(const char *pipe, size_t pipe_length, int32_t wanted) {
-    uint64_t entries = tracectl_entries(&tracer);
-    size_t reply_length = tracectl_reply_length(&tracer);
+    uint64_t entries = tracectl_entries(&thread);
+    size_t reply_length = tracectl_reply_length(&thread);
     left = 0;
-    int32_t waits = tracectl_waiting(&tracer, pipe, pipe_length);
+    int32_t waits = tracectl_waiting(&thread, pipe, pipe_length);
     int took = left != 0;
     left = -1;
-    int same = tracectl_entries(&tracer) == entries && tracectl_reply_length(&tracer) == reply_length;
+    int same = tracectl_entries(&thread) == entries && tracectl_reply_length(&thread) == reply_length;
     return printf("waiting in %s: %d%s%s\n", pipe, (int)waits, took ? ", took memory" : "", same ? "" : ", changed something") > 0
         && waits == wanted && !took && same;
 }
 
-/* Closes the tracer. Tells whether all memory was given back. */
+/* Leaves the tracer if it was joined, and closes it. Tells whether all memory was given back. */
 static int is_given_back(void) {
     long before = kept;
-    uint32_t status = tracectl_close(&tracer);
-    printf("close: status %u, %s before, %ld blocks after\n", (unsigned)status, before > 0 ? "some blocks" : "none", kept);
+    uint32_t left_with = tracectl_leave(&thread), status = tracectl_close(&tracer);
+    printf("leave: status %u, close: status %u, %s before, %ld blocks after\n", (unsigned)left_with, (unsigned)status, before > 0 ? "some blocks" : "none",
+           kept);
     return status == TRACECTL_DONE && before > 0 && !kept;
 }
 
 int main(void) {
-    int done = enabled() == TRACECTL_NOT_OPEN && listed() == TRACECTL_NOT_OPEN && tracectl_close(&tracer) == TRACECTL_NOT_OPEN
-        && tells(TEXT("trace_pipe"), -TRACECTL_NOT_OPEN)
-        && is_done("open", opened) && opened() == TRACECTL_ALREADY_OPEN && is_done("append", declared) && is_done("line", enabled) && is_done("write", filtered)
+    int done = enabled() == TRACECTL_NOT_JOINED && listed() == TRACECTL_NOT_JOINED && joined() == TRACECTL_NOT_OPEN
+        && tracectl_close(&tracer) == TRACECTL_NOT_OPEN && tells(TEXT("trace_pipe"), -TRACECTL_NOT_JOINED)
+        && is_done("open", opened) && opened() == TRACECTL_ALREADY_OPEN && enabled() == TRACECTL_NOT_JOINED
+        && is_done("join", joined) && joined() == TRACECTL_ALREADY_JOINED && is_done("append", declared) && is_done("line", enabled) && is_done("write", filtered)
         && is_done("trigger", counted) && tells(TEXT("trace_pipe"), 0) && is_done("emit", emitted) && is_done("emit_values", emitted_by_values)
         && tells(TEXT("trace_pipe"), 1) && tells(TEXT("per_cpu/cpu1/trace_pipe"), 1) && tells(TEXT("per_cpu/cpu0/trace_pipe"), 1)
         && tells(TEXT("per_cpu/cpu2/trace_pipe"), -20) && tells(TEXT("no_file"), -1) && tells(TEXT("trace"), -TRACECTL_BAD_VALUE)
         && tells(TEXT("instances/a/trace_pipe"), -18) && is_done("take", taken) && tells(TEXT("per_cpu/cpu1/trace_pipe"), 0) && is_done("read", read_hist) && is_done("files", listed)
         && is_done("mkdir", made) && is_done("snapshot", swapped);
-    printf("entries: %llu\n", (unsigned long long)tracectl_entries(&tracer));
+    printf("entries: %llu\n", (unsigned long long)tracectl_entries(&thread));
     done = is_given_back() && done;
     done = is_done("open", opened) && is_given_back() && done;
     return !done;

@@ -2,8 +2,8 @@
 
 A call with an argument that means nothing (drawing.py) has to raise TypeError or ValueError. Any other is made of a second tracer, too, by ctypes and
 from what its arguments mean, emissions by values there by text: both have to come to the same, and both tracers to have done as many commands, so that
-the calls which raised did none. A few are made in another thread, and have to raise RuntimeError. Ends with how many calls came to what, or with the
-first that came to something else, and status 1.
+the calls which raised did none. A few are made in another thread. Ends with how many calls came to what, or with the first that came to something
+else, and status 1.
 """
 import faulthandler
 import sys
@@ -39,16 +39,30 @@ class Library:
     """A second tracer: the functions of tracectl.h by ctypes, called by what arguments mean."""
 
     def __init__(self, path, *settings):
-        self.library, self.handle = CDLL(path), (c_uint64 * 2)()
+        self.library, self.tracer, self.thread = CDLL(path), (c_uint64 * 3)(), (c_uint64 * 1)()
         for name, kind in (("reply_length", c_size_t), ("reply", c_size_t), ("offset", c_size_t), ("entries", c_uint64), ("waiting", c_int32)):
             getattr(self.library, "tracectl_" + name).restype = kind
-        self.opened = self.ask("open", byref(Settings(*settings)))
+        self.opened = self.come(self.library.tracectl_open(self.tracer, byref(Settings(*settings))) or self.join())
+
+    def join(self):
+        return self.library.tracectl_join(self.tracer, self.thread)
+
+    def close(self):
+        if self.library.tracectl_leave(self.thread) or self.library.tracectl_close(self.tracer):
+            raise ValueError("the second tracer can't be closed")
+
+    @staticmethod
+    def come(status):
+        """What a call that has no reply comes to."""
+        return ("refused", status, NO_OFFSET, b"") if status else ("done", b"")
 
     def call(self, name, *words):
-        return getattr(self.library, "tracectl_" + name)(self.handle, *words)
+        return getattr(self.library, "tracectl_" + name)(self.thread, *words)
 
     def ask(self, name, *given):
-        """What a call comes to."""
+        """What a call comes to. Once it is closed, this thread can't join, as that of the module can't."""
+        if not self.thread[0]:
+            return self.come(self.join())
         words = []
         for each in given:
             words += [each, c_size_t(len(each))] if isinstance(each, bytes) else [each]
@@ -56,6 +70,15 @@ class Library:
         room = create_string_buffer(self.call("reply_length") + 1)
         count = self.call("reply", c_size_t(0), room, c_size_t(len(room)))
         return ("refused", status, self.call("offset"), room.raw[:count]) if status else ("done", room.raw[:count])
+
+    def waiting(self, path):
+        if not self.thread[0]:
+            return self.come(self.join())
+        waits = self.call("waiting", path, c_size_t(len(path)))
+        return self.come(-waits) if waits < 0 else ("done", waits == 1)
+
+    def entries(self):
+        return ("done", self.call("entries")) if self.thread[0] else self.come(self.join())
 
     def emit(self, event, pairs, place):
         cpu, process = (place[name].means if name in place else 0 for name in ("cpu", "process"))
@@ -94,12 +117,8 @@ def draw_take(drawing):
 
 
 def draw_waiting(drawing):
-    def look(second):
-        waits = second.call("waiting", path.means, c_size_t(len(path.means)))
-        return ("refused", -waits, NO_OFFSET, b"") if waits < 0 else ("done", waits == 1)
-
     path = drawing.string(PIPES + READ[:2])
-    return call_of([path], look)
+    return call_of([path], lambda second: second.waiting(path.means))
 
 
 def draw_number_of(drawing):
@@ -155,7 +174,8 @@ def draw_values(drawing):
 def draw_settings(drawing):
     def open_second(second):
         other = Library(environ["TRACECTL_LIBRARY"], *(each.means for each in drawn.values()))
-        other.call("close")
+        if other.thread[0]:
+            other.close()
         return without_reply(other.opened)
 
     drawn = {"cpus": drawing.number([1, 2, 8, 9, 0], 0, 2**32 - 1), "pages": drawing.number([2, 3, 1], 0, 2**32 - 1)}
@@ -212,8 +232,6 @@ def outcome(make):
         return ("refused", refused.status, NO_OFFSET if refused.offset is None else refused.offset, refused.reply)
     except (TypeError, ValueError):
         return (RAISED,)
-    except RuntimeError:
-        return ("RuntimeError",)
 
 
 class Run:
@@ -233,7 +251,7 @@ class Run:
 
     def close(self):
         self.tracer.close()
-        self.second.call("close")
+        self.second.close()
 
     def draw(self):
         """The name of a call, and the call."""
@@ -248,17 +266,15 @@ class Run:
         """Makes a call of both, and says what differs."""
         method = opened if name == "open" else getattr(self.tracer, name)
         make = partial(method, *call.given, **call.keywords)
-        if name != "open" and call.fits and self.drawing.chance(0.002):
-            got, want = elsewhere(make), ("RuntimeError",)
-        else:
-            got, want = outcome(make), call.second(self.second) if call.fits else (RAISED,)
+        got = elsewhere(make) if self.drawing.chance(0.002) else outcome(make)
+        want = call.second(self.second) if call.fits else (RAISED,)
         self.counts[want[0]] += 1
         if got != want:
             return "came to %r, expected %r" % (got, want)
         if call.fits and not self.drawing.chance(0.1):
             return ""
-        counts = self.tracer.entries(), self.second.call("entries")
-        return "" if counts[0] == counts[1] else "%d commands were done, expected %d" % counts
+        counts = outcome(self.tracer.entries), self.second.entries()
+        return "" if counts[0] == counts[1] else "commands: %r, expected %r" % counts
 
 
 def main(seed, count, each=""):

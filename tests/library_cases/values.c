@@ -12,14 +12,17 @@ enum { PROBE = 2, MOST_VALUES = 20 };
 #define SIGNED(number) tracectl_signed(number)
 #define BYTES(text) tracectl_bytes(TEXT(text))
 
-static tracectl given = TRACECTL_CLOSED, told = TRACECTL_CLOSED;
+static tracectl given_tracer = TRACECTL_CLOSED, told_tracer = TRACECTL_CLOSED;
+
+static tracectl_thread given = TRACECTL_LEFT, told = TRACECTL_LEFT;
 
 /* The two tracers have the same events: `tick`, and `probe`, whose number is 2. */
-static int begin(tracectl *tracer) {
+static int begin(tracectl *tracer, tracectl_thread *thread) {
     tracectl_settings settings = {.cpus = 2, .pages = 4, .page_bytes = 128, .history_limit = 0};
-    return !tracectl_open(tracer, &settings) && !tracectl_append(tracer, TEXT("synthetic_events"), TEXT("tick u64 n"))
-        && !tracectl_append(tracer, TEXT("synthetic_events"), TEXT("probe u64 n; s8 level; char who[8]"))
-        && !tracectl_write(tracer, TEXT("events/enable"), TEXT("1"));
+    return !tracectl_open(tracer, &settings) && !tracectl_join(tracer, thread)
+        && !tracectl_append(thread, TEXT("synthetic_events"), TEXT("tick u64 n"))
+        && !tracectl_append(thread, TEXT("synthetic_events"), TEXT("probe u64 n; s8 level; char who[8]"))
+        && !tracectl_write(thread, TEXT("events/enable"), TEXT("1"));
 }
 
 /* The last reply of both tracers, if it is the same. */
@@ -114,7 +117,8 @@ static int same_file(const char *path) {
 
 int main(void) {
     tracectl_value n = NUMBER(1);
-    int done = tracectl_emit_values(&given, 1, 0, 7, &n, 1) == TRACECTL_NOT_OPEN && begin(&given) && begin(&told);
+    int done = tracectl_emit_values(&given, 1, 0, 7, &n, 1) == TRACECTL_NOT_JOINED && begin(&given_tracer, &given)
+        && begin(&told_tracer, &told);
     done = done && right() && wrong() && many() && unknown() && unknown_kind() && same_file("trace") && same_file("per_cpu/cpu0/stats");
-    return tracectl_close(&given) || tracectl_close(&told) || !done;
+    return tracectl_leave(&given) || tracectl_leave(&told) || tracectl_close(&given_tracer) || tracectl_close(&told_tracer) || !done;
 }

@@ -1,217 +1,268 @@
--- What a console stands for after a call.
-use Rattle.std.proofs.Common.{◌≡◌, ◌≢◌, ℕ, ℤ, List, ◌∷◌, Option, Some, None, Result, Ok, Err, refl, ap, sym, subst, ◌∙◌}
-use Rattle.trace_command.specs.Requests.{Request, request_of}
+-- What a try leaves of a console.
+use Rattle.std.proofs.Common.{◌≡◌, ◌≢◌, ◌⊎◌, ◌<◌, ◌^◌, inl, inr, ℕ, true, false, List, length, Bool, Option, Some, None, Result, Ok, Err, IfOk, IfErr, IfSome, IsSome, refl, sym, ap, subst, ◌∙◌}
+use Rattle.std.specs.Arc.{arc_value}
+use Rattle.ticket_lock.specs.Calls.{HasLooked, IsWorn}
 use Rattle.trace_command.specs.Commands.{Command}
-use Rattle.trace_command.specs.declared.command.CommandOf.TheVariants.{Emit}
+use Rattle.trace_command.specs.Paths.{address_of}
+use Rattle.trace_command.specs.Requests.{Request}
 use Rattle.trace_command.specs.declared.command.Config.{Config}
+use Rattle.trace_command.specs.declared.command.Entry.{Entry}
 use Rattle.trace_command.specs.declared.command.Reply.{Reply}
-use Rattle.trace_command.specs.declared.command.Reply.TheVariants.{Done, Text}
 use Rattle.trace_command.specs.declared.refusal.Refusal.{Refusal}
-use Rattle.trace_command.specs.declared.refusal.Refusal.TheVariants.{Memory}
-use Rattle.trace_format.specs.declared.field_value.FieldValue.{FieldValue}
-use Rattle.trace_format.specs.declared.pair.Pair.{Pair}
-use Rattle.tracer_specification.specs.Settings.{declared_events}
+use Rattle.trace_command.specs.declared.refusal.Refusal.TheVariants.{Worn}
+use Rattle.tracer_specification.specs.History.{past_of, IsLegal}
+use Rattle.tracer_specification.specs.Waiting.{waiting}
+use Rattle.tracer_state.proofs.Histories.{length-past_of}
 use Rattle.tracer.specs.LiveSeen.{LiveSeen}
-use Rattle.tracer.specs.Lives.{IsCallWithin, IsLive, limited_answer}
-use Rattle.tracer_state.specs.ValueEmissions.{values_emission}
-use Rattle.trace_script.specs.Lines.{line_of}
-use Rattle.trace_script.specs.Outcomes.{Fails, or_fault}
-use Rattle.trace_script.specs.declared.fault.LineError.{LineError}
-use Rattle.trace_script.specs.declared.fault.LineError.TheVariants as errors
-use Rattle.trace_script.specs.declared.fault.ScriptFault.{ScriptFault}
-use Rattle.trace_script.specs.declared.fault.ScriptFault.TheVariants.{BlockOutOfPlace, WrongWords}
-use Rattle.trace_script.specs.declared.line.Line.{Line}
-use Rattle.trace_script.specs.declared.line.Line.TheVariants.{Ask, Blank, End, Parallel, Thread}
-use Rattle.trace_script.specs.declared.outcome.Outcome.{Outcome}
-use Rattle.trace_script.specs.declared.outcome.Outcome.TheVariants.{Fault, Refused, Replied}
-use Rattle.library_tracer.specs.ConsolesSeen.{ConsoleSeen}
-use Rattle.library_tracer.specs.Consoles.{Asked, ComesTo, NeedsNoMemory, StandsFor, after_command, after_emission, after_line, after_listing, after_pairs, after_read, after_request, after_values, answered, failed, outcome_of, with_last}
-use Rattle.library_tracer.specs.Fields.{fields_in, pairs_in}
-use Rattle.library_tracer.specs.ListedFiles.{files_after}
+use Rattle.tracer.specs.Lives.{IsLive}
+use Rattle.shared_book.specs.Asks.{GoesOn, IsDone, IsRefused}
+use Rattle.shared_book.specs.Bases.{numbers_of}
+use Rattle.shared_tracer.specs.SharedCallers.{calls_of, caller_view, config_of, line_calls, line_view, HasNoTurn, IsCallerOf, IsInLineOf, IsLookedAt, IsMade, NeedsNoMemory}
+use Rattle.shared_tracer.specs.declared.caller.Caller.{Caller}
+use Rattle.library_tracer.specs.ConsolesSeen.{ConsoleSeen, Known}
+use Rattle.library_tracer.specs.Consoles.{outcome_of, shows_waiting, HasSeen, IsAnswered, IsBusy, IsWornOut, Looks}
+use Rattle.library_tracer.specs.Inner.{known_by, known_in, seen, IsSound}
+use Rattle.library_tracer.specs.private.Told.{IsToldOf}
+use Rattle.library_tracer.specs.declared.console.Console.TheInside.{Inside}
+use Rattle.library_tracer.specs.declared.queued.Queued.{Queued}
+use Rattle.library_tracer.proofs.WaitingLimits.{any_waiting}
 
--- where a call left this tracer and told this
-standing : (before after : ConsoleSeen) (live : LiveSeen) (outcome : Outcome) (asked : Asked) (past : List Request) → live.config ≡ before.live.config
-    → after ≡ record before { live = live; last = outcome } → StandsFor before asked → IsLive live.config past live
-    → StandsFor after (record asked { past = past; last = outcome })
-standing before after live outcome asked past config is stands lives =
-    subst (λ (c : ConsoleSeen). StandsFor c (record asked { past = past; last = outcome })) (sym is) (record {
-      config = config ∙ stands.config;
-      limit = stands.limit;
-      lives = lives;
-      last = refl;
-    })
+-- ---- by fields
 
-last_is : (before after : ConsoleSeen) (live : LiveSeen) (outcome : Outcome) → after ≡ record before { live = live; last = outcome } → after.last ≡ outcome
-last_is before after live outcome is = ap (λ (c : ConsoleSeen). c.last) is
+abbrev config_in : Inside → Config
+config_in i = config_of (arc_value i.tracer)
 
--- ---- what is no command
-
--- this was told
-pub only_told : (outcome : Outcome) (expected : Asked → Asked) (before after : ConsoleSeen) → after ≡ record before { last = outcome }
-    → ((asked : Asked) → StandsFor before asked → expected asked ≡ with_last outcome asked) → ComesTo expected before after
-only_told outcome expected before after is same = record {
-  told = λ asked stands other. subst (StandsFor after) (sym (same asked stands)) (stays asked stands);
-  memory = λ asked stands e.
-      subst (λ (o : Outcome). StandsFor after (with_last o asked)) (sym (last_is before after before.live outcome is) ∙ e) (stays asked stands);
+-- a console whose caller knows this
+abbrev pub knowing : Inside → Known → Bool → ConsoleSeen
+knowing i known in_line = record {
+  tracer = (arc_value i.tracer).lock.table.shared.table_id;
+  config = config_in i;
+  has = Some known;
+  is_in_line = in_line;
+  last = i.last;
 }
+
+-- one that is idle is not in line
+not_in_line : (i : Inside) (caller : Caller) → i.idle ≡ Some caller → IsSound i → i.queued ≡ None
+not_in_line i caller e sound = sound.one (subst (λ o. IsSome o) (sym e) refl)
+
+idle_is : (i : Inside) (caller : Caller) → i.idle ≡ Some caller → IsSound i → seen i ≡ knowing i (known_by caller) false
+idle_is i caller e sound =
+    ap (λ o. seen (record i { idle = o })) e ∙ ap (λ q. seen (record i { idle = Some caller; queued = q })) (not_in_line i caller e sound)
+
+still_idle : (i : Inside) (caller next : Caller) → i.idle ≡ Some caller → IsSound i → seen (record i { idle = Some next }) ≡ knowing i (known_by next) false
+still_idle i caller next e sound = ap (λ q. seen (record i { idle = Some next; queued = q })) (not_in_line i caller e sound)
+
+-- and one that is in line is not idle
+not_idle : (i : Inside) (queued : Queued) → i.queued ≡ Some queued → IsSound i → i.idle ≡ None
+not_idle i queued e sound = by i.idle sound.one
   where
-    stays : (asked : Asked) → StandsFor before asked → StandsFor after (with_last outcome asked)
-    stays asked stands = standing before after before.live outcome asked asked.past refl is stands stands.lives
+    by : (idle : Option Caller) → (IsSome idle → i.queued ≡ None) → idle ≡ None
+    by None one = refl
+    by (Some caller) one = let none : i.queued ≡ None = one refl in absurd (cc)
 
--- memory was refused
-pub without_memory : (expected : Asked → Asked) (before after : ConsoleSeen) → after ≡ record before { last = Refused Memory }
-    → ComesTo expected before after
-without_memory expected before after is = record {
-  told = λ asked stands other. absurd (other (last_is before after before.live (Refused Memory) is));
-  memory = λ asked stands e. standing before after before.live (Refused Memory) asked asked.past refl is stands stands.lives;
-}
+line_is : (i : Inside) (queued : Queued) → i.queued ≡ Some queued → IsSound i → seen i ≡ knowing i (known_in queued) true
+line_is i queued e sound =
+    ap (λ q. seen (record i { queued = q })) e ∙ ap (λ o. seen (record i { idle = o; queued = Some queued })) (not_idle i queued e sound)
 
--- the list of the files was told
-pub files_told : (text : List ℕ) (before after : ConsoleSeen) → after ≡ record before { last = Replied (Text text) }
-    → ((past : List Request) → IsLive before.live.config past before.live → text ≡ files_after before.live.config past)
-    → ComesTo after_listing before after
-files_told text before after is files =
-    only_told (Replied (Text text)) after_listing before after is (λ asked stands.
-    ap (λ (t : List ℕ). with_last (Replied (Text t)) asked)
-    (ap (λ (g : Config). files_after g asked.past) (sym stands.config) ∙ sym (files asked.past stands.lives)))
+still_in_line : (i : Inside) (queued next : Queued) → i.queued ≡ Some queued → IsSound i → seen (record i { queued = Some next }) ≡ knowing i (known_in next) true
+still_in_line i queued next e sound = ap (λ o. seen (record i { idle = o; queued = Some next })) (not_idle i queued e sound)
 
--- ---- a command
-
--- the answer that the tracer gives is the one that what was asked gives
-same-answer : (before : ConsoleSeen) (live : LiveSeen) (asked : Asked) (request : Request) → live.config ≡ before.live.config → StandsFor before asked
-    → limited_answer asked.limit asked.config asked.past request ≡ limited_answer before.limit live.config asked.past request
-same-answer before live asked request config stands =
-    ap (λ (n : ℕ). limited_answer n asked.config asked.past request) (sym stands.limit)
-    ∙ ap (λ (g : Config). limited_answer before.limit g asked.past request) (sym (config ∙ stands.config))
-
--- a request that what was asked before says
-pub request_comes : (request_of : List Request → Request) (before after : ConsoleSeen) (live : LiveSeen) (answer : Result Reply Refusal)
-    → live.config ≡ before.live.config → after ≡ record before { live = live; last = outcome_of answer }
-    → ((past : List Request) → IsLive before.live.config past before.live → IsCallWithin before.limit past live (request_of past) answer)
-    → ComesTo (λ asked. after_request (request_of asked.past) asked) before after
-request_comes request_of before after live (Ok reply) config is call = record {
-  told = λ asked stands other.
-      let request = request_of asked.past in
-      let done = call asked.past stands.lives in
-      subst (λ (r : Result Reply Refusal). StandsFor after (answered r request asked))
-      (sym (same-answer before live asked request config stands ∙ done.reply))
-      (standing before after live (Replied reply) asked (request ∷ asked.past) config is stands done.done);
-  memory = λ asked stands e. let told : after.last ≡ Replied reply = last_is before after live (Replied reply) is in absurd (cc);
-}
-request_comes request_of before after live (Err refusal) config is call =
-    let told : after.last ≡ Refused refusal = last_is before after live (Refused refusal) is in
-    let stays : (asked : Asked) → StandsFor before asked → StandsFor after (with_last (Refused refusal) asked) = λ asked stands.
-    standing before after live (Refused refusal) asked asked.past config is stands (call asked.past stands.lives).refused in record {
-      told = λ asked stands other.
-          let request = request_of asked.past in
-          let differs : refusal ≢ Memory = λ same. other (told ∙ ap Refused same) in
-          subst (λ (r : Result Reply Refusal). StandsFor after (answered r request asked))
-          (sym (same-answer before live asked request config stands ∙ (call asked.past stands.lives).reply differs)) (stays asked stands);
-      memory = λ asked stands e. subst (λ (o : Outcome). StandsFor after (with_last o asked)) (sym told ∙ e) (stays asked stands);
-    }
-
-pub command_comes : (command : Command) (before after : ConsoleSeen) (live : LiveSeen) (answer : Result Reply Refusal)
-    → live.config ≡ before.live.config → after ≡ record before { live = live; last = outcome_of answer }
-    → ((past : List Request) → IsLive before.live.config past before.live → IsCallWithin before.limit past live (request_of command) answer)
-    → ComesTo (after_command command) before after
-command_comes command before after live answer config is call = request_comes (λ past. request_of command) before after live answer config is call
-
--- one that takes no memory
-pub command_needs_none : (command : Command) (before after : ConsoleSeen) (live : LiveSeen) (answer : Result Reply Refusal)
-    → live.config ≡ before.live.config → after ≡ record before { live = live; last = outcome_of answer }
-    → ((past : List Request) → IsLive before.live.config past before.live → IsCallWithin before.limit past live (request_of command) answer)
-    → NeedsNoMemory command before after
-command_needs_none command before after live (Ok reply) config is call asked stands none =
-    let request = request_of command in
-    let done = call asked.past stands.lives in
-    subst (λ (r : Result Reply Refusal). StandsFor after (answered r request asked)) (done.takes_none none ∙ sym (same-answer before live asked request config stands))
-    (standing before after live (Replied reply) asked (request ∷ asked.past) config is stands done.done)
-command_needs_none command before after live (Err refusal) config is call asked stands none =
-    let request = request_of command in
-    let done = call asked.past stands.lives in
-    subst (λ (r : Result Reply Refusal). StandsFor after (answered r request asked)) (done.takes_none none ∙ sym (same-answer before live asked request config stands))
-    (standing before after live (Refused refusal) asked asked.past config is stands done.refused)
-
-pub values_come : (event cpu : ℕ) (pid : ℤ) (values : List FieldValue) (before after : ConsoleSeen) (live : LiveSeen) (answer : Result Reply Refusal)
-    → live.config ≡ before.live.config → after ≡ record before { live = live; last = outcome_of answer }
-    → ((past : List Request) → IsLive before.live.config past before.live
-    → IsCallWithin before.limit past live (values_emission (declared_events past) event cpu pid values) answer)
-    → ComesTo (after_values event cpu pid values) before after
-values_come event cpu pid values before after live answer config is call =
-    request_comes (λ past. values_emission (declared_events past) event cpu pid values) before after live answer config is call
-
--- ---- a line
-
--- a line was read so, which comes to this
-pub line_comes : (line : List ℕ) (read : Result Line ScriptFault) (before after : ConsoleSeen) → line_of line ≡ read → ComesTo (after_read read) before after
-    → ComesTo (after_line line) before after
-line_comes line read before after is comes = subst (λ (r : Result Line ScriptFault). ComesTo (after_read r) before after) (sym is) comes
-
-pub asking_line : (line : List ℕ) (command : Command) (before after : ConsoleSeen) → line_of line ≡ Ok (Ask command)
-    → ComesTo (after_command command) before after → ComesTo (after_line line) before after
-asking_line line command before after is comes = line_comes line (Ok (Ask command)) before after is comes
-
-pub blank_line : (line : List ℕ) (before after : ConsoleSeen) → line_of line ≡ Ok Blank → after ≡ record before { last = Replied Done }
-    → ComesTo (after_line line) before after
-blank_line line before after is told =
-    line_comes line (Ok Blank) before after is (only_told (Replied Done) (after_read (Ok Blank)) before after told (λ asked stands. refl))
-
--- a line of a parallel part
-abbrev pub IsOfPart : Line → Type 0
-IsOfPart Blank = ⊥
-IsOfPart (Ask command) = ⊥
-IsOfPart Parallel = Unit {0}
-IsOfPart Thread = Unit {0}
-IsOfPart End = Unit {0}
-
-pub part_line : (line : List ℕ) (read : Line) (before after : ConsoleSeen) → line_of line ≡ Ok read → IsOfPart read
-    → after ≡ record before { last = Fault BlockOutOfPlace } → ComesTo (after_line line) before after
-part_line line read before after is of told =
-    line_comes line (Ok read) before after is (only_told (Fault BlockOutOfPlace) (after_read (Ok read)) before after told (λ asked stands. by read of asked))
+-- the numbers of the tracer that a caller knows
+idle_base : (i : Inside) (caller : Caller) → i.idle ≡ Some caller → IsSound i → (caller_view caller).base ≡ numbers_of (config_in i)
+idle_base i caller e sound = by i.idle e sound.idle
   where
-    by : (r : Line) → IsOfPart r → (asked : Asked) → after_read (Ok r) asked ≡ with_last (Fault BlockOutOfPlace) asked
-    by Blank of asked = absurd of
-    by (Ask command) of asked = absurd of
-    by Parallel of asked = refl
-    by Thread of asked = refl
-    by End of asked = refl
+    by : (idle : Option Caller) → idle ≡ Some caller → IfSome idle (IsCallerOf (arc_value i.tracer)) → (caller_view caller).base ≡ numbers_of (config_in i)
+    by None e of = absurd (cc)
+    by (Some other) e of = let same : other ≡ caller = cc in subst (λ c. (caller_view c).base ≡ numbers_of (config_in i)) same of.asks.base
 
--- a line that is wrong, or for which memory was refused
-pub unread_line : (line : List ℕ) (error : LineError) (before after : ConsoleSeen) → Fails error (line_of line)
-    → after ≡ record before { last = failed error } → ComesTo (after_line line) before after
-unread_line line (errors.Fault fault) before after is told =
-    line_comes line (Err fault) before after is (only_told (Fault fault) (after_read (Err fault)) before after told (λ asked stands. refl))
-unread_line line errors.Memory before after is told = without_memory (after_line line) before after told
+line_base : (i : Inside) (queued : Queued) → i.queued ≡ Some queued → IsSound i → (line_view queued.line).base ≡ numbers_of (config_in i)
+line_base i queued e sound = by i.queued e sound.in_line
+  where
+    by : (was : Option Queued) → was ≡ Some queued → IfSome was (λ queued. IsInLineOf (arc_value i.tracer) queued.line)
+        → (line_view queued.line).base ≡ numbers_of (config_in i)
+    by None e of = absurd (cc)
+    by (Some other) e of = let same : other ≡ queued = cc in subst (λ q. (line_view q.line).base ≡ numbers_of (config_in i)) same of.asks.base
 
--- ---- an emission
+-- ---- nothing was run
 
-some-pairs : (read : Option (List Pair)) (pairs : List Pair) → or_fault WrongWords read ≡ Ok pairs → read ≡ Some pairs
-some-pairs None pairs is = absurd (cc)
-some-pairs (Some other) pairs is = cc
+busy : (i : Inside) (was now : Known) (in_line : Bool) (before after : ConsoleSeen) → before ≡ knowing i was in_line → after ≡ knowing i now in_line
+    → HasLooked was.view now.view ⊎ (now.view ≡ was.view) → now.calls ≡ was.calls → (in_line ≡ false → now.view.front < 2 ^ 63) → IsBusy before after
+busy i was now in_line before after before_is after_is view calls tickets =
+    subst (λ b. IsBusy b after) (sym before_is)
+    (subst (λ a. IsBusy (knowing i was in_line) a) (sym after_is)
+    (record { was = was; now = now; had = refl; left = refl; view = view; calls = calls; tickets = tickets }))
 
-no-pairs : (read : Option (List Pair)) (fault : ScriptFault) → or_fault WrongWords read ≡ Err fault → (read ≡ None) × (WrongWords ≡ fault)
-no-pairs None fault is = (refl, cc)
-no-pairs (Some other) fault is = absurd (cc)
+pub idle_busy : (i : Inside) (caller next : Caller) → i.idle ≡ Some caller → IsSound i → HasNoTurn (caller_view caller) (caller_view next)
+    → calls_of next ≡ calls_of caller → IsBusy (seen i) (seen (record i { idle = Some next }))
+idle_busy i caller next e sound looked calls =
+    busy i (known_by caller) (known_by next) false _ _ (idle_is i caller e sound) (still_idle i caller next e sound) (inl looked.0) calls
+    (λ out. looked.1)
 
-pub emission_asked : (event : List ℕ) (cpu : ℕ) (pid : ℤ) (fields : List ℕ) (pairs : List Pair) (before after : ConsoleSeen)
-    → or_fault WrongWords (pairs_in (fields_in fields)) ≡ Ok pairs → ComesTo (after_command (Emit event cpu pid pairs)) before after
-    → ComesTo (after_emission event cpu pid fields) before after
-emission_asked event cpu pid fields pairs before after is comes =
-    subst (λ (read : Option (List Pair)). ComesTo (after_pairs event cpu pid read) before after) (sym (some-pairs (pairs_in (fields_in fields)) pairs is)) comes
+pub line_busy : (i : Inside) (queued next : Queued) → i.queued ≡ Some queued → IsSound i → line_view next.line ≡ line_view queued.line
+    → line_calls next.line ≡ line_calls queued.line → IsBusy (seen i) (seen (record i { queued = Some next }))
+line_busy i queued next e sound same calls =
+    busy i (known_in queued) (known_in next) true _ _ (line_is i queued e sound) (still_in_line i queued next e sound) (inr same) calls
+    (λ out. absurd (cc))
 
--- one of a lone field
-pub lone_asked : (event : List ℕ) (cpu : ℕ) (pid : ℤ) (fields : List ℕ) (pairs : List Pair) (before after : ConsoleSeen)
-    → pairs_in (fields_in fields) ≡ Some pairs → ComesTo (after_command (Emit event cpu pid pairs)) before after
-    → ComesTo (after_emission event cpu pid fields) before after
-lone_asked event cpu pid fields pairs before after is comes =
-    subst (λ (read : Option (List Pair)). ComesTo (after_pairs event cpu pid read) before after) (sym is) comes
+-- ---- an answer
 
--- one whose fields are no pairs, or for which memory was refused
-pub emission_unread : (event : List ℕ) (cpu : ℕ) (pid : ℤ) (fields : List ℕ) (error : LineError) (before after : ConsoleSeen)
-    → Fails error (or_fault WrongWords (pairs_in (fields_in fields))) → after ≡ record before { last = failed error }
-    → ComesTo (after_emission event cpu pid fields) before after
-emission_unread event cpu pid fields (errors.Fault fault) before after is told =
-    let none = no-pairs (pairs_in (fields_in fields)) fault is in
-    subst (λ (read : Option (List Pair)). ComesTo (after_pairs event cpu pid read) before after) (sym none.0)
-    (only_told (Fault fault) (after_pairs event cpu pid None) before after told (λ asked stands. ap (λ (f : ScriptFault). with_last (Fault f) asked) none.1))
-emission_unread event cpu pid fields errors.Memory before after is told = without_memory (after_emission event cpu pid fields) before after told
+-- what an answer to a command says of the caller
+pub record HasAnswer (config : Config) (command : List Entry → Command) (answer : Result Reply Refusal) (was now : Known) : Type 0 where
+  pub goes_on : GoesOn was.view now.view
+  pub done : IfOk answer (IsDone was.view now.view (command now.view.seen))
+  pub refused : IfErr answer (IsRefused was.view now.view (command now.view.seen))
+  pub legal : IsLegal config was.view.seen → IsLegal config now.view.seen
+  pub takes_none : IfErr answer (NeedsNoMemory config now.view (command now.view.seen))
+  pub made : IsMade was.view now.view (command now.view.seen) answer was.calls now.calls
+
+answered : (i : Inside) (was now : Known) (in_line : Bool) (command : List Entry → Command) (answer : Result Reply Refusal) (before mid after : ConsoleSeen)
+    → before ≡ knowing i was in_line → mid ≡ knowing i now false → after ≡ record mid { last = outcome_of answer }
+    → was.view.base ≡ numbers_of (config_in i) → HasAnswer (config_in i) command answer was now → (in_line ≡ true → answer ≢ Err Worn)
+    → IsAnswered command answer before after
+answered i was now in_line command answer before mid after before_is mid_is after_is base has unworn =
+    let told : ConsoleSeen → ConsoleSeen = λ c. record c { last = outcome_of answer } in
+    let left : after ≡ told (knowing i now false) = after_is ∙ ap told mid_is in
+    subst (λ b. IsAnswered command answer b after) (sym before_is)
+    (subst (λ a. IsAnswered command answer (knowing i was in_line) a) (sym left) (record {
+      was = was;
+      now = now;
+      had = refl;
+      left = refl;
+      base = base;
+      goes_on = has.goes_on;
+      done = has.done;
+      refused = has.refused;
+      legal = has.legal;
+      takes_none = has.takes_none;
+      made = has.made;
+      unworn = unworn;
+    }))
+
+pub idle_answered : (i : Inside) (caller next : Caller) (command : List Entry → Command) (answer : Result Reply Refusal) (after : ConsoleSeen)
+    → i.idle ≡ Some caller → IsSound i → after ≡ record (seen (record i { idle = Some next })) { last = outcome_of answer }
+    → HasAnswer (config_in i) command answer (known_by caller) (known_by next) → IsAnswered command answer (seen i) after
+idle_answered i caller next command answer after e sound is has =
+    answered i (known_by caller) (known_by next) false command answer _ _ after (idle_is i caller e sound) (still_idle i caller next e sound) is
+    (idle_base i caller e sound) has (λ in_line. absurd (cc))
+
+pub line_answered : (i : Inside) (queued : Queued) (next : Caller) (command : List Entry → Command) (answer : Result Reply Refusal) (after : ConsoleSeen)
+    → i.queued ≡ Some queued → IsSound i → after ≡ record (seen (record i { idle = Some next; queued = None })) { last = outcome_of answer }
+    → HasAnswer (config_in i) command answer (known_in queued) (known_by next) → answer ≢ Err Worn → IsAnswered command answer (seen i) after
+line_answered i queued next command answer after e sound is has unworn =
+    answered i (known_in queued) (known_by next) true command answer _ _ after (line_is i queued e sound) refl is (line_base i queued e sound) has
+    (λ in_line. unworn)
+
+-- ---- a look
+
+looked : {A : Type 0} (i : Inside) (was now : Known) (in_line : Bool) (tells : LiveSeen → A → Type 0) (answer : A) (before after : ConsoleSeen)
+    → before ≡ knowing i was in_line → after ≡ knowing i now false → was.view.base ≡ numbers_of (config_in i)
+    → IsLookedAt (config_in i) tells was.view now.view answer → now.calls ≡ was.calls
+    → HasSeen (λ entries. IsToldOf before.config tells entries answer) before after
+looked i was now in_line tells answer before after before_is after_is base look calls =
+    subst (λ b. HasSeen (λ entries. IsToldOf b.config tells entries answer) b after) (sym before_is)
+    (subst (λ a. HasSeen (λ entries. IsToldOf (config_in i) tells entries answer) (knowing i was in_line) a) (sym after_is) (record {
+      was = was;
+      now = now;
+      had = refl;
+      left = refl;
+      base = base;
+      goes_on = look.goes_on;
+      rises = look.rises;
+      undone = look.undone;
+      calls = calls;
+      shown_is = record { tracer = look.tracer; config = look.config; lives = look.lives; told = look.told };
+    }))
+
+pub idle_looked : {A : Type 0} (i : Inside) (caller next : Caller) (tells : LiveSeen → A → Type 0) (answer : A) → i.idle ≡ Some caller → IsSound i
+    → IsLookedAt (config_in i) tells (caller_view caller) (caller_view next) answer → calls_of next ≡ calls_of caller
+    → HasSeen (λ entries. IsToldOf (seen i).config tells entries answer) (seen i) (seen (record i { idle = Some next }))
+idle_looked i caller next tells answer e sound look calls =
+    looked i (known_by caller) (known_by next) false tells answer _ _ (idle_is i caller e sound) (still_idle i caller next e sound)
+    (idle_base i caller e sound) look calls
+
+pub line_looked : {A : Type 0} (i : Inside) (queued : Queued) (next : Caller) (tells : LiveSeen → A → Type 0) (answer : A) → i.queued ≡ Some queued → IsSound i
+    → IsLookedAt (config_in i) tells (line_view queued.line) (caller_view next) answer → calls_of next ≡ line_calls queued.line
+    → HasSeen (λ entries. IsToldOf (seen i).config tells entries answer) (seen i) (seen (record i { idle = Some next; queued = None }))
+line_looked i queued next tells answer e sound look calls =
+    looked i (known_in queued) (known_by next) true tells answer _ _ (line_is i queued e sound) refl (line_base i queued e sound) look calls
+
+worn : (i : Inside) (was now : Known) (before after : ConsoleSeen) → before ≡ knowing i was false → after ≡ knowing i now false
+    → IsWorn was.view now.view → now.calls ≡ was.calls → IsWornOut before after
+worn i was now before after before_is after_is is calls =
+    subst (λ b. IsWornOut b after) (sym before_is)
+    (subst (λ a. IsWornOut (knowing i was false) a) (sym after_is)
+    (record { was = was; now = now; had = refl; left = refl; worn = is; calls = calls }))
+
+pub idle_worn : (i : Inside) (caller next : Caller) → i.idle ≡ Some caller → IsSound i → IsWorn (caller_view caller) (caller_view next)
+    → calls_of next ≡ calls_of caller → IsWornOut (seen i) (seen (record i { idle = Some next }))
+idle_worn i caller next e sound is calls =
+    worn i (known_by caller) (known_by next) _ _ (idle_is i caller e sound) (still_idle i caller next e sound) is calls
+
+-- either
+pub idle_look : {A : Type 0} (i : Inside) (caller next : Caller) (tells : LiveSeen → A → Type 0) (answer : Result A Refusal) → i.idle ≡ Some caller → IsSound i
+    → IfOk answer (IsLookedAt (config_in i) tells (caller_view caller) (caller_view next))
+    → IfErr answer (λ refused. (refused ≡ Worn) × IsWorn (caller_view caller) (caller_view next)) → calls_of next ≡ calls_of caller
+    → Looks (IsToldOf (seen i).config tells) (seen i) (seen (record i { idle = Some next })) (Some answer)
+idle_look i caller next tells (Ok answer) e sound look refused calls = idle_looked i caller next tells answer e sound look calls
+idle_look i caller next tells (Err refusal) e sound look refused calls = (refused.0, idle_worn i caller next e sound refused.1 calls)
+
+-- what is shown says something else
+pub seen_as : (one other : List Entry → Type 0) → ((entries : List Entry) → one entries → other entries) → (before after : ConsoleSeen)
+    → HasSeen one before after → HasSeen other before after
+seen_as one other to before after h = record {
+  was = h.was;
+  now = h.now;
+  had = h.had;
+  left = h.left;
+  base = h.base;
+  goes_on = h.goes_on;
+  rises = h.rises;
+  undone = h.undone;
+  calls = h.calls;
+  shown_is = to h.now.view.seen h.shown_is;
+}
+
+-- how many commands were done
+abbrev tells_done : LiveSeen → ℕ → Type 0
+tells_done live count = (past : List Request) → IsLive live.config past live → count ≡ length past
+
+pub done_seen : (before after : ConsoleSeen) (told : Option (Result ℕ Refusal)) → Looks (IsToldOf before.config tells_done) before after told
+    → Looks (λ entries count. count ≡ length entries) before after told
+done_seen before after None looks = looks
+done_seen before after (Some (Err refusal)) looks = looks
+done_seen before after (Some (Ok count)) looks =
+    seen_as (λ entries. IsToldOf before.config tells_done entries count) (λ entries. count ≡ length entries)
+    (λ entries told. told.told (past_of entries) told.lives ∙ length-past_of entries) before after looks
+
+-- whether a record waits
+abbrev tells_waiting : List ℕ → LiveSeen → Result Bool Refusal → Type 0
+tells_waiting path live waits =
+    (past : List Request) → IsLive live.config past live → waits ≡ waiting live.config past (address_of path).instance (address_of path).file
+
+pub waiting_seen : (path : List ℕ) (waits : Result Bool Refusal) (before after : ConsoleSeen)
+    → HasSeen (λ entries. IsToldOf before.config (tells_waiting path) entries waits) before after
+    → HasSeen (λ entries. shows_waiting before.config path entries waits) before after
+waiting_seen path waits before after looks =
+    seen_as (λ entries. IsToldOf before.config (tells_waiting path) entries waits) (λ entries. shows_waiting before.config path entries waits)
+    (λ entries told.
+    let a = address_of path in
+    told.told (past_of entries) told.lives
+    ∙ sym (any_waiting before.config.history_limit told.tracer.config a.instance (past_of entries) a.file)
+    ∙ ap (λ (g : Config). waiting g (past_of entries) a.instance a.file) (sym told.config)) before after looks
+
+-- ---- a ticket
+
+pub drawn : (i : Inside) (caller : Caller) (next : Queued) → i.idle ≡ Some caller → IsSound i → HasLooked (caller_view caller) (line_view next.line)
+    → line_calls next.line ≡ calls_of caller → IsBusy (record (seen i) { is_in_line = true }) (seen (record i { idle = None; queued = Some next }))
+drawn i caller next e sound looked calls =
+    busy i (known_by caller) (known_in next) true _ _ (ap (λ (c : ConsoleSeen). record c { is_in_line = true }) (idle_is i caller e sound)) refl
+    (inl looked) calls (λ out. absurd (cc))
+
+pub not_drawn : (i : Inside) (caller next : Caller) → i.idle ≡ Some caller → IsSound i
+    → HasNoTurn (caller_view caller) (caller_view next) ⊎ IsWorn (caller_view caller) (caller_view next) → calls_of next ≡ calls_of caller
+    → IsBusy (record (seen i) { is_in_line = false }) (seen (record i { idle = Some next })) ⊎ IsWornOut (seen i) (seen (record i { idle = Some next }))
+not_drawn i caller next e sound (inl looked) calls =
+    inl (busy i (known_by caller) (known_by next) false _ _ (ap (λ (c : ConsoleSeen). record c { is_in_line = false }) (idle_is i caller e sound))
+    (still_idle i caller next e sound) (inl looked.0) calls (λ out. looked.1))
+not_drawn i caller next e sound (inr is) calls = inr (idle_worn i caller next e sound is calls)

@@ -1,19 +1,21 @@
--- What a call of a console comes to, and what it leaves: said of what the console was asked before, whatever that was.
-use Rattle.std.specs.Prelude.{◌≡◌, ◌≢◌, ℕ, ℤ, List, [], ◌∷◌, Option, Some, None, Result, Ok, Err}
-use Rattle.trace_command.specs.Requests.{Request, request_of}
+-- What a try of a console's call comes to: said by what its caller knew before it, and knows after it.
+use Rattle.std.specs.Prelude.{◌≡◌, ◌≢◌, ◌⊎◌, ◌<◌, ◌^◌, ℕ, ℤ, Bool, true, false, List, Option, Some, None, Result, Ok, Err, IfOk, IfErr}
+use Rattle.ticket_lock.specs.Calls.{HasLooked, IsWorn}
 use Rattle.trace_command.specs.Commands.{Command}
 use Rattle.trace_command.specs.declared.command.CommandOf.TheVariants.{Emit}
-use Rattle.trace_command.specs.declared.command.Config.{Config}
+use Rattle.trace_command.specs.declared.command.Entry.{Entry}
 use Rattle.trace_command.specs.declared.command.Reply.{Reply}
 use Rattle.trace_command.specs.declared.command.Reply.TheVariants.{Done, Text}
+use Rattle.trace_command.specs.declared.command.Config.{Config}
+use Rattle.trace_command.specs.Paths.{address_of}
 use Rattle.trace_command.specs.declared.refusal.Refusal.{Refusal}
-use Rattle.trace_command.specs.declared.refusal.Refusal.TheVariants.{Memory}
+use Rattle.trace_command.specs.declared.refusal.Refusal.TheVariants.{Memory, Worn}
+use Rattle.trace_format.specs.Catalogs.{event_of}
 use Rattle.trace_format.specs.declared.field_value.FieldValue.{FieldValue}
 use Rattle.trace_format.specs.declared.pair.Pair.{Pair}
+use Rattle.tracer_specification.specs.History.{IsLegal, past_of}
 use Rattle.tracer_specification.specs.Settings.{declared_events}
-use Rattle.trace_instance.specs.MemoryTaken.{TakesNoMemory}
-use Rattle.tracer.specs.Lives.{IsLive, limited_answer}
-use Rattle.tracer_state.specs.ValueEmissions.{values_emission}
+use Rattle.tracer_specification.specs.Waiting.{waiting}
 use Rattle.trace_script.specs.Lines.{line_of}
 use Rattle.trace_script.specs.declared.fault.LineError.{LineError}
 use Rattle.trace_script.specs.declared.fault.LineError.TheVariants as errors
@@ -23,101 +25,176 @@ use Rattle.trace_script.specs.declared.line.Line.{Line}
 use Rattle.trace_script.specs.declared.line.Line.TheVariants.{Blank, Ask, Parallel, Thread, End}
 use Rattle.trace_script.specs.declared.outcome.Outcome.{Outcome}
 use Rattle.trace_script.specs.declared.outcome.Outcome.TheVariants.{Replied, Refused, Fault}
-use Rattle.library_tracer.specs.ConsolesSeen.{ConsoleSeen}
+use Rattle.shared_book.specs.Asks.{GoesOn, Rises, IsDone, IsRefused, IsUndone}
+use Rattle.shared_book.specs.Bases.{numbers_of}
+use Rattle.shared_tracer.specs.AskedCommands.{numbered_emission}
+use Rattle.shared_tracer.specs.SharedCallers.{config_of, IsMade, NeedsNoMemory}
+use Rattle.shared_tracer.specs.declared.shared.SharedTracer.{SharedTracer}
+use Rattle.library_tracer.specs.ConsolesSeen.{ConsoleSeen, Known}
 use Rattle.library_tracer.specs.Fields.{fields_in, pairs_in}
 use Rattle.library_tracer.specs.ListedFiles.{files_after}
+use Rattle.library_tracer.specs.Statuses.{status_of}
+use Rattle.library_tracer.specs.declared.console.Tried.{Tried}
+use Rattle.library_tracer.specs.declared.console.Tried.TheVariants.{Told, Busy}
 
--- ---- what was asked
+-- ---- what a call asks
 
--- what a console was made with, how many commands it does at most, which requests were done, the newest first, and what the last call came to
-pub record Asked : Type 0 where
-  pub config : Config
-  pub limit : ℕ
-  pub past : List Request
-  pub last : Outcome
+-- Nothing is asked, and this is told; or this command is asked, of a tracer with these entries.
+pub data Said : Type 0 where
+  Tells : Outcome → Said
+  Asks : (List Entry → Command) → Said
 
--- nothing yet
-abbrev pub opened : Config → ℕ → Asked
-opened config limit = record { config = config; limit = limit; past = []; last = Replied Done }
+-- a command, whatever the history
+abbrev pub says : Command → Said
+says command = Asks (λ entries. command)
 
--- this was asked of the console: its requests led to the tracer
-pub record StandsFor (console : ConsoleSeen) (asked : Asked) : Type 0 where
-  pub config : console.live.config ≡ asked.config
-  pub limit : console.limit ≡ asked.limit
-  pub lives : IsLive console.live.config asked.past console.live
-  pub last : console.last ≡ asked.last
+-- a line that was read: a line of a parallel part is out of place
+abbrev pub said_by : Result Line ScriptFault → Said
+said_by (Ok Blank) = Tells (Replied Done)
+said_by (Ok (Ask command)) = says command
+said_by (Ok Parallel) = Tells (Fault BlockOutOfPlace)
+said_by (Ok Thread) = Tells (Fault BlockOutOfPlace)
+said_by (Ok End) = Tells (Fault BlockOutOfPlace)
+said_by (Err fault) = Tells (Fault fault)
 
--- ---- what a call makes of it
+abbrev pub said_line : List ℕ → Said
+said_line line = said_by (line_of line)
+
+-- an emission whose fields are pairs, or wrong
+abbrev pub said_pairs : List ℕ → ℕ → ℤ → Option (List Pair) → Said
+said_pairs event cpu pid None = Tells (Fault WrongWords)
+said_pairs event cpu pid (Some pairs) = says (Emit event cpu pid pairs)
+
+-- an emission of a string of fields
+abbrev pub said_emission : List ℕ → ℕ → ℤ → List ℕ → Said
+said_emission event cpu pid fields = said_pairs event cpu pid (pairs_in (fields_in fields))
+
+-- an emission of values, of the event of a number among those that the entries found declare
+abbrev pub values_asked : ℕ → ℕ → ℤ → List FieldValue → List Entry → Command
+values_asked event cpu pid values entries = numbered_emission (event_of (declared_events (past_of entries)) event) cpu pid values
+
+abbrev pub said_values : ℕ → ℕ → ℤ → List FieldValue → Said
+said_values event cpu pid values = Asks (values_asked event cpu pid values)
+
+-- ---- what it comes to
+
+-- a console with another last outcome
+abbrev pub with_last : Outcome → ConsoleSeen → ConsoleSeen
+with_last outcome console = record console { last = outcome }
 
 -- an answer as an outcome
 abbrev pub outcome_of : Result Reply Refusal → Outcome
 outcome_of (Ok reply) = Replied reply
 outcome_of (Err refusal) = Refused refusal
 
--- the requests that were done after one that got this answer: if it was done, it is the newest of them
-abbrev pub past_after : Result Reply Refusal → List Request → Request → List Request
-past_after (Ok reply) past request = request ∷ past
-past_after (Err refusal) past request = past
+-- The call had a turn, in which the tracer gave this answer to the command: `command` says it by the entries that the caller has now seen. Nothing else of
+-- the console changes, but that it is in line no longer. One that was in line has its ticket, and isn't refused with Worn.
+pub record IsAnswered (command : List Entry → Command) (answer : Result Reply Refusal) (before after : ConsoleSeen) : Type 0 where
+  pub was : Known
+  pub now : Known
+  pub had : before.has ≡ Some was
+  pub left : after ≡ record before { has = Some now; is_in_line = false; last = outcome_of answer }
+  pub base : was.view.base ≡ numbers_of before.config
+  pub goes_on : GoesOn was.view now.view
+  pub done : IfOk answer (IsDone was.view now.view (command now.view.seen))
+  pub refused : IfErr answer (IsRefused was.view now.view (command now.view.seen))
+  pub legal : IsLegal before.config was.view.seen → IsLegal before.config now.view.seen
+  pub takes_none : IfErr answer (NeedsNoMemory before.config now.view (command now.view.seen))
+  pub made : IsMade was.view now.view (command now.view.seen) answer was.calls now.calls
+  pub unworn : before.is_in_line ≡ true → answer ≢ Err Worn
 
--- this is told, and nothing else changes
-abbrev pub with_last : Outcome → Asked → Asked
-with_last outcome before = record before { last = outcome }
+-- Somebody else has a turn, or is in line: nothing was run. The caller knows what it knew, and perhaps of later tickets. If it is not in
+-- line, tickets are left.
+pub record IsBusy (before after : ConsoleSeen) : Type 0 where
+  pub was : Known
+  pub now : Known
+  pub had : before.has ≡ Some was
+  pub left : after ≡ record before { has = Some now }
+  pub view : HasLooked was.view now.view ⊎ (now.view ≡ was.view)
+  pub calls : now.calls ≡ was.calls
+  pub tickets : before.is_in_line ≡ false → now.view.front < 2 ^ 63
 
--- a request got this answer
-abbrev pub answered : Result Reply Refusal → Request → Asked → Asked
-answered answer request before = record before { past = past_after answer before.past request; last = outcome_of answer }
+-- a try of a call that says this
+abbrev pub Comes : Said → ConsoleSeen → ConsoleSeen → Tried → Type 0
+Comes (Tells outcome) before after (Told status) = (after ≡ record before { last = outcome }) × (status ≡ status_of outcome)
+Comes (Tells outcome) before after Busy = ⊥
+Comes (Asks command) before after (Told status) =
+    ((answer : Result Reply Refusal) × IsAnswered command answer before after) × (status ≡ status_of after.last)
+Comes (Asks command) before after Busy = IsBusy before after
 
--- a request gets the answer that those done before it give, HistoryFull where there is no room for one more
-abbrev pub after_request : Request → Asked → Asked
-after_request request before = answered (limited_answer before.limit before.config before.past request) request before
-
--- a command
-abbrev pub after_command : Command → Asked → Asked
-after_command command before = after_request (request_of command) before
-
--- a line that was read: a command gets its answer, and a line of a parallel part is out of place
-abbrev pub after_read : Result Line ScriptFault → Asked → Asked
-after_read (Ok Blank) before = with_last (Replied Done) before
-after_read (Ok (Ask command)) before = after_command command before
-after_read (Ok Parallel) before = with_last (Fault BlockOutOfPlace) before
-after_read (Ok Thread) before = with_last (Fault BlockOutOfPlace) before
-after_read (Ok End) before = with_last (Fault BlockOutOfPlace) before
-after_read (Err fault) before = with_last (Fault fault) before
-
--- a line of a script
-abbrev pub after_line : List ℕ → Asked → Asked
-after_line line before = after_read (line_of line) before
-
--- an emission whose fields are pairs, or wrong
-abbrev pub after_pairs : List ℕ → ℕ → ℤ → Option (List Pair) → Asked → Asked
-after_pairs event cpu pid None before = with_last (Fault WrongWords) before
-after_pairs event cpu pid (Some pairs) before = after_command (Emit event cpu pid pairs) before
-
--- an emission of a string of fields
-abbrev pub after_emission : List ℕ → ℕ → ℤ → List ℕ → Asked → Asked
-after_emission event cpu pid fields before = after_pairs event cpu pid (pairs_in (fields_in fields)) before
-
--- an emission of values, in order of declaration, of the event of a number: the events are those that the requests done before declared
-abbrev pub after_values : ℕ → ℕ → ℤ → List FieldValue → Asked → Asked
-after_values event cpu pid values before = after_request (values_emission (declared_events before.past) event cpu pid values) before
-
--- a list of the files, which is no command
-abbrev pub after_listing : Asked → Asked
-after_listing before = with_last (Replied (Text (files_after before.config before.past))) before
-
--- ---- calls
+-- memory was refused before the tracer was asked
+abbrev pub LacksMemory : ConsoleSeen → ConsoleSeen → Tried → Type 0
+LacksMemory before after tried = Comes (Tells (Refused Memory)) before after tried
 
 -- what is told of a line that was not read
 abbrev pub failed : LineError → Outcome
 failed (errors.Fault fault) = Fault fault
 failed errors.Memory = Refused Memory
 
--- whatever the console was asked before, a call left this of it; or memory was refused, which changes nothing but what is told
-pub record ComesTo (expected : Asked → Asked) (before after : ConsoleSeen) : Type 0 where
-  pub told : (asked : Asked) → StandsFor before asked → after.last ≢ Refused Memory → StandsFor after (expected asked)
-  pub memory : (asked : Asked) → StandsFor before asked → after.last ≡ Refused Memory → StandsFor after (with_last (Refused Memory) asked)
+-- ---- looks
 
--- a command that takes no memory after what the console was asked is not refused any
-abbrev pub NeedsNoMemory : Command → ConsoleSeen → ConsoleSeen → Type 0
-NeedsNoMemory command before after =
-    (asked : Asked) → StandsFor before asked → TakesNoMemory asked.past (request_of command) → StandsFor after (after_command command asked)
+-- The caller had a turn and asked nothing, and the console is in line no longer. `shown` holds of the entries found.
+pub record HasSeen (shown : List Entry → Type 0) (before after : ConsoleSeen) : Type 0 where
+  pub was : Known
+  pub now : Known
+  pub had : before.has ≡ Some was
+  pub left : after ≡ record before { has = Some now; is_in_line = false }
+  pub base : was.view.base ≡ numbers_of before.config
+  pub goes_on : GoesOn was.view now.view
+  pub rises : Rises was.view now.view
+  pub undone : IsUndone was.view now.view
+  pub calls : now.calls ≡ was.calls
+  pub shown_is : shown now.view.seen
+
+-- All tickets are drawn: nothing is seen any more.
+pub record IsWornOut (before after : ConsoleSeen) : Type 0 where
+  pub was : Known
+  pub now : Known
+  pub had : before.has ≡ Some was
+  pub left : after ≡ record before { has = Some now }
+  pub worn : IsWorn was.view now.view
+  pub calls : now.calls ≡ was.calls
+
+-- a look in one try, which shows this of the entries found
+abbrev pub Looks : {S : Type 0} → (List Entry → S → Type 0) → ConsoleSeen → ConsoleSeen → Option (Result S Refusal) → Type 0
+Looks shows before after None = IsBusy before after
+Looks shows before after (Some (Ok seen)) = HasSeen (λ entries. shows entries seen) before after
+Looks shows before after (Some (Err refusal)) = (refusal ≡ Worn) × IsWornOut before after
+
+-- The list is the reply, of the files that there are after the entries found; or memory was refused, or all tickets are drawn.
+abbrev pub IsListed : ConsoleSeen → ConsoleSeen → Type 0
+IsListed before after =
+    ((text : List ℕ) × HasSeen (λ entries. text ≡ files_after before.config (past_of entries)) before (with_last before.last after)
+    × (after.last ≡ Replied (Text text)))
+    ⊎ (HasSeen (λ entries. Unit {0}) before (with_last before.last after) × (after.last ≡ Refused Memory))
+    ⊎ (IsWornOut before (with_last before.last after) × (after.last ≡ Refused Worn))
+
+abbrev pub Lists : ConsoleSeen → ConsoleSeen → Tried → Type 0
+Lists before after Busy = IsBusy before after
+Lists before after (Told status) = (status ≡ status_of after.last) × IsListed before after
+
+-- whether a record waits in the pipe at this path, by the configuration and the entries found
+abbrev pub shows_waiting : Config → List ℕ → List Entry → Result Bool Refusal → Type 0
+shows_waiting g path entries waits = waits ≡ waiting g (past_of entries) (address_of path).instance (address_of path).file
+
+-- that is told, or Worn once all tickets are drawn
+abbrev pub TellsWaiting : List ℕ → ConsoleSeen → ConsoleSeen → Option (Result Bool Refusal) → Type 0
+TellsWaiting path before after None = IsBusy before after
+TellsWaiting path before after (Some waits) =
+    HasSeen (λ entries. shows_waiting before.config path entries waits) before after ⊎ ((waits ≡ Err Worn) × IsWornOut before after)
+
+-- ---- the end
+
+-- the tracer is the console's
+abbrev pub IsOfTracer : SharedTracer → ConsoleSeen → Type 0
+IsOfTracer shared console = (shared.lock.table.shared.table_id ≡ console.tracer) × (config_of shared ≡ console.config)
+
+-- The console has given its caller back, which knows this: what it knew, unless it was in line and had its turn.
+pub record HasLeft (before after : ConsoleSeen) (known : Known) : Type 0 where
+  pub was : Known
+  pub had : before.has ≡ Some was
+  pub left : after ≡ record before { has = None; is_in_line = false }
+  pub goes_on : GoesOn was.view known.view
+  pub undone : IsUndone was.view known.view
+  pub calls : known.calls ≡ was.calls
+  pub idle : before.is_in_line ≡ false → known ≡ was

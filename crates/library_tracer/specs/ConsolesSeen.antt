@@ -1,10 +1,22 @@
--- A console as contracts see it.
-use Rattle.std.specs.Prelude.{ℕ}
-use Rattle.tracer.specs.LiveSeen.{LiveSeen}
+-- A thread's console as contracts see it.
+use Rattle.std.specs.Prelude.{Bool, List, Option}
+use Rattle.atomic_table.specs.Seated.{TableId}
+use Rattle.ticket_lock.specs.declared.views.View.{View}
+use Rattle.trace_command.specs.declared.command.Config.{Config}
+use Rattle.trace_command.specs.declared.command.Entry.{Entry}
 use Rattle.trace_script.specs.declared.outcome.Outcome.{Outcome}
+use Rattle.shared_tracer.specs.declared.call.Call.{Call}
 
--- how many commands it does at most, its tracer, which keeps no list of them, and what the last call came to
+-- what its caller knows of the history, and the calls that it made
+pub record Known : Type 0 where
+  pub view : View Entry
+  pub calls : List Call
+
+-- Its tracer, by the table of the lock and by the configuration that answers; its caller, which one that has left has none of; whether it is in line; and
+-- what the last call came to.
 pub record ConsoleSeen : Type 0 where
-  pub limit : ℕ
-  pub live : LiveSeen
+  pub tracer : TableId
+  pub config : Config
+  pub has : Option Known
+  pub is_in_line : Bool
   pub last : Outcome

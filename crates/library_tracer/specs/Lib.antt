@@ -1,5 +1,11 @@
 pub mod Consoles
 pub mod ConsolesSeen
 pub mod Fields
+pub mod Inner
+pub mod InnerPasses
 pub mod ListedFiles
+pub mod PassNames
+pub mod PassesSeen
 pub mod Statuses
+pub mod Tiled
+pub mod private

@@ -1,10 +1,14 @@
-//! A tracer for one caller that is asked by calls: lines of a script, writes, reads and emissions. It keeps what the last call came to.
+//! A tracer that threads share, asked by calls: lines of a script, writes, reads and emissions. A thread's console keeps what its last call came to.
 #![tactic(auto)]
 
 mod console;
 mod fields;
 mod files;
+mod looks;
+mod passes;
+mod queued;
 mod status;
 
-pub use console::Console;
+pub use console::{Console, Tried};
+pub use passes::{JoinError, PASSES, Passes};
 pub use trace_command::Config;

@@ -1,4 +1,7 @@
-pub mod AsBox
-pub mod HandleLemmas
+pub mod AsConsoleBox
+pub mod AsPassesBox
+pub mod PassLemmas
 pub mod ReplyLemmas
+pub mod ThreadLemmas
+pub mod TracerLemmas
 pub mod ValueLemmas

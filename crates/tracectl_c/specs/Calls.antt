@@ -1,19 +1,24 @@
--- What a call leaves of a handle, and its status.
-use Rattle.std.specs.Prelude.{◌≡◌, ◌^◌, ◌-◌, ◌==◌, if◌then◌else◌, max, ℕ, ℤ, pos, neg_ℤ, Bool, true, false, List, [], length, Option, Some, None, Result, Ok, Err}
-use Rattle.trace_command.specs.Paths.{address_of}
+-- What one try of a call leaves of a handle, and its status.
+use Rattle.std.specs.Prelude.{◌≡◌, ◌⊎◌, ◌^◌, ◌-◌, ◌==◌, if◌then◌else◌, max, ℕ, ℤ, pos, neg_ℤ, Bool, true, false, List, [], length, Option, Some, None, Result, Ok, Err}
 use Rattle.trace_command.specs.Refusals.{number_of}
-use Rattle.trace_command.specs.Commands.{Command}
 use Rattle.trace_command.specs.declared.command.Config.{Config}
+use Rattle.trace_command.specs.declared.command.Entry.{Entry}
 use Rattle.trace_command.specs.declared.refusal.Refusal.{Refusal}
 use Rattle.trace_command.specs.declared.refusal.Refusal.TheVariants.{BadValue}
 use Rattle.trace_format.specs.declared.field_value.FieldValue.{FieldValue}
-use Rattle.tracer_specification.specs.Waiting.{waiting}
 use Rattle.tracer.specs.Lives.{most_done}
-use Rattle.library_tracer.specs.Consoles.{Asked, ComesTo, NeedsNoMemory, StandsFor, after_values, with_last}
-use Rattle.library_tracer.specs.ConsolesSeen.{ConsoleSeen}
-use Rattle.library_tracer.specs.Statuses.{offset_in, reply_in, status_of}
 use Rattle.trace_script.specs.declared.outcome.Outcome.TheVariants.{Refused}
+use Rattle.library_tracer.specs.Consoles.{Comes, HasLeft, IsBusy, IsWornOut, LacksMemory, Looks, Said, Tells, TellsWaiting, said_values}
+use Rattle.library_tracer.specs.ConsolesSeen.{ConsoleSeen, Known}
+use Rattle.library_tracer.specs.PassesSeen.{HasBack, HasTaken, NoneIsThere, PassesSeen}
+use Rattle.library_tracer.specs.Statuses.{offset_in, reply_in}
+use Rattle.library_tracer.specs.declared.console.Tried.{Tried}
+use Rattle.library_tracer.specs.declared.console.Tried.TheVariants.{Told, Busy}
 use Rattle.tracectl_c.specs.declared.Settings.{Settings}
+
+-- what a contract sees of passes
+abbrev pub Passes : Type 0
+Passes = Option PassesSeen
 
 -- ---- settings
 
@@ -25,48 +30,97 @@ limit_of s = if s.history_limit == 0 then most_done else s.history_limit
 abbrev pub config_of : Settings → Config
 config_of s = record { cpus = s.cpus; pages = s.pages; page_bytes = s.page_bytes; history_limit = max 1 s.history_limit }
 
--- ---- calls
+-- ---- one try
 
--- there is a console, of which this was asked
-abbrev pub WasAsked : Asked → Option ConsoleSeen → Type 0
-WasAsked asked None = ⊥
-WasAsked asked (Some console) = StandsFor console asked
+-- 202 while somebody else has a turn
+abbrev pub status_tried : Tried → ℕ
+status_tried (Told status) = status
+status_tried Busy = 202
 
--- a call that makes this of a console, or is refused memory; 200 is told of a handle that is not open, which stays so
-abbrev pub Does : (Asked → Asked) → Option ConsoleSeen → Option ConsoleSeen → ℕ → Type 0
-Does expected None after status = (status ≡ 200) × (after ≡ None)
-Does expected (Some before) None status = ⊥
-Does expected (Some before) (Some after) status = (status ≡ status_of after.last) × ComesTo expected before after
+-- what one try may do to a console, in the words of library_tracer
+abbrev pub May : Type 1
+May = ConsoleSeen → ConsoleSeen → Tried → Type 0
 
--- a command that takes no memory after what its console was asked is not refused any
-abbrev pub NeedsNone : Command → Option ConsoleSeen → Option ConsoleSeen → Type 0
-NeedsNone command None after = after ≡ None
-NeedsNone command (Some before) None = ⊥
-NeedsNone command (Some before) (Some after) = NeedsNoMemory command before after
+-- what this may do; 203 is told of a thread that has not joined, and nothing changes
+abbrev pub Tries : May → Option ConsoleSeen → Option ConsoleSeen → ℕ → Type 0
+Tries may None after status = (status ≡ 203) × (after ≡ None)
+Tries may (Some before) None status = ⊥
+Tries may (Some before) (Some after) status = (tried : Tried) × may before after tried × (status ≡ status_tried tried)
+
+-- or memory is refused before anything is asked
+abbrev pub OrLacksMemory : Said → May
+OrLacksMemory said before after tried = Comes said before after tried ⊎ LacksMemory before after tried
 
 -- an emission of the values that are given; one of an unknown kind is refused, and nothing is asked
-abbrev pub after_given : ℕ → ℕ → ℤ → Option (List FieldValue) → Asked → Asked
-after_given event cpu process None before = with_last (Refused BadValue) before
-after_given event cpu process (Some values) before = after_values event cpu process values before
+abbrev pub said_given : ℕ → ℕ → ℤ → Option (List FieldValue) → Said
+said_given event cpu process None = Tells (Refused BadValue)
+said_given event cpu process (Some values) = said_values event cpu process values
+
+-- ---- threads that come and go
+
+-- A thread that has joined gets 204, a tracer that is not open gives 200; otherwise the thread has a pass, or none is left (205), or memory is refused
+-- (23), and nothing changes.
+abbrev pub Joins : Option Passes → Option Passes → Option ConsoleSeen → Option ConsoleSeen → ℕ → Type 0
+Joins tracer after (Some console) thread status = (status ≡ 204) × (after ≡ tracer) × (thread ≡ Some console)
+Joins None after None thread status = (status ≡ 200) × (after ≡ None) × (thread ≡ None)
+Joins (Some passes) None None thread status = ⊥
+Joins (Some passes) (Some left) None (Some console) status = (status ≡ 0) × HasTaken passes left console
+Joins (Some passes) (Some left) None None status =
+    (left ≡ passes) × (((status ≡ 205) × NoneIsThere passes) ⊎ ((status ≡ 23) × (¬ NoneIsThere passes)))
+
+-- A tracer that is not open gives 200, and a thread that has not joined 203; otherwise the thread's pass is back, or it is in line and not served (202), and
+-- nothing changes.
+abbrev pub Leaves : Option Passes → Option Passes → Option ConsoleSeen → Option ConsoleSeen → ℕ → Type 0
+Leaves None after before thread status = (status ≡ 200) × (after ≡ None) × (thread ≡ before)
+Leaves (Some passes) after None thread status = (status ≡ 203) × (after ≡ Some passes) × (thread ≡ None)
+Leaves (Some passes) None (Some before) thread status = ⊥
+Leaves (Some passes) (Some left) (Some before) None status =
+    (status ≡ 0) × ((known : Known) × ((gone : ConsoleSeen) × HasLeft before gone known) × HasBack passes left known)
+Leaves (Some passes) (Some left) (Some before) (Some still) status =
+    (status ≡ 202) × (left ≡ passes) × (still ≡ before) × (before.is_in_line ≡ true)
+
+-- A thread is in line, or, where another drew at the same moment or all tickets are drawn, it is not; nothing is run. One that was in line stays there.
+abbrev pub IsLinedUp : Option ConsoleSeen → Option ConsoleSeen → ℕ → Type 0
+IsLinedUp None after status = (status ≡ 203) × (after ≡ None)
+IsLinedUp (Some before) None status = ⊥
+IsLinedUp (Some before) (Some after) status = (status ≡ (if after.is_in_line then 0 else 202))
+    × (IsBusy (record before { is_in_line = after.is_in_line }) after ⊎ IsWornOut before after)
+    × (before.is_in_line ≡ true → after ≡ before)
 
 -- ---- looks
 
--- 1 if a record waits and 0 if none does; or the number of the refusal, below 0
-abbrev pub waiting_number : Result Bool Refusal → ℤ
-waiting_number (Ok true) = pos 1
-waiting_number (Ok false) = pos 0
-waiting_number (Err refusal) = neg_ℤ (pos (number_of refusal))
+-- 1 if a record waits and 0 if none does; or the number of the refusal, below 0; -202 while somebody else has a turn
+abbrev pub waiting_number : Option (Result Bool Refusal) → ℤ
+waiting_number None = neg_ℤ (pos 202)
+waiting_number (Some (Ok true)) = pos 1
+waiting_number (Some (Ok false)) = pos 0
+waiting_number (Some (Err refusal)) = neg_ℤ (pos (number_of refusal))
 
--- that of the pipe at this path, whatever the console was asked; -200 where there is none
-abbrev pub TellsWaiting : List ℕ → Option ConsoleSeen → ℤ → Type 0
-TellsWaiting path None told = told ≡ neg_ℤ (pos 200)
-TellsWaiting path (Some console) told = (asked : Asked) → StandsFor console asked
-    → told ≡ waiting_number (waiting asked.config asked.past (address_of path).instance (address_of path).file)
+-- that of the pipe at this path; -203 where the thread has not joined
+abbrev pub TriesWaiting : List ℕ → Option ConsoleSeen → Option ConsoleSeen → ℤ → Type 0
+TriesWaiting path None after told = (told ≡ neg_ℤ (pos 203)) × (after ≡ None)
+TriesWaiting path (Some before) None told = ⊥
+TriesWaiting path (Some before) (Some after) told =
+    (waits : Option (Result Bool Refusal)) × TellsWaiting path before after waits × (told ≡ waiting_number waits)
 
--- how many commands were done, whichever they were; 0 where there is no console
-abbrev pub TellsDone : Option ConsoleSeen → ℕ → Type 0
-TellsDone None told = told ≡ 0
-TellsDone (Some console) told = (asked : Asked) → StandsFor console asked → told ≡ length asked.past
+-- the status of a look at the number of commands
+abbrev pub status_of_count : Option (Result ℕ Refusal) → ℕ
+status_of_count None = 202
+status_of_count (Some (Ok count)) = 0
+status_of_count (Some (Err refusal)) = number_of refusal
+
+-- the number of commands is written where the status is 0, and otherwise nothing
+abbrev pub is_written : Option (Result ℕ Refusal) → ℕ → ℕ
+is_written (Some (Ok count)) was = count
+is_written _ was = was
+
+abbrev pub TriesEntries : Option ConsoleSeen → Option ConsoleSeen → ℕ → ℕ → ℕ → Type 0
+TriesEntries None after was now status = (status ≡ 203) × (after ≡ None) × (now ≡ was)
+TriesEntries (Some before) None was now status = ⊥
+TriesEntries (Some before) (Some after) was now status = (seen : Option (Result ℕ Refusal))
+    × Looks (λ (entries : List Entry) (count : ℕ). count ≡ length entries) before after seen × (status ≡ status_of_count seen) × (now ≡ is_written seen was)
+
+-- ---- the last outcome
 
 -- the length of the reply and the offset; 0 and the greatest number where there is none
 abbrev pub length_read : Option ConsoleSeen → ℕ

@@ -1,5 +1,5 @@
--- What a handle owns of the console behind it.
-use Rattle.std.specs.Prelude.{Option, Some, None}
+-- What a thread's handle owns of the console behind it.
+use Rattle.std.specs.Prelude.{Bool, false, Option, Some, None, is_some}
 use base.Fml.{Fml, ftrue}
 use Rattle.std.specs.Coded.{coded_option}
 use base.Stored.{Coded}
@@ -12,6 +12,11 @@ use Rattle.library_tracer.specs.contracts.console.Console.{the_row}
 -- what a contract sees of a console
 abbrev pub Seen : Type 0
 Seen = the_row.Denot
+
+-- whether there is a console, and its caller
+abbrev pub has_caller : Option Seen → Bool
+has_caller None = false
+has_caller (Some console) = is_some console.has
 
 -- nothing; or a console at this place, with the right to free its block
 abbrev pub sealed_owns : Global → Ptr → Option the_row.Denot → Fml

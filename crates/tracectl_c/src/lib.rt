@@ -1,39 +1,62 @@
-//! tracectl for C: a static library whose exports are the calls of a console. `tracectl.h` declares them and says what C must uphold.
+//! tracectl for C: a static library whose exports are one try each: of a call of a thread's console, or at the passes of a tracer. `tracectl.h` declares them,
+//! makes of them the calls that a user makes, which try again, and says what C must uphold.
 #![tactic(auto)]
 
-ghost use Rattle.std.specs.Prelude.{◌≡◌, ◌≢◌, ◌≤◌, None, Some, false, true, [], ◌∷◌, length, min, take, drop, ◌++◌, IfSome};
+ghost use Rattle.std.specs.Prelude.{◌≡◌, ◌≢◌, ◌≤◌, None, Some, false, true, [], ◌∷◌, length, min, take, drop, ◌++◌, Option, IfSome, IsSome};
 ghost use Rattle.trace_command.specs.Configs.{IsInRange};
-ghost use Rattle.trace_command.specs.Commands.{Command as CommandValue};
 ghost use Rattle.trace_command.specs.declared.command.CommandOf.TheVariants as commands;
 ghost use Rattle.tracer.specs.Lives.{most_done};
-ghost use Rattle.library_tracer.specs.Consoles.{ComesTo, StandsFor, after_command, after_emission, after_line, after_listing, opened};
-ghost use Rattle.library_tracer.specs.Statuses.{status_of};
+ghost use Rattle.shared_tracer.specs.RaisedLimits.{with_limit};
+ghost use Rattle.library_tracer.specs.Consoles.{Comes, Lists, says, said_emission, said_line};
+ghost use Rattle.library_tracer.specs.PassesSeen.{AreNew, HasClosed, HasTaken, IsOfPasses, PassesSeen};
+ghost use Rattle.tracectl_c.specs.Calls.{IsLinedUp, Joins, Leaves, OrLacksMemory, Tries, TriesEntries, TriesWaiting, config_of, length_read, limit_of, offset_read, reply_read, said_given, status_tried, waiting_number};
 ghost use Rattle.tracectl_c.specs.GivenValues.{values_in};
-ghost use Rattle.tracectl_c.specs.Handles.{console_of};
-ghost use Rattle.tracectl_c.specs.Calls.{Does, NeedsNone, WasAsked, TellsDone, TellsWaiting, after_given, config_of, limit_of, offset_read, reply_read, waiting_number};
+ghost use Rattle.tracectl_c.specs.Handles.{console_of, passes_of};
 
-mod handle;
-mod opening;
 mod parts;
-mod sealed;
+mod sealed_console;
+mod sealed_passes;
+mod thread_calls;
+mod thread_handle;
+mod tracer_calls;
+mod tracer_handle;
 mod value;
 
-use handle::Handle;
-use library_tracer::Console;
+use library_tracer::{Console, JoinError, Passes, Tried};
 use std::alloc::{AllocError, Global};
 use std::slice;
+use thread_handle::ThreadHandle;
 use trace_command::{Config, Refusal};
 use tracer::MOST_DONE;
+use tracer_handle::TracerHandle;
 use value::{Value, value_in, values_in};
 
 /// The status of a call whose handle is not open.
 const NOT_OPEN: u32 = 200;
 
-/// What `tracectl_waiting` tells of a handle that is not open.
-const NONE_TO_LOOK_AT: i32 = -200;
-
-/// The status of `tracectl_open` where the handle is open already.
+/// The status of `tracectl_try_open` where the handle is open already.
 const ALREADY_OPEN: u32 = 201;
+
+/// The status of a try while somebody else has a turn, or is in line for one.
+const BUSY: u32 = 202;
+
+/// The status of a call of a thread that has not joined, or has left.
+const NOT_JOINED: u32 = 203;
+
+/// The status of `tracectl_try_join` where the thread has joined already.
+const ALREADY_JOINED: u32 = 204;
+
+/// The status of `tracectl_try_join` where all passes are taken.
+const NO_PASS_LEFT: u32 = 205;
+
+/// The status of `tracectl_try_close` while threads have joined.
+const STILL_JOINED: u32 = 206;
+
+/// What `tracectl_try_waiting` tells of a thread that has not joined.
+const NONE_TO_LOOK_AT: i32 = -203;
+
+/// What it tells while somebody else has a turn.
+const BUSY_TO_LOOK: i32 = -202;
 
 /// What a tracer is made with. A limit of 0 is none.
 #[repr(C)]
@@ -67,78 +90,216 @@ fn limit_of(settings: &Settings) -> u64
     }
 }
 
-/// A console of its own on the heap: none if memory is refused.
-fn boxed(alloc: Global, config: Config, limit: u64) -> Option<Box<Console, Global>>
+/// A tracer's passes on the heap: none if memory is refused.
+fn boxed_passes(alloc: Global, config: Config, limit: u64) -> Option<Box<Passes, Global>>
     requires in_range { IsInRange config }
     requires few { limit ≤ most_done }
-    ensures { IfSome result (λ console. StandsFor console.value (opened config limit)) }
+    ensures { IfSome result (λ passes. AreNew (with_limit limit config) passes.value) }
 {
-    let console = Console::new(alloc, config, limit).ok()?;
-    Box::new(alloc, console).ok()
+    let passes = Passes::new(alloc, config, limit).ok()?;
+    Box::new(alloc, passes).ok()
 }
 
-/// Opens a handle: a tracer of which nothing was asked. A handle that is open stays as it is.
+/// Opens a handle: a tracer of which nothing was asked, and all its passes. A handle that is open stays as it is.
 #[unsafe(no_mangle)]
 #[tactic(auto, unfolding(trace_command::specs::Refusals::number_of))]
-pub extern "C" fn tracectl_open(alloc: Global, handle: &mut Handle, settings: &Settings) -> u32
-    ensures open { console_of handle.old ≢ None → (result ≡ 201) × (console_of handle.new ≡ console_of handle.old) }
-    ensures made { result ≡ 0 → WasAsked (opened (config_of settings.now) (limit_of settings.now)) (console_of handle.new)
-        × IsInRange (config_of settings.now) }
-    ensures refused { result ≢ 0 → console_of handle.new ≡ console_of handle.old }
-    ensures out_of_range { console_of handle.old ≡ None → ¬ IsInRange (config_of settings.now) → result ≡ 4 }
-    ensures memory { console_of handle.old ≡ None → IsInRange (config_of settings.now) → result ≢ 0 → result ≡ 23 }
+pub extern "C" fn tracectl_try_open(
+    alloc: Global,
+    tracer: &mut TracerHandle,
+    settings: &Settings,
+) -> u32
+    ensures open { passes_of tracer.old ≢ None → (result ≡ 201) × (passes_of tracer.new ≡ passes_of tracer.old) }
+    ensures made { result ≡ 0 → IfSome (passes_of tracer.new) (AreNew (with_limit (limit_of settings.now) (config_of settings.now)))
+        × (passes_of tracer.new ≢ None) × IsInRange (config_of settings.now) }
+    ensures refused { result ≢ 0 → passes_of tracer.new ≡ passes_of tracer.old }
+    ensures out_of_range { passes_of tracer.old ≡ None → ¬ IsInRange (config_of settings.now) → result ≡ 4 }
+    ensures memory { passes_of tracer.old ≡ None → IsInRange (config_of settings.now) → result ≢ 0 → result ≡ 23 }
 {
-    if handle.is_open() {
+    if tracer.is_open() {
         return ALREADY_OPEN;
     }
     let config = config_of(settings);
     if !config.is_in_range() {
         return u32::from(Refusal::BadValue.number());
     }
-    let Some(console) = boxed(alloc, config, limit_of(settings)) else {
+    let Some(passes) = boxed_passes(alloc, config, limit_of(settings)) else {
         return u32::from(Refusal::Memory.number());
     };
-    handle.keep(console);
+    tracer.keep(passes);
     0
+}
+
+/// Puts the caller of a console back that was taken and could not be kept.
+fn put_back(passes: &mut Passes, mut console: Console)
+    requires { (before : Option PassesSeen) × HasTaken before passes.old console }
+    ensures { (before : Option PassesSeen) → HasTaken before passes.old console → passes.new ≡ before }
+{
+    if let Some(caller) = console.leave() {
+        passes.put_back(caller);
+    }
+}
+
+/// Takes a pass for a thread, and keeps its console.
+fn join(alloc: Global, passes: &mut Passes, thread: &mut ThreadHandle) -> u32
+    requires { console_of thread.old ≡ None }
+    ensures { Joins (Some passes.old) (Some passes.new) None (console_of thread.new) result }
+{
+    match passes.join() {
+        Ok(console) => match Box::new(alloc, console) {
+            Ok(console) => {
+                thread.keep(console);
+                0
+            }
+            Err(failed) => {
+                put_back(passes, failed.value);
+                u32::from(Refusal::Memory.number())
+            }
+        },
+        Err(JoinError::NoPass) => NO_PASS_LEFT,
+        Err(JoinError::Memory) => u32::from(Refusal::Memory.number()),
+    }
+}
+
+/// Has a thread join a tracer: it takes a pass.
+#[unsafe(no_mangle)]
+pub extern "C" fn tracectl_try_join(
+    alloc: Global,
+    tracer: &mut TracerHandle,
+    thread: &mut ThreadHandle,
+) -> u32
+    ensures { Joins (passes_of tracer.old) (passes_of tracer.new) (console_of thread.old) (console_of thread.new) result }
+{
+    if thread.is_joined() {
+        return ALREADY_JOINED;
+    }
+    let Some(mut passes) = tracer.take(alloc) else {
+        return NOT_OPEN;
+    };
+    let status = join(alloc, &mut passes, thread);
+    tracer.keep(passes);
+    status
+}
+
+/// Has a thread leave the tracer that it joined: its pass is put back. A thread that is in line has its turn first.
+#[unsafe(no_mangle)]
+pub extern "C" fn tracectl_try_leave(
+    alloc: Global,
+    tracer: &mut TracerHandle,
+    thread: &mut ThreadHandle,
+) -> u32
+    requires { IsOfPasses (passes_of tracer.old) (console_of thread.old) }
+    ensures { Leaves (passes_of tracer.old) (passes_of tracer.new) (console_of thread.old) (console_of thread.new) result }
+{
+    let Some(mut passes) = tracer.take(alloc) else {
+        return NOT_OPEN;
+    };
+    let status = leave(alloc, &mut passes, thread);
+    tracer.keep(passes);
+    status
+}
+
+/// Takes a console's pass back, unless it is in line and not its turn.
+fn leave(alloc: Global, passes: &mut Passes, thread: &mut ThreadHandle) -> u32
+    requires { IsOfPasses (Some passes.old) (console_of thread.old) }
+    ensures { Leaves (Some passes.old) (Some passes.new) (console_of thread.old) (console_of thread.new) result }
+{
+    let Some(mut console) = thread.take(alloc) else {
+        return NOT_JOINED;
+    };
+    match console.leave() {
+        Some(caller) => {
+            passes.put_back(caller);
+            drop(console);
+            0
+        }
+        None => {
+            thread.keep(console);
+            BUSY
+        }
+    }
+}
+
+/// Closes a handle, once all threads have left.
+#[unsafe(no_mangle)]
+pub extern "C" fn tracectl_try_close(alloc: Global, tracer: &mut TracerHandle) -> u32
+    ensures closed { result ≡ 0 → IfSome (passes_of tracer.old) (λ passes. HasClosed passes None) × (passes_of tracer.new ≡ None) }
+    ensures refused { result ≢ 0 → passes_of tracer.new ≡ passes_of tracer.old }
+    ensures was_closed { passes_of tracer.old ≡ None → result ≡ 200 }
+    ensures still_joined { passes_of tracer.old ≢ None → result ≢ 0 → result ≡ 206 }
+{
+    let Some(mut passes) = tracer.take(alloc) else {
+        return NOT_OPEN;
+    };
+    if !passes.close() {
+        tracer.keep(passes);
+        return STILL_JOINED;
+    }
+    drop(passes);
+    0
+}
+
+/// The status of a try.
+fn status_of(tried: Tried) -> u32
+    ensures { result ≡ status_tried tried }
+{
+    match tried {
+        Tried::Told(status) => status,
+        Tried::Busy => BUSY,
+    }
+}
+
+/// Gets a thread in line, so that a later try of it has its turn though others ask, too. `BUSY`: another got in line at the same moment, and it is to be
+/// tried again.
+#[unsafe(no_mangle)]
+pub extern "C" fn tracectl_try_line_up(alloc: Global, thread: &mut ThreadHandle) -> u32
+    ensures { IsLinedUp (console_of thread.old) (console_of thread.new) result }
+{
+    let Some(mut console) = thread.take(alloc) else {
+        return NOT_JOINED;
+    };
+    let is_in_line = console.get_in_line();
+    thread.keep(console);
+    if is_in_line { 0 } else { BUSY }
 }
 
 /// Does a line of a script.
 #[unsafe(no_mangle)]
-pub extern "C" fn tracectl_line(alloc: Global, handle: &mut Handle, line: &[u8]) -> u32
-    ensures { Does (after_line line.now) (console_of handle.old) (console_of handle.new) result }
+pub extern "C" fn tracectl_try_line(alloc: Global, thread: &mut ThreadHandle, line: &[u8]) -> u32
+    ensures { Tries (OrLacksMemory (said_line line.now)) (console_of thread.old) (console_of thread.new) result }
 {
-    let Some(mut console) = handle.take(alloc) else {
-        return NOT_OPEN;
+    let Some(mut console) = thread.take(alloc) else {
+        return NOT_JOINED;
     };
-    let status = console.line(line);
-    handle.keep(console);
-    status
+    let tried = console.line(line);
+    thread.keep(console);
+    status_of(tried)
 }
 
 /// Does an emission. Its fields are one string: `NAME=VALUE` for each, with a byte 0 between each two.
 #[unsafe(no_mangle)]
-pub extern "C" fn tracectl_emit(
+pub extern "C" fn tracectl_try_emit(
     alloc: Global,
-    handle: &mut Handle,
+    thread: &mut ThreadHandle,
     event: &[u8],
     cpu: u32,
     process: i32,
     fields: &[u8],
 ) -> u32
-    ensures { Does (after_emission event.now cpu process fields.now) (console_of handle.old) (console_of handle.new) result }
+    ensures { Tries (OrLacksMemory (said_emission event.now cpu process fields.now)) (console_of thread.old) (console_of thread.new) result }
 {
-    let Some(mut console) = handle.take(alloc) else {
-        return NOT_OPEN;
+    let Some(mut console) = thread.take(alloc) else {
+        return NOT_JOINED;
     };
-    let status = console.emit(event, cpu, process, fields);
-    handle.keep(console);
-    status
+    let tried = console.emit(event, cpu, process, fields);
+    thread.keep(console);
+    status_of(tried)
 }
 
 /// Asks a console for an emission of a lone value, for which no list is allocated.
-fn emit_one(console: &mut Console, event: u32, cpu: u32, process: i32, value: &Value<'_>) -> u32
-    ensures done { ComesTo (after_given event cpu process (values_in (value.now ∷ []))) console.old console.new }
-    ensures status { result ≡ status_of console.new.last }
+fn emit_one(console: &mut Console, event: u32, cpu: u32, process: i32, value: &Value<'_>) -> Tried
+    requires { IsSome console.old.has }
+    ensures asked { Comes (said_given event cpu process (values_in (value.now ∷ []))) console.old console.new result }
+    ensures has { IsSome console.new.has }
 {
     match value_in(value) {
         Some(value) => console.emit_values(event, cpu, process, slice::from_ref(&value)),
@@ -156,9 +317,10 @@ fn emit_list(
     cpu: u32,
     process: i32,
     values: &[Value<'_>],
-) -> u32
-    ensures done { ComesTo (after_given event cpu process (values_in values.now)) console.old console.new }
-    ensures status { result ≡ status_of console.new.last }
+) -> Tried
+    requires { IsSome console.old.has }
+    ensures asked { OrLacksMemory (said_given event cpu process (values_in values.now)) console.old console.new result }
+    ensures has { IsSome console.new.has }
 {
     match values_in(alloc, values) {
         Ok(Some(values)) => console.emit_values(event, cpu, process, &values),
@@ -175,9 +337,10 @@ fn emit_given(
     cpu: u32,
     process: i32,
     values: &[Value<'_>],
-) -> u32
-    ensures done { ComesTo (after_given event cpu process (values_in values.now)) console.old console.new }
-    ensures status { result ≡ status_of console.new.last }
+) -> Tried
+    requires { IsSome console.old.has }
+    ensures asked { OrLacksMemory (said_given event cpu process (values_in values.now)) console.old console.new result }
+    ensures has { IsSome console.new.has }
 {
     match values {
         [value] => emit_one(console, event, cpu, process, value),
@@ -187,119 +350,115 @@ fn emit_given(
 
 /// Does an emission of the event of this number, from 1 in order of declaration. The values are those of its fields, in order of declaration.
 #[unsafe(no_mangle)]
-pub extern "C" fn tracectl_emit_values(
+pub extern "C" fn tracectl_try_emit_values(
     alloc: Global,
-    handle: &mut Handle,
+    thread: &mut ThreadHandle,
     event: u32,
     cpu: u32,
     process: i32,
     values: &[Value<'_>],
 ) -> u32
-    ensures { Does (after_given event cpu process (values_in values.now)) (console_of handle.old) (console_of handle.new) result }
+    ensures { Tries (OrLacksMemory (said_given event cpu process (values_in values.now))) (console_of thread.old) (console_of thread.new) result }
 {
-    let Some(mut console) = handle.take(alloc) else {
-        return NOT_OPEN;
+    let Some(mut console) = thread.take(alloc) else {
+        return NOT_JOINED;
     };
-    let status = emit_given(&mut console, alloc, event, cpu, process, values);
-    handle.keep(console);
-    status
-}
-
-/// Writes a string to a file, or appends it.
-fn write(alloc: Global, handle: &mut Handle, path: &[u8], text: &[u8], appends: bool) -> u32
-    ensures done { Does (after_command (commands.Write path.now appends text.now)) (console_of handle.old) (console_of handle.new) result }
-    ensures takes_none { NeedsNone (commands.Write path.now appends text.now) (console_of handle.old) (console_of handle.new) }
-{
-    let Some(mut console) = handle.take(alloc) else {
-        return NOT_OPEN;
-    };
-    let status = if appends {
-        console.append(path, text)
-    } else {
-        console.write(path, text)
-    };
-    handle.keep(console);
-    status
+    let tried = emit_given(&mut console, alloc, event, cpu, process, values);
+    thread.keep(console);
+    status_of(tried)
 }
 
 /// Writes a string to a file, as `echo TEXT > PATH` does.
 #[unsafe(no_mangle)]
-pub extern "C" fn tracectl_write(
+pub extern "C" fn tracectl_try_write(
     alloc: Global,
-    handle: &mut Handle,
+    thread: &mut ThreadHandle,
     path: &[u8],
     text: &[u8],
 ) -> u32
-    ensures done { Does (after_command (commands.Write path.now false text.now)) (console_of handle.old) (console_of handle.new) result }
-    ensures takes_none { NeedsNone (commands.Write path.now false text.now) (console_of handle.old) (console_of handle.new) }
+    ensures { Tries (Comes (says (commands.Write path.now false text.now))) (console_of thread.old) (console_of thread.new) result }
 {
-    write(alloc, handle, path, text, false)
+    let Some(mut console) = thread.take(alloc) else {
+        return NOT_JOINED;
+    };
+    let tried = console.write(path, text);
+    thread.keep(console);
+    status_of(tried)
 }
 
 /// Appends a string to a file, as `echo TEXT >> PATH` does.
 #[unsafe(no_mangle)]
-pub extern "C" fn tracectl_append(
+pub extern "C" fn tracectl_try_append(
     alloc: Global,
-    handle: &mut Handle,
+    thread: &mut ThreadHandle,
     path: &[u8],
     text: &[u8],
 ) -> u32
-    ensures done { Does (after_command (commands.Write path.now true text.now)) (console_of handle.old) (console_of handle.new) result }
-    ensures takes_none { NeedsNone (commands.Write path.now true text.now) (console_of handle.old) (console_of handle.new) }
+    ensures { Tries (Comes (says (commands.Write path.now true text.now))) (console_of thread.old) (console_of thread.new) result }
 {
-    write(alloc, handle, path, text, true)
+    let Some(mut console) = thread.take(alloc) else {
+        return NOT_JOINED;
+    };
+    let tried = console.append(path, text);
+    thread.keep(console);
+    status_of(tried)
 }
 
 /// Reads a file to its end, as `cat PATH` does.
 #[unsafe(no_mangle)]
-pub extern "C" fn tracectl_read(alloc: Global, handle: &mut Handle, path: &[u8]) -> u32
-    ensures { Does (after_command (commands.Read path.now None)) (console_of handle.old) (console_of handle.new) result }
+pub extern "C" fn tracectl_try_read(alloc: Global, thread: &mut ThreadHandle, path: &[u8]) -> u32
+    ensures { Tries (Comes (says (commands.Read path.now None))) (console_of thread.old) (console_of thread.new) result }
 {
-    let Some(mut console) = handle.take(alloc) else {
-        return NOT_OPEN;
+    let Some(mut console) = thread.take(alloc) else {
+        return NOT_JOINED;
     };
-    let status = console.read(path);
-    handle.keep(console);
-    status
+    let tried = console.read(path);
+    thread.keep(console);
+    status_of(tried)
 }
 
 /// Reads at most so many records of a pipe, as `take LIMIT PATH` does.
 #[unsafe(no_mangle)]
-pub extern "C" fn tracectl_take(alloc: Global, handle: &mut Handle, path: &[u8], limit: u64) -> u32
-    ensures { Does (after_command (commands.Read path.now (Some limit))) (console_of handle.old) (console_of handle.new) result }
+pub extern "C" fn tracectl_try_take(
+    alloc: Global,
+    thread: &mut ThreadHandle,
+    path: &[u8],
+    limit: u64,
+) -> u32
+    ensures { Tries (Comes (says (commands.Read path.now (Some limit)))) (console_of thread.old) (console_of thread.new) result }
 {
-    let Some(mut console) = handle.take(alloc) else {
-        return NOT_OPEN;
+    let Some(mut console) = thread.take(alloc) else {
+        return NOT_JOINED;
     };
-    let status = console.take(path, limit);
-    handle.keep(console);
-    status
+    let tried = console.take(path, limit);
+    thread.keep(console);
+    status_of(tried)
 }
 
 /// Lists the files that there are, as `tracectl --list` does. The list is the reply.
 #[unsafe(no_mangle)]
-pub extern "C" fn tracectl_files(alloc: Global, handle: &mut Handle) -> u32
-    ensures { Does after_listing (console_of handle.old) (console_of handle.new) result }
+pub extern "C" fn tracectl_try_files(alloc: Global, thread: &mut ThreadHandle) -> u32
+    ensures { Tries Lists (console_of thread.old) (console_of thread.new) result }
 {
-    let Some(mut console) = handle.take(alloc) else {
-        return NOT_OPEN;
+    let Some(mut console) = thread.take(alloc) else {
+        return NOT_JOINED;
     };
-    let status = console.files();
-    handle.keep(console);
-    status
+    let tried = console.files();
+    thread.keep(console);
+    status_of(tried)
 }
 
-/// How many bytes the last call replied; 0 where the handle is not open.
+/// How many bytes the thread's last call replied; 0 where the thread has not joined.
 #[unsafe(no_mangle)]
-pub extern "C" fn tracectl_reply_length(alloc: Global, handle: &mut Handle) -> usize
-    ensures length { result ≡ length (reply_read (console_of handle.old)) }
-    ensures same { console_of handle.new ≡ console_of handle.old }
+pub extern "C" fn tracectl_try_reply_length(alloc: Global, thread: &mut ThreadHandle) -> usize
+    ensures length { result ≡ length_read (console_of thread.old) }
+    ensures same { console_of thread.new ≡ console_of thread.old }
 {
-    let Some(console) = handle.take(alloc) else {
+    let Some(console) = thread.take(alloc) else {
         return 0;
     };
     let count = console.reply().len();
-    handle.keep(console);
+    thread.keep(console);
     count
 }
 
@@ -324,58 +483,68 @@ fn rest_of(text: &[u8], from: usize) -> &[u8]
     &text[from..]
 }
 
-/// Copies what the last call replied, from this byte on and as far as there is room, and tells how many bytes.
+/// Copies what the thread's last call replied, from this byte on and as far as there is room, and tells how many bytes.
 #[unsafe(no_mangle)]
-pub extern "C" fn tracectl_reply(
+pub extern "C" fn tracectl_try_reply(
     alloc: Global,
-    handle: &mut Handle,
+    thread: &mut ThreadHandle,
     from: usize,
     room: &mut [u8],
 ) -> usize
-    ensures count { result ≡ min (length (drop from (reply_read (console_of handle.old)))) (length room.old) }
-    ensures copied { room.new ≡ take result (drop from (reply_read (console_of handle.old))) ++ drop result room.old }
-    ensures same { console_of handle.new ≡ console_of handle.old }
+    ensures count { result ≡ min (length (drop from (reply_read (console_of thread.old)))) (length room.old) }
+    ensures copied { room.new ≡ take result (drop from (reply_read (console_of thread.old))) ++ drop result room.old }
+    ensures same { console_of thread.new ≡ console_of thread.old }
 {
-    let Some(console) = handle.take(alloc) else {
+    let Some(console) = thread.take(alloc) else {
         return 0;
     };
     let count = copy_front(rest_of(console.reply(), from), room);
-    handle.keep(console);
+    thread.keep(console);
     count
 }
 
-/// Where the string of the last call is wrong, as how many bytes stand before that; the greatest number if its refusal has no such offset, or the
-/// handle is not open.
+/// Where the string of the thread's last call is wrong, as how many bytes stand before that; the greatest number if its refusal has no such offset, or
+/// the thread has not joined.
 #[unsafe(no_mangle)]
-pub extern "C" fn tracectl_offset(alloc: Global, handle: &mut Handle) -> usize
-    ensures offset { result ≡ offset_read (console_of handle.old) }
-    ensures same { console_of handle.new ≡ console_of handle.old }
+pub extern "C" fn tracectl_try_offset(alloc: Global, thread: &mut ThreadHandle) -> usize
+    ensures offset { result ≡ offset_read (console_of thread.old) }
+    ensures same { console_of thread.new ≡ console_of thread.old }
 {
-    let Some(console) = handle.take(alloc) else {
+    let Some(console) = thread.take(alloc) else {
         return usize::MAX;
     };
     let offset = console.offset().unwrap_or(usize::MAX);
-    handle.keep(console);
+    thread.keep(console);
     offset
 }
 
-/// How many commands were done; 0 where the handle is not open.
+/// Tells how many commands were done by all threads. Where the status isn't 0, nothing is told.
 #[unsafe(no_mangle)]
-pub extern "C" fn tracectl_entries(alloc: Global, handle: &mut Handle) -> u64
-    ensures entries { TellsDone (console_of handle.old) result }
-    ensures same { console_of handle.new ≡ console_of handle.old }
+pub extern "C" fn tracectl_try_entries(
+    alloc: Global,
+    thread: &mut ThreadHandle,
+    entries: &mut u64,
+) -> u32
+    ensures { TriesEntries (console_of thread.old) (console_of thread.new) entries.old entries.new result }
 {
-    let Some(console) = handle.take(alloc) else {
-        return 0;
+    let Some(mut console) = thread.take(alloc) else {
+        return NOT_JOINED;
     };
-    let count = console.done();
-    handle.keep(console);
-    count
+    let status = match console.done() {
+        Some(Ok(count)) => {
+            *entries = count;
+            0
+        }
+        Some(Err(refusal)) => u32::from(refusal.number()),
+        None => BUSY,
+    };
+    thread.keep(console);
+    status
 }
 
 /// Tells whether a record waits: 1 if one does and 0 if none does; or the number of the refusal, below 0.
 fn told(waits: Result<bool, Refusal>) -> i32
-    ensures { result ≡ waiting_number waits }
+    ensures { result ≡ waiting_number (Some waits) }
 {
     match waits {
         Ok(true) => 1,
@@ -387,28 +556,28 @@ fn told(waits: Result<bool, Refusal>) -> i32
 /// Whether a record waits to be read in the pipe at this path: 1 if one does, 0 if none does; or the number of the refusal that `tracectl_take` of it
 /// would have, below 0. It is no command: the reply stays, too.
 #[unsafe(no_mangle)]
-pub extern "C" fn tracectl_waiting(alloc: Global, handle: &mut Handle, path: &[u8]) -> i32
-    ensures waiting { TellsWaiting path.now (console_of handle.old) result }
-    ensures same { console_of handle.new ≡ console_of handle.old }
+pub extern "C" fn tracectl_try_waiting(alloc: Global, thread: &mut ThreadHandle, path: &[u8]) -> i32
+    ensures { TriesWaiting path.now (console_of thread.old) (console_of thread.new) result }
 {
-    let Some(console) = handle.take(alloc) else {
+    let Some(mut console) = thread.take(alloc) else {
         return NONE_TO_LOOK_AT;
     };
-    let waits = told(console.waiting(path));
-    handle.keep(console);
+    let waits = match console.waiting(path) {
+        Some(waits) => told(waits),
+        None => BUSY_TO_LOOK,
+    };
+    thread.keep(console);
     waits
 }
 
-/// Closes a handle.
-#[unsafe(no_mangle)]
-pub extern "C" fn tracectl_close(alloc: Global, handle: &mut Handle) -> u32
-    ensures closed { console_of handle.new ≡ None }
-    ensures was_open { console_of handle.old ≢ None → result ≡ 0 }
-    ensures was_closed { console_of handle.old ≡ None → result ≡ 200 }
+/// That a value may go to another thread.
+fn may_go<T: Send>(value: T) -> T
+    ensures { result ≡ value }
 {
-    let Some(console) = handle.take(alloc) else {
-        return NOT_OPEN;
-    };
-    drop(console);
-    0
+    value
+}
+
+/// What C hands from thread to thread may go there: a thread's handle, and a tracer's.
+pub fn handles_may_go(thread: ThreadHandle, tracer: TracerHandle) -> (ThreadHandle, TracerHandle) {
+    (may_go(thread), may_go(tracer))
 }

@@ -1,17 +1,28 @@
-use Rattle.library_tracer.specs.ConsolesSeen.{ConsoleSeen}
-use Rattle.library_tracer.proofs.ConsoleLemmas.{command_comes, command_needs_none}
+use Rattle.std.proofs.Common.{sym, ◌∙◌}
+use Rattle.library_tracer.proofs.ConsoleLemmas.{idle_busy, idle_answered}
 use Rattle.library_tracer.proofs.console.Console.ask.Goals as goal
 
-pub returns-clause-done : goal.returns-clause-done
-returns-clause-done c =
-    let inside = c.self.inside in
-    let before : ConsoleSeen = record { limit = inside.limit; live = inside.live; last = inside.last } in
-    rw (← c.self.view_is) (command_comes c.args.command.now before c.keep.new.self c.ask_within-answer.new.self c.ask_within-answer.result
-    c.ask_within-answer.ensures.config c.keep.ensures c.ask_within-answer.ensures.call)
+pub returns-in-None-answer-clause-comes : goal.returns-in-None-answer-clause-comes
+returns-in-None-answer-clause-comes c =
+    let still = rw c.in-None-answer.is at c.try_ask-caller.ensures.busy in
+    rw (← c.self.view_is) (idle_busy c.self.inside c.in-Some.caller c.try_ask-caller.result.0 (sym c.replace.ensures.value ∙ c.in-Some.is) c.self.invariant
+    still.0 still.1)
 
-pub returns-clause-takes_none : goal.returns-clause-takes_none
-returns-clause-takes_none c =
-    let inside = c.self.inside in
-    let before : ConsoleSeen = record { limit = inside.limit; live = inside.live; last = inside.last } in
-    rw (← c.self.view_is) (command_needs_none c.args.command.now before c.keep.new.self c.ask_within-answer.new.self c.ask_within-answer.result
-    c.ask_within-answer.ensures.config c.keep.ensures c.ask_within-answer.ensures.call)
+pub returns-in-Some-answer-clause-comes : goal.returns-in-Some-answer-clause-comes
+returns-in-Some-answer-clause-comes c =
+    let says = c.try_ask-caller.ensures in
+    let is = c.in-Some-answer.is in (
+      (
+        c.in-Some-answer.answer,
+        rw (← c.self.view_is) (idle_answered c.self.inside c.in-Some.caller c.try_ask-caller.result.0 _ _ _
+            (sym c.replace.ensures.value ∙ c.in-Some.is) c.self.invariant c.keep.ensures (record {
+              goes_on = rw is at says.goes_on;
+              done = rw is at says.done;
+              refused = rw is at says.refused;
+              legal = rw (is, c.deref.ensures) at says.legal;
+              takes_none = rw (is, c.deref.ensures) at says.takes_none;
+              made = rw is at says.made;
+            })),
+      ),
+      c.status.ensures,
+    )

@@ -1,0 +1,61 @@
+use Rattle.std.proofs.Common.{◌-◌, ◌^◌, ◌++◌, ap, subst, ◌∙◌, arith}
+use Rattle.shared_tracer.specs.CallLogs.{calls_below, calls_from}
+use Rattle.library_tracer.specs.Tiled.{AreParts}
+use Rattle.library_tracer.proofs.TileLemmas.{appended, falls, twice, lower_end, upper_low, upper_end, parts_append, fresh_append}
+use Rattle.library_tracer.proofs.passes.+split_evenly.Goals as goal
+
+pub split_evenly-requires : goal.split_evenly-requires
+split_evenly-requires m c =
+    let other = c.if-times-eq0.false in
+    let two = twice c.args.times other in
+    let room = c.requires.room in
+    let least = c.decreases in
+    let halves = c.in-Ok.ensures.halves in (
+      falls c.args.times m other least,
+      (
+        c.in-Ok.ensures.of.0,
+        (
+          lower_end _ _ _ c.args.times other halves c.requires.names,
+          ((halves.seen.0 ∙ c.requires.fresh.0, c.in-Ok.ensures.calls.0 ∙ ap (calls_below _) c.requires.fresh.1), omega (arith, two, room)),
+        ),
+      ),
+    )
+
+pub split_evenly-requires-in-Ok : goal.split_evenly-requires-in-Ok
+split_evenly-requires-in-Ok m c =
+    let other = c.if-times-eq0.false in
+    let two = twice c.args.times other in
+    let room = c.requires.room in
+    let len = c.split_evenly.ensures.len in
+    let capacity = c.split_evenly.ensures.capacity in
+    let least = c.decreases in
+    let halves = c.in-Ok.ensures.halves in (
+      falls c.args.times m other least,
+      (
+        c.in-Ok.ensures.of.1,
+        (
+          upper_end _ _ _ c.args.times other halves c.requires.names,
+          ((halves.seen.1 ∙ c.requires.fresh.0, c.in-Ok.ensures.calls.1 ∙ ap (calls_from _) c.requires.fresh.1), omega (arith, two, room, len, capacity)),
+        ),
+      ),
+    )
+
+pub returns-clause-added : goal.returns-clause-added
+returns-clause-added m c =
+    let other = c.if-times-eq0.false in
+    let first = c.split_evenly.ensures.added in
+    let second = c.split_evenly-in-Ok.ensures.added in
+    let halves = c.in-Ok.ensures.halves in (
+      first.0 ++ second.0,
+      appended c.args.callers.now.items _ _ first.0 second.0 first.1 second.1,
+      parts_append c.args.tracer.now _ _ _ _ first.0 second.0 (upper_low _ _ _ c.args.times other halves c.requires.names)
+          (twice c.args.times other)
+          (subst (λ k. AreParts c.args.tracer.now k (2 ^ (c.args.times - 1)) first.0) halves.low first.2) second.2,
+      fresh_append first.0 second.0 first.3 second.3,
+    )
+
+pub returns-clause-len : goal.returns-clause-len
+returns-clause-len m c =
+    let two = twice c.args.times c.if-times-eq0.false in
+    let first = c.split_evenly.ensures.len in
+    let second = c.split_evenly-in-Ok.ensures.len in omega (arith, two, first, second)

@@ -1,0 +1,37 @@
+-- What contracts see of consoles and passes, and what is true of their fields.
+use Rattle.std.specs.Prelude.{◌≡◌, Option, Some, None, IfSome, IsSome, is_some}
+use Rattle.std.specs.Arc.{arc_value}
+use Rattle.shared_tracer.specs.SharedCallers.{calls_of, caller_view, config_of, line_calls, line_view, IsCallerOf, IsInLineOf}
+use Rattle.shared_tracer.specs.declared.caller.Caller.{Caller}
+use Rattle.library_tracer.specs.ConsolesSeen.{ConsoleSeen, Known}
+use Rattle.library_tracer.specs.declared.console.Console.TheInside.{Inside}
+use Rattle.library_tracer.specs.declared.queued.Queued.{Queued}
+
+-- what a caller knows, and which calls it made
+abbrev pub known_by : Caller → Known
+known_by caller = record { view = caller_view caller; calls = calls_of caller }
+
+-- and one that is in line
+abbrev pub known_in : Queued → Known
+known_in queued = record { view = line_view queued.line; calls = line_calls queued.line }
+
+-- by the caller that is idle, or by the one that is in line
+abbrev pub known_of : Option Caller → Option Queued → Option Known
+known_of (Some caller) queued = Some (known_by caller)
+known_of None (Some queued) = Some (known_in queued)
+known_of None None = None
+
+abbrev pub seen : Inside → ConsoleSeen
+seen c = record {
+  tracer = (arc_value c.tracer).lock.table.shared.table_id;
+  config = config_of (arc_value c.tracer);
+  has = known_of c.idle c.queued;
+  is_in_line = is_some c.queued;
+  last = c.last;
+}
+
+-- The caller is one of its tracer's, and idle or in line.
+pub record IsSound (c : Inside) : Type 0 where
+  pub idle : IfSome c.idle (IsCallerOf (arc_value c.tracer))
+  pub in_line : IfSome c.queued (λ queued. IsInLineOf (arc_value c.tracer) queued.line)
+  pub one : IsSome c.idle → c.queued ≡ None

@@ -1,0 +1,185 @@
+/* What tracectl.h says of a tracer's handle and of threads that come and go, and, compiled for who calls them by name, the functions of the header. Both
+ * libraries contain it, libtracectl_c.a and libtracectl.so (examples/c/build).
+ *
+ * A tracer's handle is used under one lock of the process: threads join and leave seldom. What calls do to the tracer they do under the lock of the proved
+ * part, of which each makes one try. */
+#define _GNU_SOURCE
+#define TRACECTL_FUNCTION
+#include "tracectl.h"
+
+#include <errno.h>
+#include <pthread.h>
+#include <sched.h>
+#include <stdlib.h>
+#include <sys/syscall.h>
+#include <unistd.h>
+
+volatile uint32_t tracectl_forks;
+
+static pthread_mutex_t lock = PTHREAD_ERRORCHECK_MUTEX_INITIALIZER_NP;
+static pthread_once_t once = PTHREAD_ONCE_INIT;
+static pthread_key_t key; /* of a thread: the first of its seats */
+static int is_ready;
+
+/* ---- Trying again. ---- */
+
+enum { FIRST_PAUSES = 8, DOUBLINGS = 8, MOST_PAUSES = FIRST_PAUSES << DOUBLINGS, TRIES_OUT_OF_LINE = 1000, TRIES_BEFORE_YIELDING = 2000 };
+
+static void pause_so_often(uint32_t count) {
+    for (uint32_t i = 0; i < count; i++) {
+#if defined(__x86_64__) || defined(__i386__)
+        __builtin_ia32_pause();
+#elif defined(__aarch64__)
+        __asm__ __volatile__("yield");
+#endif
+    }
+}
+
+/* Out of line each failure doubles the pauses, so that whoever has the tracer does several calls in a row, and its memory goes from core to core less
+ * often. In line all others wait for this thread once its ticket is served, so it looks without a pause, and lets others run after a while. */
+void tracectl_wait(struct tracectl_console *console, uint32_t tries) {
+    if (tries < TRIES_OUT_OF_LINE) {
+        pause_so_often(tries <= DOUBLINGS ? FIRST_PAUSES << (tries - 1) : MOST_PAUSES);
+        if (tries > DOUBLINGS) sched_yield(); /* whoever has the tracer is perhaps not running */
+        return;
+    }
+    tracectl_try_line_up(console); /* which may come to nothing, and changes nothing once it is in line */
+    if (tries >= TRIES_BEFORE_YIELDING) sched_yield();
+}
+
+/* ---- The process. ---- */
+
+static void note_fork(void) {
+    pthread_mutex_t unlocked = PTHREAD_ERRORCHECK_MUTEX_INITIALIZER_NP;
+    lock = unlocked;
+    tracectl_forks = tracectl_forks + 1;
+}
+
+static uint32_t give_back(struct tracectl_seat *seat);
+
+/* A thread ends that has these seats. */
+static void leave_all(void *first) {
+    for (struct tracectl_seat *seat = first, *next; seat; seat = next) {
+        next = seat->next;
+        if (seat->forks == tracectl_forks && !seat->in_call) give_back(seat);
+        free(seat);
+    }
+}
+
+static void get_ready(void) {
+    is_ready = !pthread_key_create(&key, leave_all) && !pthread_atfork(NULL, NULL, note_fork);
+}
+
+/* Takes the lock, or says why not: this thread has it, and is interrupted by a signal or within malloc. */
+static uint32_t take_lock(void) {
+    return pthread_mutex_lock(&lock) ? TRACECTL_IN_CALL : TRACECTL_DONE;
+}
+
+/* ---- A tracer's handle. ---- */
+
+static int is_of_parent(const tracectl *tracer) {
+    return tracer->passes.state && tracer->forks != tracectl_forks;
+}
+
+uint32_t tracectl_open(tracectl *tracer, const tracectl_settings *settings) {
+    uint32_t status;
+    pthread_once(&once, get_ready);
+    if (!is_ready) return TRACECTL_MEMORY;
+    if ((status = take_lock())) return status;
+    status = is_of_parent(tracer) ? TRACECTL_FORKED : tracectl_try_open(&tracer->passes, settings);
+    if (!status) {
+        tracer->cpus = settings->cpus;
+        tracer->forks = tracectl_forks;
+    }
+    pthread_mutex_unlock(&lock);
+    return status;
+}
+
+uint32_t tracectl_close(tracectl *tracer) {
+    uint32_t status = take_lock();
+    if (status) return status;
+    status = is_of_parent(tracer) ? TRACECTL_FORKED : tracectl_try_close(&tracer->passes);
+    pthread_mutex_unlock(&lock);
+    return status;
+}
+
+/* ---- A thread's handle. ---- */
+
+/* Has a seat leave its tracer. */
+static uint32_t give_back(struct tracectl_seat *seat) {
+    uint32_t tries = 0, status;
+    for (;;) {
+        if ((status = take_lock())) return status;
+        status = tracectl_try_leave(&seat->tracer->passes, &seat->console);
+        pthread_mutex_unlock(&lock);
+        if (status != TRACECTL_BUSY) return status;
+        tracectl_wait(&seat->console, ++tries);
+    }
+}
+
+/* Has a seat join a tracer. */
+static uint32_t take_pass(tracectl *tracer, struct tracectl_seat *seat) {
+    uint32_t status = take_lock();
+    if (status) return status;
+    status = is_of_parent(tracer) ? TRACECTL_FORKED : tracectl_try_join(&tracer->passes, &seat->console);
+    pthread_mutex_unlock(&lock);
+    return status;
+}
+
+uint32_t tracectl_join(tracectl *tracer, tracectl_thread *thread) {
+    struct tracectl_seat *seat = thread->seat;
+    uint32_t status;
+    if (seat) return seat->forks == tracectl_forks ? TRACECTL_ALREADY_JOINED : TRACECTL_FORKED;
+    if (!is_ready) return TRACECTL_NOT_OPEN;
+    if (!(seat = malloc(sizeof *seat))) return TRACECTL_MEMORY;
+    *seat = (struct tracectl_seat){
+        .tracer = tracer, .forks = tracectl_forks, .thread = (int32_t)syscall(SYS_gettid), .next = pthread_getspecific(key)};
+    status = take_pass(tracer, seat);
+    if (!status && pthread_setspecific(key, seat)) {
+        give_back(seat);
+        status = TRACECTL_MEMORY;
+    }
+    if (status) free(seat);
+    else thread->seat = seat;
+    return status;
+}
+
+/* Whether a seat is one of this thread's. */
+static int is_own(const struct tracectl_seat *seat) {
+    const struct tracectl_seat *each = pthread_getspecific(key);
+    while (each && each != seat) each = each->next;
+    return each != NULL;
+}
+
+/* Takes a seat out of the list of this thread's. */
+static void unlink_seat(struct tracectl_seat *seat) {
+    struct tracectl_seat *each = pthread_getspecific(key);
+    if (each == seat) pthread_setspecific(key, seat->next);
+    for (; each; each = each->next)
+        if (each->next == seat) each->next = seat->next;
+}
+
+uint32_t tracectl_leave(tracectl_thread *thread) {
+    struct tracectl_seat *seat = thread->seat;
+    uint32_t status = tracectl_begin(thread);
+    if (status) return status;
+    status = is_own(seat) ? give_back(seat) : TRACECTL_OTHER_THREAD;
+    if (status) {
+        tracectl_end(thread);
+        return status;
+    }
+    unlink_seat(seat);
+    thread->seat = NULL;
+    free(seat);
+    return TRACECTL_DONE;
+}
+
+tracectl_place tracectl_here(const tracectl_thread *thread) {
+    tracectl_place place = {0, 0};
+    if (thread->seat) {
+        int cpu = sched_getcpu();
+        place.cpu = cpu < 0 ? 0 : (uint32_t)cpu % thread->seat->tracer->cpus;
+        place.thread = thread->seat->thread;
+    }
+    return place;
+}
