@@ -259,7 +259,7 @@ def told_versions(program):
 def mount_helps(program):
     """./tracectl-mount --help shows each of its options, with its range, and compiles nothing."""
     parts = ["--cpus N ", " 1 to 8 [", "--pages N ", " 2 to 1024 [", "--page-bytes N ", " 64 to 4080, a multiple of 8 [", "--allow-other ", "--mode MODE ", " 0 to 0777 ["]
-    parts += ["--uid N ", "--gid N ", "-f ", "--help ", "--version ", "-- COMMAND [ARG ..]", "Exit status:"]
+    parts += ["--uid N ", "--gid N ", "-f ", "--help ", "--version ", "-- COMMAND [ARG ..]", "--over DIR ", "Exit status:"]
     found = []
     with starter(program) as one:
         for words in (["--help"], ["-h"], ["--help", "DIR"], ["--cpus", "2", "--help"]):
