@@ -18,10 +18,19 @@ const MOST_ERRORS: usize = 8;
 
 /// The errors of all instances, oldest first. Noting a refused write takes all memory first (`begin`); then it is told what was wrong, or taken back if
 /// nothing is to be noted (`finish`, `take_back`).
-#[derive(Drop)]
 pub struct ErrorLog {
     alloc: Global,
     errors: Vec<NotedError>,
+}
+
+impl Drop for ErrorLog {
+    // Not derived, so that no crate above proves the drops of its parts.
+    fn drop(self) {
+        let ErrorLog {
+            alloc: _,
+            errors: _,
+        } = self;
+    }
 }
 
 impl Model for ErrorLog {

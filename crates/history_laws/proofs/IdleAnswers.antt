@@ -31,7 +31,8 @@ use Rattle.tracer_specification.specs.Settings.{NumberedEvent, declared_events, 
 use Rattle.tracer_specification.specs.Snapshots.{has_spare, live_side, written_snapshot}
 use Rattle.tracer_specification.specs.Triggers.{Trigger, is_left, snapshot_trigger_of, times_left}
 use Rattle.tracer_specification.specs.Waiting.{waiting, waits_in}
-use Rattle.history_laws.specs.IdleEvents.{IsUnchanged, OnlyTicks, ShowsTheClock, has_active_hist, has_times_left, is_idle, reads_clock, records, shows_clock, wants}
+use Rattle.tracer_specification.specs.IdleEvents.{has_active_hist, has_times_left, is_idle, records, wants}
+use Rattle.history_laws.specs.IdleEmissions.{IsUnchanged, OnlyTicks, ShowsTheClock, reads_clock, shows_clock}
 
 -- ---- names
 

@@ -25,7 +25,8 @@ use Rattle.tracer_specification.specs.Triggers.{Trigger, acts, is_left, met_by, 
 use Rattle.tracer_specification.proofs.Members.{IsIn, both-false, filter-in, not-true}
 use Rattle.tracer_specification.proofs.TableSteps.{counted-rows, nothing-counted, rows-none}
 use Rattle.tracer_specification.proofs.Triggered.{number-before, times_left-less, times_left-same}
-use Rattle.history_laws.specs.IdleEvents.{IdleIsWantedByNone, IsUnchanged, OnlyTicks, has_active_hist, has_times_left, instances, is_idle, records, wants}
+use Rattle.tracer_specification.specs.IdleEvents.{has_active_hist, has_times_left, instances, is_idle, records, wants}
+use Rattle.history_laws.specs.IdleEmissions.{IdleIsWantedByNone, IsUnchanged, OnlyTicks}
 use Rattle.history_laws.proofs.TriggerConditions.{named-itself}
 
 -- ---- no instance that is there wants an idle event

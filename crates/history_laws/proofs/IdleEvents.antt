@@ -8,7 +8,8 @@ use Rattle.trace_command.specs.declared.command.Reply.{Reply}
 use Rattle.trace_command.specs.declared.refusal.Refusal.{Refusal}
 use Rattle.tracer_specification.specs.History.{answer, answer_with_room, unless_full}
 use Rattle.tracer_specification.specs.Settings.{NumberedEvent, event_named}
-use Rattle.history_laws.specs.IdleEvents.{IdleEmissionsLeaveAnswers, IdleEmissionsLeaveReads, IdleEmissionsLeaveWaiting, IdleEmissionsLeaveWants, IdleEmissionsMoveTheClock, IdleEmissionsOnlyTick, IdleEmissionsTakeOnlyRoom, IsUnchanged, OnlyTicks, emits_idle, is_found_idle}
+use Rattle.tracer_specification.specs.IdleEvents.{emits_idle, is_found_idle}
+use Rattle.history_laws.specs.IdleEmissions.{IdleEmissionsLeaveAnswers, IdleEmissionsLeaveReads, IdleEmissionsLeaveWaiting, IdleEmissionsLeaveWants, IdleEmissionsMoveTheClock, IdleEmissionsOnlyTick, IdleEmissionsTakeOnlyRoom, IsUnchanged, OnlyTicks}
 use Rattle.history_laws.proofs.IdleAnswers.{answer-same, clock-moves, idle-same, named, read-leaves, there, waiting-same, wants-same}
 use Rattle.history_laws.proofs.IdleEmissions.{ticks-once}
 

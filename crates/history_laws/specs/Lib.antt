@@ -6,7 +6,7 @@ pub mod CpuSums
 pub mod OneOrder
 pub mod TriggerTrees
 pub mod Looks
-pub mod IdleEvents
+pub mod IdleEmissions
 pub mod SmallPasts
 pub mod IdleExamples
 pub mod LegalPasts

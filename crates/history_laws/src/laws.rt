@@ -1,8 +1,8 @@
 //! Theorems about histories of requests, newest first. Each function does nothing: its contract is a theorem.
 
 ghost use Rattle.history_laws.specs.AccountedFor.{EmissionsAreAccountedFor, EmissionsAreShownOrCounted, ShownCountsAccountForEmissions};
-ghost use Rattle.history_laws.specs.IdleEvents.{IdleEmissionsLeaveAnswers, IdleEmissionsLeaveReads, IdleEmissionsLeaveWaiting, IdleEmissionsLeaveWants, IdleEmissionsMoveTheClock, IdleEmissionsOnlyTick, IdleEmissionsTakeOnlyRoom, IdleIsWantedByNone};
-ghost use Rattle.history_laws.specs.IdleExamples.{ActiveHistsWant, InstancesWant, SwitchesDecide, TimesLeftWant};
+ghost use Rattle.history_laws.specs.IdleEmissions.{IdleEmissionsLeaveAnswers, IdleEmissionsLeaveReads, IdleEmissionsLeaveWaiting, IdleEmissionsLeaveWants, IdleEmissionsMoveTheClock, IdleEmissionsOnlyTick, IdleEmissionsTakeOnlyRoom, IdleIsWantedByNone};
+ghost use Rattle.history_laws.specs.IdleExamples.{ActiveHistsWant, InstancesWant, SharedTablesPause, SwitchesDecide, TimesLeftWant};
 ghost use Rattle.history_laws.specs.LegalPasts.{LegalPastsWereDone};
 ghost use Rattle.history_laws.specs.ReadOnce.{NothingIsReadTwice, ReadTimesRise};
 ghost use Rattle.history_laws.specs.ReadsInParts.{ReadsShowInTurn, ReadsLeaveTheSame, ReadsLeaveAnswers, ReadsLeaveWaiting};
@@ -73,10 +73,10 @@ pub fn legal_histories_were_done()
     ensures { LegalPastsWereDone }
 {}
 
-/// An emission of an idle event changes the clock alone, whatever was done before it, and so do any number of them, one after another. An event is idle if
-/// no instance that is there wants it: none records it, has a hist trigger of it that is not paused, or a trigger for snapshots with times left; filters
-/// are not asked. After the emissions the same events are wanted. Each request, but a read of `stats`, is answered as without them, as long as the
-/// history has room, and `stats` shows the same but for the clock; reads consume the same, and looks at pipes tell the same.
+/// An emission of an idle event that is done changes the clock alone, whatever was done before it, and so do any number of them, one after another. An
+/// event is idle if no instance that is there wants it: none records it, has a hist trigger of it that is not paused, or a trigger for snapshots with times
+/// left; filters are not asked. After the emissions the same events are wanted. Each request, but a read of `stats`, is answered as without them, as long as
+/// the history has room, and `stats` shows the same but for the clock; reads consume the same, and looks at pipes tell the same.
 pub fn idle_emissions_only_tick()
     ensures idle { IdleIsWantedByNone }
     ensures ticks { IdleEmissionsOnlyTick }
@@ -88,11 +88,12 @@ pub fn idle_emissions_only_tick()
     ensures waiting { IdleEmissionsLeaveWaiting }
 {}
 
-/// Small pasts, worked by hand, leave an event idle: one that is disabled or not traced, whose hist triggers are paused, whose trigger for snapshots has
-/// no times left, or whose instance was removed. In each neighbouring case it is wanted.
+/// Small pasts, worked by hand, leave an event idle: one that is disabled or not traced, whose hist triggers are paused or removed, whose trigger for
+/// snapshots has no times left or is removed, or whose instance was removed, be it made again or not. In each neighbouring case it is wanted.
 pub fn small_pasts_leave_events_idle()
     ensures switches { SwitchesDecide }
     ensures hists { ActiveHistsWant }
+    ensures shared { SharedTablesPause }
     ensures times { TimesLeftWant }
     ensures instances { InstancesWant }
 {}

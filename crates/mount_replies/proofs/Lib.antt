@@ -4,6 +4,7 @@ pub mod Steps
 pub mod FileLemmas
 pub mod PipeLemmas
 pub mod ReadLemmas
+pub mod OpenLemmas
 pub mod LineLemmas
 pub mod ListingLemmas
 pub mod ShortLemmas

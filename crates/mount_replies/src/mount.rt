@@ -26,7 +26,6 @@ use tracer::Tracer;
 
 /// A mounted tracer: the tracer, which folders and files it has, the open files, the reads that wait, the writes that were refused, the texts that were
 /// counted, whether something has to be told before the next request is answered, whose the files are, and their permissions.
-#[derive(Drop)]
 pub struct Mount {
     pub(crate) alloc: Global,
     pub(crate) live: Tracer,
@@ -39,6 +38,25 @@ pub struct Mount {
     pub(crate) uid: u32,
     pub(crate) gid: u32,
     pub(crate) mode: u16,
+}
+
+impl Drop for Mount {
+    // Not derived, so that no crate above proves the drops of its parts.
+    fn drop(self) {
+        let Mount {
+            alloc: _,
+            live: _,
+            scene: _,
+            files: _,
+            parked: _,
+            errors: _,
+            counted: _,
+            owes: _,
+            uid: _,
+            gid: _,
+            mode: _,
+        } = self;
+    }
 }
 
 impl Model for Mount {

@@ -27,7 +27,6 @@ pub struct Instance {
 }
 
 /// What a look-up needs of a tracer: how many CPUs it has, and which events and instances.
-#[derive(Drop)]
 pub struct Scene {
     alloc: Global,
     pub(crate) cpus: u8,
@@ -35,6 +34,20 @@ pub struct Scene {
     declared: u32,
     pub(crate) instances: Vec<Instance>,
     made: u32,
+}
+
+impl Drop for Scene {
+    // Not derived, so that no crate above proves the drops of its parts.
+    fn drop(self) {
+        let Scene {
+            alloc: _,
+            cpus: _,
+            events: _,
+            declared: _,
+            instances: _,
+            made: _,
+        } = self;
+    }
 }
 
 impl Model for Scene {

@@ -3,6 +3,7 @@ pub mod Instances
 pub mod Changes
 pub mod MemoryTaken
 pub mod Plans
+pub mod WantedEvents
 pub mod Rows
 pub mod Deliveries
 pub mod Files

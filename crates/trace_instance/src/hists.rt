@@ -6,6 +6,7 @@ ghost use Rattle.trace_instance.specs.private.Commands.{shown_attached};
 ghost use Rattle.trace_instance.specs.private.SharedTables as sharing;
 ghost use Rattle.trace_instance.specs.KeptHists as kept;
 ghost use Rattle.trace_instance.specs.KeptHists.{table_numbered};
+ghost use Rattle.trace_instance.specs.WantedEvents.{is_active};
 ghost use Rattle.trace_text.specs.ShownTriggers.{shown_trigger};
 
 use crate::tables;
@@ -47,6 +48,16 @@ impl AttachedHist {
         ensures { result ≡ is_passed self.now.spec.filter emission.now }
     {
         self.spec.passes(emission.row, emission.cpu, emission.pid)
+    }
+
+    /// Whether it counts rows: its table is not paused.
+    pub(crate) fn is_active(&self, tables: &[Table]) -> bool
+        ensures { result ≡ is_active tables.now self.now }
+    {
+        match tables::hist_of(tables, self.table) {
+            Some(hist) => !hist.is_paused(),
+            None => false,
+        }
     }
 
     /// Whether it matches: the same name, keys, values, sort keys and filter.

@@ -32,7 +32,6 @@ use trace_snapshot::Sides;
 pub(crate) const EVENTS: usize = 64;
 
 /// A trace instance, as in ftrace.rst, "Instances": each has switches, filters, triggers, options and rings of its own.
-#[derive(Drop)]
 pub struct Instance {
     alloc: Global,
     // The declared events, in their order.
@@ -42,6 +41,20 @@ pub struct Instance {
     overwrite: bool,
     tracing: bool,
     sides: Sides,
+}
+
+impl Drop for Instance {
+    // Not derived, so that no crate above proves the drops of its parts.
+    fn drop(self) {
+        let Instance {
+            alloc: _,
+            events: _,
+            tables: _,
+            overwrite: _,
+            tracing: _,
+            sides: _,
+        } = self;
+    }
 }
 
 impl Model for Instance {

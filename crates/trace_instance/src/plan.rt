@@ -1,11 +1,13 @@
 //! Plans: what an emission of an event does in an instance, as far as the instance's settings say it for every row. They change only with a setting,
 //! so whoever owns the instances can keep them, as a kernel keeps the flags of `struct trace_event_file`.
 
-ghost use Rattle.std.specs.Prelude.{◌≡◌, ◌&&◌, is_some};
+ghost use Rattle.std.specs.Prelude.{◌≡◌, ◌&&◌, ◌||◌, is_some};
 ghost use Rattle.trace_instance.specs.Plans as plans;
+ghost use Rattle.trace_instance.specs.WantedEvents.{may_act};
 
 use crate::change::InstanceChange;
 use crate::event::InstanceEvent;
+use crate::tables::Table;
 
 /// What an emission of an event does in an instance.
 #[derive(Clone, Copy)]
@@ -19,6 +21,13 @@ pub enum Plan {
 }
 
 impl InstanceEvent {
+    /// Whether an instance that is recording or not, with these tables, wants its emissions: it records them, or a trigger may act on them.
+    pub(crate) fn is_wanted(&self, tracing: bool, tables: &[Table]) -> bool
+        ensures { result ≡ ((tracing && self.now.enabled) || may_act self.now.triggers.snapshot self.now.triggers.hists tables.now) }
+    {
+        tracing && self.enabled || self.triggers.may_act(tables)
+    }
+
     /// What an emission does, in an instance that is recording or not.
     pub(crate) fn plan(&self, tracing: bool) -> Plan
         ensures { result ≡ plans.planned (tracing && self.now.enabled) self.now.filter (is_some self.now.triggers.snapshot) self.now.triggers.hists }

@@ -47,6 +47,13 @@ impl AttachedSnapshot {
         }
     }
 
+    /// Whether it may act once more: it has times left, or no limit.
+    pub(crate) fn has_times_left(&self) -> bool
+        ensures { result ≡ triggers.is_left self.now.left }
+    {
+        is_left(self.left)
+    }
+
     /// Whether the trigger acts on an emission of its event.
     pub(crate) fn acts(&self, emission: &Emission) -> bool
         ensures { result ≡ kept_acts (Some self.now) emission.now }

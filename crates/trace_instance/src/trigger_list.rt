@@ -1,7 +1,7 @@
 //! The triggers of an event, of either kind, as an instance keeps them: a kernel's `triggers` of `struct trace_event_file`.
 
 ghost use Rattle.std.specs.Prelude.{◌≡◌, ℕ, ◌+◌, ◌<◌, ◌≤◌, ◌==◌, ◌||◌, not, if◌then◌else◌, is_some, [], ◌∷◌, ◌++◌, length, map, None, All, Any, IfOk, OnOk, OnErr, option_copied};
-ghost use Rattle.std.specs.List.{find};
+ghost use Rattle.std.specs.List.{find, list_any};
 ghost use Rattle.trace_instance.specs.Changes.{IsNewest};
 ghost use Rattle.trace_instance.specs.Deliveries.{counted_down};
 ghost use Rattle.trace_instance.specs.FileAnswers.{AreThere};
@@ -10,6 +10,7 @@ ghost use Rattle.trace_instance.specs.KeptHists.{kept_at};
 ghost use Rattle.trace_instance.specs.private.Commands.{shown_attached, shown_of};
 ghost use Rattle.trace_instance.specs.private.SharedTables as sharing;
 ghost use Rattle.trace_instance.specs.TriggerLists as lists;
+ghost use Rattle.trace_instance.specs.WantedEvents as wanted;
 ghost use Rattle.trace_text.specs.HistText.{hist_text};
 ghost use Rattle.trace_text.specs.ShownTriggers.{shown_trigger};
 
@@ -110,6 +111,33 @@ impl TriggerList {
         self.triggers.iter().any(
             |trigger| matches!(trigger, EventTrigger::Hist(hist) if hist.table == table),
         )
+    }
+
+    /// Whether a trigger may act on an emission, whatever its row is: a hist trigger whose table is not paused, or a snapshot trigger with times left
+    /// or no limit.
+    pub(crate) fn may_act(&self, tables: &[Table]) -> bool
+        ensures { result ≡ wanted.may_act self.now.snapshot self.now.hists tables.now }
+    {
+        self.has_active_hist(tables) || self.has_times_left()
+    }
+
+    // Whether the table of a hist trigger is not paused.
+    fn has_active_hist(&self, tables: &[Table]) -> bool
+        ensures { result ≡ list_any (wanted.is_active tables.now) self.now.hists }
+    {
+        self.triggers.iter().any(
+            |trigger| matches!(trigger, EventTrigger::Hist(hist) if hist.is_active(tables)),
+        )
+    }
+
+    // Whether the snapshot trigger, if there is one, may act once more.
+    fn has_times_left(&self) -> bool
+        ensures { result ≡ wanted.has_times_left self.now.snapshot }
+    {
+        match self.snapshot() {
+            Some(snapshot) => snapshot.has_times_left(),
+            None => false,
+        }
     }
 
     /// Removes the hist triggers, unless the string is appended.

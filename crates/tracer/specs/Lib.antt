@@ -2,3 +2,4 @@ pub mod Lives
 pub mod LiveSeen
 pub mod LiveFields
 pub mod LiveLaws
+pub mod LiveMasks

@@ -34,6 +34,7 @@ ghost use Rattle.trace_command.specs.declared.refusal.Refusal.TheVariants as ref
 ghost use Rattle.tracer_specification.specs.Settings.{declared_events, instance_names, is_there, now_of};
 ghost use Rattle.tracer_specification.specs.Waiting.{waiting};
 ghost use Rattle.trace_instance.specs.Instances.{InstanceStandsFor};
+ghost use Rattle.tracer.specs.LiveMasks.{IsMaskAfter};
 ghost use Rattle.tracer.specs.Lives.{IsLive, WasLedTo};
 
 use std::alloc::Global;
@@ -175,6 +176,15 @@ impl Tracer {
             → result ≡ waiting self.now.config past (paths.address_of path.now).instance (paths.address_of path.now).file }
     {
         self.state.waiting(&self.config, path)
+    }
+
+    /// The events of which an emission may do more than count the clock, a bit of each: that of event 1, the first declared, is the lowest. A bit is
+    /// clear exactly if no instance records the event (events.rst, "Using Event Tracing"), has a hist trigger of it that is not paused, or a snapshot
+    /// trigger of it with times left or no limit ("Event triggers"). Filters are not asked. This is no command: it takes no memory and changes nothing.
+    pub fn wanted(&self) -> u64
+        ensures { (past : List Request) → IsLive self.now.config past self.now → IsMaskAfter past result }
+    {
+        self.state.wanted()
     }
 }
 

@@ -9,6 +9,7 @@ pub mod FileTexts
 pub mod History
 pub mod LateMemory
 pub mod Waiting
+pub mod IdleEvents
 pub mod Pasts
 pub mod Laws
 pub mod TableLaws

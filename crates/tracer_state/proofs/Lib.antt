@@ -4,6 +4,7 @@ pub mod ReservedEach
 pub mod PlannedReach
 pub mod PlanSteps
 pub mod Idle
+pub mod WantedMasks
 pub mod Stands
 pub mod Usable
 pub mod Alike

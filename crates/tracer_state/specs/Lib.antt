@@ -1,5 +1,6 @@
 pub mod AddressedRequests
 pub mod EventPlans
+pub mod WantedMasks
 pub mod States
 pub mod ValueEmissions
 pub mod private

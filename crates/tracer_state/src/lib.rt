@@ -11,6 +11,7 @@ mod resolve;
 mod row;
 mod state;
 mod waiting;
+mod wanted;
 
 pub use change::Change;
 pub use emission::ValuesEmission;

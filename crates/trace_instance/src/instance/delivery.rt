@@ -6,6 +6,7 @@ ghost use Rattle.trace_buffer.specs.Buffers as buffers;
 ghost use Rattle.trace_instance.specs.Instances.{IsAlike, passed_in};
 ghost use Rattle.trace_instance.specs.KeptHists.{KeysAgree};
 ghost use Rattle.trace_instance.specs.Plans.{plan_of};
+ghost use Rattle.trace_instance.specs.WantedEvents.{wants_event};
 ghost use Rattle.trace_instance.specs.Rows as rows;
 ghost use Rattle.trace_instance.specs.Deliveries.{CanCountRow, NeedsRowMemory, CanFire, HasFewRows, row_of, IsDelivered, IsOffered, IsExchanged, IsWritable, IsWritten, HasFew};
 
@@ -33,6 +34,15 @@ impl Instance {
             return Plan::Nothing;
         }
         self.events[event].plan(self.tracing)
+    }
+
+    /// Whether it wants the emissions of the event at this index, whatever their rows are: it is recording and the event is enabled (events.rst, "Using
+    /// Event Tracing"), a hist trigger of the event is not paused, or its snapshot trigger has times left or no limit ("Event triggers"). Filters are
+    /// not asked. If there is no such event: no.
+    pub fn wants(&self, event: usize) -> bool
+        ensures { result ≡ wants_event self.now event }
+    {
+        event < self.events.len() && self.events[event].is_wanted(self.tracing, &self.tables)
     }
 
     /// Evaluates the filters of the hist triggers of the event at this index for a row, and reserves memory to count it for those that it passes.

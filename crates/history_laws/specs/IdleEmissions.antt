@@ -1,68 +1,30 @@
--- Events that nobody wants: their emissions change the clock alone (events.rst, "Using Event Tracing"; ftrace.rst, "The File System"). The newest
+-- What emissions of events that nobody wants change: the clock alone (events.rst, "Using Event Tracing"; ftrace.rst, "The File System"). The newest
 -- request comes first.
-use Rattle.std.specs.Prelude.{◌≡◌, ◌↔◌, ◌<◌, ℕ, ◌+◌, Bool, true, false, not, ◌&&◌, ◌||◌, List, ◌∷◌, ◌++◌, length, map, Option, Some, None, Result}
-use Rattle.std.specs.List.{list_all, list_any}
+use Rattle.std.specs.Prelude.{◌≡◌, ◌↔◌, ◌<◌, ℕ, ◌+◌, Bool, true, false, List, ◌∷◌, ◌++◌, length, Option, Some, Result}
+use Rattle.std.specs.List.{list_all}
 use Rattle.record_text.specs.StatsText.{stats_text}
 use Rattle.trace_buffer.specs.Families.{cpu_stats}
 use Rattle.trace_command.specs.Paths.{File, OfCpu}
-use Rattle.trace_command.specs.Requests.{Request, Emission, ReadFile}
+use Rattle.trace_command.specs.Requests.{Request, ReadFile}
 use Rattle.trace_command.specs.declared.command.Config.{Config}
 use Rattle.trace_command.specs.declared.command.Reply.{Reply}
 use Rattle.trace_command.specs.declared.file_name.CpuFile.TheVariants as per_cpu
 use Rattle.trace_command.specs.declared.refusal.Refusal.{Refusal}
 use Rattle.trace_format.specs.Definitions.{Definition}
-use Rattle.tracer_specification.specs.HistTriggers.{HistTrigger, hist_triggers, hists_of, hits_of, is_paused, table_of}
+use Rattle.tracer_specification.specs.HistTriggers.{HistTrigger, hist_triggers, hits_of, is_paused, table_of}
 use Rattle.tracer_specification.specs.History.{answer, answer_with_room, instance_answer, missing_cpu, unless_refused, whole_text}
+use Rattle.tracer_specification.specs.IdleEvents.{emits_idle, is_idle, wants}
 use Rattle.tracer_specification.specs.Rings.{rings, rings_of_side}
 use Rattle.tracer_specification.specs.Settings.{NumberedEvent, declared_events, event_named, filter_of, instance_names, is_enabled, is_there, is_tracing, now_of, overwrites}
 use Rattle.tracer_specification.specs.Snapshots.{has_spare, live_side}
-use Rattle.tracer_specification.specs.Triggers.{Trigger, is_left, snapshot_trigger_of, times_left}
+use Rattle.tracer_specification.specs.Triggers.{Trigger, snapshot_trigger_of, times_left}
 use Rattle.tracer_specification.specs.Waiting.{waiting}
 
--- ---- events that are wanted
-
--- whether an instance records an event's emissions, those of which the event's filter holds
-abbrev pub records : Option (List ℕ) → Definition → List Request → Bool
-records instance event past = is_tracing instance past && is_enabled instance event.name past
-
--- whether it has a hist trigger of the event that is not paused
-abbrev pub has_active_hist : Option (List ℕ) → Definition → List Request → Bool
-has_active_hist instance event past = list_any (λ t. not (is_paused instance t.table past)) (hists_of instance event past)
-
--- whether an event's trigger for snapshots, if it has one, has times left or no limit
-abbrev pub has_times_left : Definition → Option Trigger → List Request → Bool
-has_times_left event None past = false
-has_times_left event (Some t) past = is_left (times_left event t past)
-
--- An instance wants an event that it records or that a trigger may act on. Filters are not asked, those of triggers neither.
-abbrev pub wants : Option (List ℕ) → Definition → List Request → Bool
-wants instance event past =
-    records instance event past
-    || (has_active_hist instance event past || has_times_left event (snapshot_trigger_of instance event past) past)
-
--- the instances that are there: the top one and those that were made
-abbrev pub instances : List Request → List (Option (List ℕ))
-instances past = None ∷ map (λ name. Some name) (instance_names past)
-
--- an event is idle if no instance that is there wants it
-abbrev pub is_idle : Definition → List Request → Bool
-is_idle event past = not (list_any (λ instance. wants instance event past) (instances past))
-
--- none of those of which requests find that they are there
+-- an event is idle exactly if none of the instances wants it of which requests find that they are there
 abbrev pub IdleIsWantedByNone : Type 0
 IdleIsWantedByNone =
     (past : List Request) (event : Definition)
     → (is_idle event past ≡ true) ↔ ((instance : Option (List ℕ)) → is_there instance past ≡ true → wants instance event past ≡ false)
-
--- whether an event that was looked up by its name is declared, and idle
-abbrev pub is_found_idle : Option NumberedEvent → List Request → Bool
-is_found_idle None past = false
-is_found_idle (Some k) past = is_idle k.event past
-
--- whether a request emits one that is idle after this past, whatever its row is
-abbrev pub emits_idle : List Request → Request → Bool
-emits_idle past (Emission name cpu pid pairs) = is_found_idle (event_named name past) past
-emits_idle past request = false
 
 -- ---- the clock alone
 
@@ -92,7 +54,7 @@ pub record OnlyTicks (count : ℕ) (past after : List Request) : Type 0 where
   pub names : instance_names after ≡ instance_names past
   pub each : (instance : Option (List ℕ)) → is_there instance past ≡ true → IsUnchanged instance past after
 
--- An emission of an idle event changes the clock alone, whatever was done before it; and so do any number of them, one after another.
+-- An emission of an idle event that is done changes the clock alone, whatever was done before it; and so do any number of them, one after another.
 abbrev pub IdleEmissionsOnlyTick : Type 0
 IdleEmissionsOnlyTick =
     (past emissions : List Request) → list_all (emits_idle past) emissions ≡ true → OnlyTicks (length emissions) past (emissions ++ past)
