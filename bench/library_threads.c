@@ -1,7 +1,8 @@
-/* library_threads KIND THREADS COUNT [LINE..]: in a tracer of four CPUs, with rings of 16 pages of 4,080 bytes, the event `tick u64 n`, enabled, and whatever the
- * lines say, so many threads emit by values, COUNT times in all, each on a CPU of its own as far as there are such. KIND says what is printed:
+/* library_threads KIND THREADS COUNT [LINE..]: in a tracer of four CPUs, with rings of 16 pages of 4,080 bytes, the event `tick u64 n`, enabled, and
+ * whatever the lines say, so many threads emit by values, COUNT times in all, each on a CPU of its own as far as there are such. KIND says what is printed:
  *
  *   time     the nanoseconds of one emission, of all threads together, from the first one's start to the last one's end
+ *   macro    the same of emissions by TRACECTL_EMIT, each of which loads its bit anew
  *   waits    those of 50, 99 and 99.99 of 100 emissions of the first thread, at most, and of the longest, the clock included
  *   memory   by how many bytes the process has grown since the first thousand emissions and reads, where the first thread makes a read of a CPU's
  *            statistics after each ten of its emissions
@@ -162,13 +163,26 @@ static inline void emit(struct caller *caller, uint64_t n) {
     if (tracectl_emit_values(&caller->thread, 1, caller->cpu, 7, &value, 1)) exit(1);
 }
 
+static inline void emit_by_macro(struct caller *caller, uint64_t n) {
+    __asm__ __volatile__("" ::: "memory"); /* so that the compiler moves no load out of the loop */
+    if (TRACECTL_EMIT(&caller->thread, 1, tracectl_unsigned(n))) exit(1);
+}
+
 #endif
+#endif
+
+#ifndef TRACECTL_EMIT
+#define emit_by_macro emit
 #endif
 
 /* ---- What a thread does. ---- */
 
 static void emit_all(struct caller *caller) {
     for (long i = 0; i < count_each; i++) emit(caller, 1000000 + (uint64_t)i);
+}
+
+static void emit_all_by_macro(struct caller *caller) {
+    for (long i = 0; i < count_each; i++) emit_by_macro(caller, 1000000 + (uint64_t)i);
 }
 
 static void emit_timed(struct caller *caller) {
@@ -205,6 +219,7 @@ static void *run(void *given) {
     spans[number].start = is_kind("memory") ? (uint64_t)resident() : now();
     if (is_kind("waits") && is_first) emit_timed(&caller);
     else if (is_kind("memory") && is_first) emit_and_read(&caller, FIRST * EMISSIONS_A_READ, count_each);
+    else if (is_kind("macro")) emit_all_by_macro(&caller);
     else emit_all(&caller);
     spans[number].end = now();
     leave(&caller);
@@ -231,7 +246,7 @@ static void tell_time(unsigned threads) {
         if (spans[i].start < start) start = spans[i].start;
         if (spans[i].end > end) end = spans[i].end;
     }
-    printf("%.1f\n", (double)(end - start) / (double)(count_each * (long)threads));
+    printf("%.2f\n", (double)(end - start) / (double)(count_each * (long)threads));
 }
 
 int main(int count, char **words) {
@@ -240,9 +255,11 @@ int main(int count, char **words) {
     if (!thread_count || thread_count > MOST_THREADS) return 2;
     kind = words[1];
     count_each = atol(words[3]) / (long)thread_count;
-    waits = malloc((size_t)count_each * sizeof *waits);
-    if (!waits) return 1;
-    memset(waits, 0, (size_t)count_each * sizeof *waits);
+    if (is_kind("waits")) {
+        waits = malloc((size_t)count_each * sizeof *waits);
+        if (!waits) return 1;
+        memset(waits, 0, (size_t)count_each * sizeof *waits);
+    }
     begin(count - 4, words + 4);
     pthread_barrier_init(&barrier, NULL, thread_count);
     for (unsigned i = 0; i < thread_count; i++) {

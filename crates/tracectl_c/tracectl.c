@@ -47,6 +47,24 @@ void tracectl_wait(struct tracectl_console *console, uint32_t tries) {
     if (tries >= TRIES_BEFORE_YIELDING) sched_yield();
 }
 
+/* ---- Which events are wanted. ---- */
+
+/* The number of commands and the events are two words, so one thread at a time compares and stores them. Who tests a bit loads the events without the
+ * lock. It is held for a few instructions, within a call: by no signal handler, whose call of the same handle is refused before. */
+void tracectl_take_mask(tracectl *tracer, const struct tracectl_mask *mask) {
+    while (__atomic_exchange_n(&tracer->mask_lock, 1, __ATOMIC_ACQUIRE)) sched_yield();
+    if (mask->entries > tracer->mask.entries) {
+        tracer->mask.entries = mask->entries;
+        __atomic_store_n(&tracer->mask.events, mask->events, __ATOMIC_RELEASE);
+    }
+    __atomic_store_n(&tracer->mask_lock, 0, __ATOMIC_RELEASE);
+}
+
+uint32_t tracectl_emit_here(tracectl_thread *thread, uint32_t event, const tracectl_value *values, size_t count) {
+    tracectl_place here = tracectl_here(thread);
+    return tracectl_emit_values(thread, event, here.cpu, here.thread, values, count);
+}
+
 /* ---- The process. ---- */
 
 static void note_fork(void) {
@@ -90,6 +108,8 @@ uint32_t tracectl_open(tracectl *tracer, const tracectl_settings *settings) {
     if (!status) {
         tracer->cpus = settings->cpus;
         tracer->forks = tracectl_forks;
+        tracer->mask = (struct tracectl_mask){0, 0}; /* that of a tracer of which nothing was asked */
+        tracer->mask_lock = 0;
     }
     pthread_mutex_unlock(&lock);
     return status;

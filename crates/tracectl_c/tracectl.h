@@ -18,7 +18,7 @@
  *  - A handle is set to TRACECTL_CLOSED or TRACECTL_LEFT (all zeros) before it is first used. Only these functions change it, and it is not copied. That
  *    of a tracer stays where it is until it is closed.
  *  - A thread's handle is used by the thread that joined with it, and one call at a time. (A call from a signal handler, or from what a call itself calls, as
- *    malloc, is refused with TRACECTL_IN_CALL.) The lock in tracectl.c is held while a tracer's handle is used.
+ *    malloc, is refused with TRACECTL_IN_CALL.) The lock in tracectl.c is held while a tracer's passes are used.
  *  - No pointer is null. A string is a pointer to bytes that nobody writes during the call, and how many they are, below 2^63; its last byte
  *    need not be 0. A string of no bytes has a pointer too, and so has an array of no values. Nobody writes an array of values during the call, and
  *    it has fewer than 2^58. Memory that a call writes to overlaps none of its other arguments.
@@ -54,14 +54,23 @@ struct tracectl_console {
     void *console;
 };
 
+/* Which events are wanted after so many commands: of any other that is declared an emission then changes only the clock and the number of commands. Of two
+ * masks the one after more commands is the later one, and those after equally many are the same. */
+struct tracectl_mask {
+    uint64_t entries; /* commands that were done */
+    uint64_t events;  /* a bit of each event: that of event 1, which was declared first, is the lowest */
+};
+
 /* A tracer. Its fields belong to the library. */
 typedef struct tracectl {
     struct tracectl_passes passes;
     uint32_t cpus;
     uint32_t forks;
+    struct tracectl_mask mask; /* the latest that a call was told */
+    uint32_t mask_lock;        /* 1 while a thread compares a mask with it, and takes that */
 } tracectl;
 
-#define TRACECTL_CLOSED {{0, 0}, 0, 0}
+#define TRACECTL_CLOSED {{0, 0}, 0, 0, {0, 0}, 0}
 
 /* A thread that has joined a tracer: of each such there is one, which is on the heap, since the thread may end while the handle is gone. */
 struct tracectl_seat {
@@ -144,19 +153,17 @@ uint32_t tracectl_try_close(struct tracectl_passes *passes);
 uint32_t tracectl_try_join(struct tracectl_passes *passes, struct tracectl_console *console);
 uint32_t tracectl_try_leave(struct tracectl_passes *passes, struct tracectl_console *console);
 uint32_t tracectl_try_line_up(struct tracectl_console *console);
-uint32_t tracectl_try_line(struct tracectl_console *console, const char *line, size_t line_length);
+uint32_t tracectl_try_line(struct tracectl_console *console, const char *line, size_t line_length, struct tracectl_mask *mask);
 uint32_t tracectl_try_emit(struct tracectl_console *console, const char *event, size_t event_length, uint32_t cpu, int32_t process, const char *fields,
                            size_t fields_length);
 uint32_t tracectl_try_emit_values(struct tracectl_console *console, uint32_t event, uint32_t cpu, int32_t process, const tracectl_value *values,
                                   size_t count);
-uint32_t tracectl_try_write(struct tracectl_console *console, const char *path, size_t path_length, const char *text, size_t text_length);
-uint32_t tracectl_try_append(struct tracectl_console *console, const char *path, size_t path_length, const char *text, size_t text_length);
-uint32_t tracectl_try_read(struct tracectl_console *console, const char *path, size_t path_length);
-uint32_t tracectl_try_take(struct tracectl_console *console, const char *path, size_t path_length, uint64_t limit);
+uint32_t tracectl_try_write(struct tracectl_console *console, const char *path, size_t path_length, const char *text, size_t text_length, uint32_t append,
+                            struct tracectl_mask *mask);
+uint32_t tracectl_try_read(struct tracectl_console *console, const char *path, size_t path_length, uint32_t is_limited, uint64_t limit);
 uint32_t tracectl_try_files(struct tracectl_console *console);
-uint32_t tracectl_try_entries(struct tracectl_console *console, uint64_t *entries);
+uint32_t tracectl_try_wanted(struct tracectl_console *console, struct tracectl_mask *mask);
 int32_t tracectl_try_waiting(struct tracectl_console *console, const char *path, size_t path_length);
-size_t tracectl_try_reply_length(struct tracectl_console *console);
 size_t tracectl_try_reply(struct tracectl_console *console, size_t from, char *room, size_t room_length);
 size_t tracectl_try_offset(struct tracectl_console *console);
 
@@ -183,13 +190,20 @@ TRACECTL_FUNCTION void tracectl_end(const tracectl_thread *thread) {
 /* Waits a little after this try, the so-many-th that came to nothing. Who tried a thousand times gets in line, where its turn is sure to come. */
 void tracectl_wait(struct tracectl_console *console, uint32_t tries);
 
+/* Keeps the mask that a call was told if it is later than the one that is kept, which a mask of no commands never is: a call that was told none hands that
+ * over. So the mask that is kept is the latest of all calls that have returned, in whichever order they came here. */
+void tracectl_take_mask(tracectl *tracer, const struct tracectl_mask *mask);
+
 /* ---- Commands. One that is refused changes nothing but the reply. ---- */
 
 /* A line of a script (docs/FILES.md), without its newline. A blank line and a comment do nothing. */
 TRACECTL_FUNCTION uint32_t tracectl_line(tracectl_thread *thread, const char *line, size_t line_length) {
+    struct tracectl_mask mask = {0, 0};
     uint32_t tries = 0, status = tracectl_begin(thread);
     if (status) return status;
-    while ((status = tracectl_try_line(&thread->seat->console, line, line_length)) == TRACECTL_BUSY) tracectl_wait(&thread->seat->console, ++tries);
+    while ((status = tracectl_try_line(&thread->seat->console, line, line_length, &mask)) == TRACECTL_BUSY)
+        tracectl_wait(&thread->seat->console, ++tries);
+    tracectl_take_mask(thread->seat->tracer, &mask);
     tracectl_end(thread);
     return status;
 }
@@ -245,20 +259,33 @@ TRACECTL_FUNCTION uint32_t tracectl_emit_values(tracectl_thread *thread, uint32_
     return status;
 }
 
-/* Writes a string to a file (docs/FILES.md), as `echo TEXT > PATH` does, and appends it, as `echo TEXT >> PATH`. */
-TRACECTL_FUNCTION uint32_t tracectl_write(tracectl_thread *thread, const char *path, size_t path_length, const char *text, size_t text_length) {
+/* Writes a string to a file, or appends it: by the two functions after it. */
+TRACECTL_FUNCTION uint32_t tracectl_write_by(tracectl_thread *thread, const char *path, size_t path_length, const char *text, size_t text_length,
+                                             uint32_t append) {
+    struct tracectl_mask mask = {0, 0};
     uint32_t tries = 0, status = tracectl_begin(thread);
     if (status) return status;
-    while ((status = tracectl_try_write(&thread->seat->console, path, path_length, text, text_length)) == TRACECTL_BUSY)
+    while ((status = tracectl_try_write(&thread->seat->console, path, path_length, text, text_length, append, &mask)) == TRACECTL_BUSY)
         tracectl_wait(&thread->seat->console, ++tries);
+    tracectl_take_mask(thread->seat->tracer, &mask);
     tracectl_end(thread);
     return status;
 }
 
+/* Writes a string to a file (docs/FILES.md), as `echo TEXT > PATH` does, and appends it, as `echo TEXT >> PATH`. */
+TRACECTL_FUNCTION uint32_t tracectl_write(tracectl_thread *thread, const char *path, size_t path_length, const char *text, size_t text_length) {
+    return tracectl_write_by(thread, path, path_length, text, text_length, 0);
+}
+
 TRACECTL_FUNCTION uint32_t tracectl_append(tracectl_thread *thread, const char *path, size_t path_length, const char *text, size_t text_length) {
+    return tracectl_write_by(thread, path, path_length, text, text_length, 1);
+}
+
+/* Reads a file, or a limited number of records: by the two functions after it. */
+TRACECTL_FUNCTION uint32_t tracectl_read_by(tracectl_thread *thread, const char *path, size_t path_length, uint32_t is_limited, uint64_t limit) {
     uint32_t tries = 0, status = tracectl_begin(thread);
     if (status) return status;
-    while ((status = tracectl_try_append(&thread->seat->console, path, path_length, text, text_length)) == TRACECTL_BUSY)
+    while ((status = tracectl_try_read(&thread->seat->console, path, path_length, is_limited, limit)) == TRACECTL_BUSY)
         tracectl_wait(&thread->seat->console, ++tries);
     tracectl_end(thread);
     return status;
@@ -266,20 +293,11 @@ TRACECTL_FUNCTION uint32_t tracectl_append(tracectl_thread *thread, const char *
 
 /* Reads a file to its end, as `cat PATH` does, and at most so many records of a pipe, as `take LIMIT PATH`. What was read is the reply. */
 TRACECTL_FUNCTION uint32_t tracectl_read(tracectl_thread *thread, const char *path, size_t path_length) {
-    uint32_t tries = 0, status = tracectl_begin(thread);
-    if (status) return status;
-    while ((status = tracectl_try_read(&thread->seat->console, path, path_length)) == TRACECTL_BUSY) tracectl_wait(&thread->seat->console, ++tries);
-    tracectl_end(thread);
-    return status;
+    return tracectl_read_by(thread, path, path_length, 0, 0);
 }
 
 TRACECTL_FUNCTION uint32_t tracectl_take(tracectl_thread *thread, const char *path, size_t path_length, uint64_t limit) {
-    uint32_t tries = 0, status = tracectl_begin(thread);
-    if (status) return status;
-    while ((status = tracectl_try_take(&thread->seat->console, path, path_length, limit)) == TRACECTL_BUSY)
-        tracectl_wait(&thread->seat->console, ++tries);
-    tracectl_end(thread);
-    return status;
+    return tracectl_read_by(thread, path, path_length, 1, limit);
 }
 
 /* ---- The thread's last outcome. ---- */
@@ -297,20 +315,21 @@ TRACECTL_FUNCTION uint32_t tracectl_files(tracectl_thread *thread) {
 /* How many bytes the reply has: what the thread's last command read, or the name of the field whose value is wrong (N21 BadRow), or the list; else 0. None
  * of the calls from here on changes the reply. */
 TRACECTL_FUNCTION size_t tracectl_reply_length(tracectl_thread *thread) {
+    char no_room;
     size_t length;
     if (tracectl_begin(thread)) return 0;
-    length = tracectl_try_reply_length(&thread->seat->console);
+    length = tracectl_try_reply(&thread->seat->console, 0, &no_room, 0);
     tracectl_end(thread);
     return length;
 }
 
 /* Copies the reply from this byte on, as far as there is room, and returns how many bytes. */
 TRACECTL_FUNCTION size_t tracectl_reply(tracectl_thread *thread, size_t from, char *room, size_t room_length) {
-    size_t count;
+    size_t length;
     if (tracectl_begin(thread)) return 0;
-    count = tracectl_try_reply(&thread->seat->console, from, room, room_length);
+    length = tracectl_try_reply(&thread->seat->console, from, room, room_length);
     tracectl_end(thread);
-    return count;
+    return length < room_length ? length : room_length;
 }
 
 /* Where the string of the thread's last command is wrong, as how many bytes stand before that; SIZE_MAX if its refusal has no such offset. */
@@ -324,12 +343,13 @@ TRACECTL_FUNCTION size_t tracectl_offset(tracectl_thread *thread) {
 
 /* How many commands were done by all threads. 0 if the call is refused. */
 TRACECTL_FUNCTION uint64_t tracectl_entries(tracectl_thread *thread) {
-    uint64_t entries = 0;
+    struct tracectl_mask mask = {0, 0};
     uint32_t tries = 0;
     if (tracectl_begin(thread)) return 0;
-    while (tracectl_try_entries(&thread->seat->console, &entries) == TRACECTL_BUSY) tracectl_wait(&thread->seat->console, ++tries);
+    while (tracectl_try_wanted(&thread->seat->console, &mask) == TRACECTL_BUSY) tracectl_wait(&thread->seat->console, ++tries);
+    tracectl_take_mask(thread->seat->tracer, &mask);
     tracectl_end(thread);
-    return entries;
+    return mask.entries;
 }
 
 /* Whether a record waits to be read in a pipe: trace_pipe or per_cpu/cpuN/trace_pipe, of the top instance or of one in instances/. 1 if one does,
@@ -344,6 +364,65 @@ TRACECTL_FUNCTION int32_t tracectl_waiting(tracectl_thread *thread, const char *
     tracectl_end(thread);
     return waits;
 }
+
+/* ---- Emissions that cost next to nothing while nobody wants them. ---- */
+
+/* An event is wanted while an emission of it may do more than count the clock: some instance records it, or has a hist trigger of it that is not paused, or
+ * a snapshot trigger with times left. Filters are not asked. Each line, write and append tells which events are wanted after it, a bit of each, and the
+ * latest such mask is kept in the tracer's handle, for all threads. TRACECTL_EMIT tests the event's bit before it calls anything.
+ *
+ *  - If the bit is clear, the emission is not made: its values are not evaluated, neither the clock nor tracectl_entries counts it, and the reply stays.
+ *    Nothing is refused of it: not a wrong value, nor an event that is not declared, a limit that is reached, or a child of a fork. tracectl_emit_values
+ *    tells these.
+ *  - The mask is that of the last line, write or append that has returned, whichever thread made it, or of a later one. An emission of another thread
+ *    goes by it, or by a later one, if it begins after the call has returned and the program orders the two: by a mutex, an atomic flag that is stored
+ *    with release and loaded with acquire, or the start of a thread.
+ *  - No bit in it is clear of an event that is wanted after its call. A bit may stay set of one that is not wanted any more, since emissions tell no mask:
+ *    when a snapshot trigger has fired for the last time, emissions that only count the clock are made until the next line, write or append.
+ *  - Nothing proved reads the mask that is kept. That it is the latest is up to tracectl.c, and only tested. */
+
+/* Asks the tracer whether the event of this number is wanted: 1 if it is, and 0 if it is not, or no event has the number; below 0 is what the call is
+ * refused with, as -TRACECTL_NOT_JOINED. It takes no memory and is no command, and the reply stays. It tells a mask, too, which is kept if it is later. */
+TRACECTL_FUNCTION int32_t tracectl_wanted(tracectl_thread *thread, uint32_t event) {
+    struct tracectl_mask mask = {0, 0};
+    uint32_t tries = 0, status = tracectl_begin(thread);
+    if (status) return -(int32_t)status;
+    while ((status = tracectl_try_wanted(&thread->seat->console, &mask)) == TRACECTL_BUSY) tracectl_wait(&thread->seat->console, ++tries);
+    tracectl_take_mask(thread->seat->tracer, &mask);
+    tracectl_end(thread);
+    if (status) return -(int32_t)status;
+    return event - 1 < 64 && mask.events >> (event - 1) & 1;
+}
+
+/* Whether the event's bit is set in the mask that is kept. It calls nothing. A number that is not from 1 to 64, and each event of a thread that has not
+ * joined, counts as wanted, so that the emission is made, and refused. */
+TRACECTL_FUNCTION int tracectl_is_wanted(const tracectl_thread *thread, uint32_t event) {
+    const struct tracectl_seat *seat = thread->seat;
+    if (!seat || event - 1 >= 64) return 1;
+    return (int)(__atomic_load_n(&seat->tracer->mask.events, __ATOMIC_RELAXED) >> (event - 1) & 1);
+}
+
+/* An event happens, as by tracectl_emit_values, on the CPU and in the thread that tracectl_here tells. */
+uint32_t tracectl_emit_here(tracectl_thread *thread, uint32_t event, const tracectl_value *values, size_t count);
+
+/* TRACECTL_EMIT(thread, event, value, ..) is tracectl_emit_here if the event's bit is set, and otherwise TRACECTL_DONE at once. The values are listed, at least
+ * one, since each event has a field:
+ *
+ *     TRACECTL_EMIT(&thread, REQUEST, tracectl_bytes(path, strlen(path)), tracectl_unsigned(status));
+ *
+ * Handle and number are evaluated once, and the values if the emission is made. */
+#define TRACECTL_EMIT(thread, event, ...) \
+    __extension__({ \
+        tracectl_thread *const tracectl_emitter = (thread); \
+        const uint32_t tracectl_number = (event); \
+        uint32_t tracectl_status = TRACECTL_DONE; \
+        if (__builtin_expect(tracectl_is_wanted(tracectl_emitter, tracectl_number), 0)) { \
+            const tracectl_value tracectl_values[] = {__VA_ARGS__}; \
+            (void)sizeof(char[sizeof tracectl_values ? 1 : -1]); /* there is one */ \
+            tracectl_status = tracectl_emit_here(tracectl_emitter, tracectl_number, tracectl_values, sizeof tracectl_values / sizeof *tracectl_values); \
+        } \
+        tracectl_status; \
+    })
 
 /* ---- Time. ---- */
 

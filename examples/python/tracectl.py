@@ -137,7 +137,7 @@ class Tracer(AbstractContextManager):
             raise ValueError("neither `library` nor TRACECTL_LIBRARY names the shared object")
         self._library = CDLL(path)
         self._here = local()  # `seat` is the thread's
-        self._handle = (c_uint64 * 3)()  # its words are 0 while it is closed
+        self._handle = (c_uint64 * 6)()  # its words are 0 before it is opened
         status = self._library.tracectl_open(self._handle, byref(settings))
         if status:
             raise Refused(status, NO_OFFSET, b"")
@@ -228,12 +228,21 @@ class Tracer(AbstractContextManager):
         """Reads at most so many records of a pipe."""
         return self._ask("take", string("a path", path), c_uint64(number("a limit", limit, U64)))
 
+    def _look(self, name: str, *given: Any) -> bool:
+        """Makes a call that is no command, and tells yes or no."""
+        told = self._call(name, *given, result=c_int32)
+        if told < 0:
+            raise Refused(-told, NO_OFFSET, b"")
+        return told == 1
+
     def waiting(self, path: Text) -> bool:
         """Whether a record waits to be read in a pipe. It is refused as `take` is, but has no reply, and leaves that of the last call."""
-        waits = self._call("waiting", string("a path", path), result=c_int32)
-        if waits < 0:
-            raise Refused(-waits, NO_OFFSET, b"")
-        return waits == 1
+        return self._look("waiting", string("a path", path))
+
+    def wanted(self, event: int) -> bool:
+        """Whether an emission of the event of this number may do more than count the clock: an instance records it, or a trigger of it may act. False if
+        no event has the number. It leaves the reply of the last call."""
+        return self._look("wanted", c_uint32(number("an event's number", event, U32)))
 
     def files(self) -> bytes:
         """Lists the files that there are, as `tracectl --list` does."""

@@ -34,26 +34,40 @@ def built():
     subprocess.run([str(TOP / "examples" / "c" / "build"), str(folder)], check=True)
     heap = Path(subprocess.run(["rt", "doc"], stdout=subprocess.PIPE, check=True).stdout.decode().strip()).parent / "c" / "liblibc_c.a"
     wrapped = {"memory": ["-Wl,--wrap=malloc,--wrap=realloc,--wrap=free"], "refused": ["-Wl,--wrap=malloc"]}
-    for name in ("memory", "limits", "values", "refused", "threads"):
+    for name in ("memory", "limits", "values", "refused", "threads", "wanted"):
         words = wrapped.get(name, []) + ["-I", LIBRARY.parent.parent, "-o", folder / name, CASES / (name + ".c"), folder / "libtracectl_c.a", heap, "-pthread"]
         subprocess.run([os.environ.get("CC", "cc")] + [str(word) for word in words], check=True)
+    build_in_cpp(folder, heap)
     return folder, built_with_sanitizer(folder, heap)
 
 
+def build_in_cpp(folder, heap):
+    """wanted.c as C++, if there is a compiler."""
+    compiler = os.environ.get("CXX", "c++")
+    if not shutil.which(compiler):
+        print("skipped: the header in C++, as there is no C++ compiler %s" % compiler, flush=True)
+        return
+    words = [compiler, "-x", "c++", "-std=c++11", "-I", LIBRARY.parent.parent, "-o", folder / "wanted_in_cpp", CASES / "wanted.c", "-x", "none"]
+    subprocess.run([str(word) for word in [*words, folder / "libtracectl_c.a", heap, "-pthread"]], check=True)
+
+
 def built_with_sanitizer(folder, heap):
-    """The program of many threads, of which ThreadSanitizer sees what is written in C: the proved part lies in a shared object, of which it sees nothing.
-    None where the compiler has no sanitizer."""
-    compiler, archive, proved, program = os.environ.get("CC", "cc"), folder / "proved.a", folder / "libproved.so", folder / "threads_sanitized"
+    """The programs of several threads, of which ThreadSanitizer sees what is written in C: the proved part lies in a shared object, of which it sees
+    nothing. There are none where the compiler has no sanitizer."""
+    compiler, archive, proved = os.environ.get("CC", "cc"), folder / "proved.a", folder / "libproved.so"
     shutil.copy(str(folder / "libtracectl_c.a"), str(archive))
     subprocess.run(["ar", "d", str(archive), "tracectl.o"], check=True)
     words = [compiler, "-shared", "-o", proved, "-Wl,--whole-archive", archive, "-Wl,--no-whole-archive", heap]
     subprocess.run([str(word) for word in words], check=True)
-    words = [compiler, "-fsanitize=thread", "-g", "-O1", "-DEMISSIONS=5000", "-DCOMING=2000", "-I", LIBRARY.parent.parent, "-o", program]
-    words += [CASES / "threads.c", LIBRARY.parent.parent / "tracectl.c", proved, "-Wl,-rpath," + str(folder), "-pthread"]
-    if subprocess.run([str(word) for word in words], stderr=subprocess.DEVNULL).returncode:
-        print("skipped: ThreadSanitizer, which %s does not have" % compiler, flush=True)
-        return None
-    return program
+    programs = {}
+    for name, flags in {"threads": ["-DEMISSIONS=5000", "-DCOMING=2000"], "wanted": ["-DSWITCHES=12500"]}.items():
+        programs[name] = folder / (name + "_sanitized")
+        words = [compiler, "-fsanitize=thread", "-g", "-O1", *flags, "-I", LIBRARY.parent.parent, "-o", programs[name]]
+        words += [CASES / (name + ".c"), LIBRARY.parent.parent / "tracectl.c", proved, "-Wl,-rpath," + str(folder), "-pthread"]
+        if subprocess.run([str(word) for word in words], stderr=subprocess.DEVNULL).returncode:
+            print("skipped: ThreadSanitizer, which %s does not have" % compiler, flush=True)
+            return {}
+    return programs
 
 
 def settings_of(words):
@@ -147,11 +161,11 @@ def library_cases():
     def tracer_of(**settings):
         return Tracer(library=str(folder / "libtracectl.so"), **settings)
 
-    def sanitized_case(program, stdout):
-        """Its threads are fewer, and come and go less often."""
-        wanted_text = re.sub(rb"\d+ threads", b"2000 threads", stdout.read_bytes())
+    def sanitized_case(name, program):
+        """Its threads are fewer, and come and go less often, or ask less often."""
+        wanted_text = re.sub(rb"\d+ threads", b"2000 threads", (CASES / (name + ".stdout")).read_bytes())
         command = ["env", "TSAN_OPTIONS=ignore_noninstrumented_modules=1", program]
-        return Case("tests/library_cases/threads.c under ThreadSanitizer", lambda _: differences(run(command), Outcome(0, wanted_text, b"")))
+        return Case("tests/library_cases/%s.c under ThreadSanitizer" % name, lambda _: differences(run(command), Outcome(0, wanted_text, b"")))
 
     def script_case(script):
         return Case("by calls: " + script.name, lambda program: called(program, tracer_of, script))
@@ -160,7 +174,7 @@ def library_cases():
         return Case("by values: " + script.name, lambda program: called(program, tracer_of, script, emit_by_values))
 
     scripts = [script for script in scripts_of(TOP / "tests" / "rows") if is_plain(script)]
-    return [
+    cases = [
         example_case("examples/c/million.c", [folder / "million"], folder, TOP / "examples" / "c" / "million.stdout"),
         timed_case("examples/c/durations.c", [folder / "durations"], TOP / "examples" / "c" / "durations.stdout"),
         example_case("tests/library_cases/memory.c", [folder / "memory"], folder, CASES / "memory.stdout"),
@@ -168,7 +182,13 @@ def library_cases():
         example_case("tests/library_cases/values.c", [folder / "values"], folder, CASES / "values.stdout"),
         example_case("tests/library_cases/refused.c", [folder / "refused"], folder, CASES / "refused.stdout"),
         example_case("tests/library_cases/threads.c", [folder / "threads"], folder, CASES / "threads.stdout"),
+        example_case("tests/library_cases/wanted.c", [folder / "wanted"], folder, CASES / "wanted.stdout"),
         example_case("examples/c/four_threads.c", [folder / "four_threads"], folder, TOP / "examples" / "c" / "four_threads.stdout"),
+        example_case("examples/c/switched.c", [folder / "switched"], folder, TOP / "examples" / "c" / "switched.stdout"),
         example_case("examples/python/ticks.py", [sys.executable, PYTHON / "ticks.py"], folder, PYTHON / "ticks.stdout"),
         example_case("examples/python/threads.py", [sys.executable, PYTHON / "threads.py"], folder, PYTHON / "threads.stdout"),
-    ] + ([sanitized_case(sanitized, CASES / "threads.stdout")] if sanitized else []) + python_cases(folder / "libtracectl.so") + list(map(script_case, scripts)) + [values_case(script) for script in scripts if b"\nemit " in script.read_bytes()]
+    ]
+    if (folder / "wanted_in_cpp").exists():
+        cases.append(example_case("tests/library_cases/wanted.c in C++", [folder / "wanted_in_cpp"], folder, CASES / "wanted.stdout"))
+    cases += [sanitized_case(name, program) for name, program in sanitized.items()] + python_cases(folder / "libtracectl.so")
+    return cases + list(map(script_case, scripts)) + [values_case(script) for script in scripts if b"\nemit " in script.read_bytes()]

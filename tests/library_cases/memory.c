@@ -1,6 +1,6 @@
-/* Each call while memory is refused: its first allocation, its second and so on, until the call is done. A call that was refused has changed
- * nothing, and the next one may be done. A look at a pipe takes no memory. All that was given out has been given back after an open or a join that was
- * refused, and after a close. Linked with --wrap=malloc, --wrap=realloc and --wrap=free. */
+/* Each call while memory is refused: its first allocation, its second and so on, until the call is done. A call that was refused has changed nothing, and
+ * the next one may be done. A look at a pipe, or at what is wanted, takes no memory. All that was given out has been given back after an open or a join
+ * that was refused, and after a close. Linked with --wrap=malloc, --wrap=realloc and --wrap=free. */
 #include <stdio.h>
 #include <string.h>
 
@@ -87,17 +87,19 @@ static int is_done(const char *name, uint32_t (*call)(void)) {
     }
 }
 
-/* Tells whether a look at a pipe came to this, took no memory, and left the history and the reply as they were. */
+/* Tells whether a look at a pipe, or, where none is named, at whether event 1 is wanted, came to this, took no memory, and left the history and the reply
+ * as they were. */
 static int tells(const char *pipe, size_t pipe_length, int32_t wanted) {
     uint64_t entries = tracectl_entries(&thread);
     size_t reply_length = tracectl_reply_length(&thread);
     left = 0;
-    int32_t waits = tracectl_waiting(&thread, pipe, pipe_length);
+    int32_t told = pipe_length ? tracectl_waiting(&thread, pipe, pipe_length) : tracectl_wanted(&thread, 1);
     int took = left != 0;
     left = -1;
     int same = tracectl_entries(&thread) == entries && tracectl_reply_length(&thread) == reply_length;
-    return printf("waiting in %s: %d%s%s\n", pipe, (int)waits, took ? ", took memory" : "", same ? "" : ", changed something") > 0
-        && waits == wanted && !took && same;
+    printf(pipe_length ? "waiting in %s: " : "wanted%s: ", pipe);
+    printf("%d%s%s\n", (int)told, took ? ", took memory" : "", same ? "" : ", changed something");
+    return told == wanted && !took && same;
 }
 
 /* Leaves the tracer if it was joined, and closes it. Tells whether all memory was given back. */
@@ -111,9 +113,10 @@ static int is_given_back(void) {
 
 int main(void) {
     int done = enabled() == TRACECTL_NOT_JOINED && listed() == TRACECTL_NOT_JOINED && joined() == TRACECTL_NOT_OPEN
-        && tracectl_close(&tracer) == TRACECTL_NOT_OPEN && tells(TEXT("trace_pipe"), -TRACECTL_NOT_JOINED)
+        && tracectl_close(&tracer) == TRACECTL_NOT_OPEN && tells(TEXT("trace_pipe"), -TRACECTL_NOT_JOINED) && tells(TEXT(""), -TRACECTL_NOT_JOINED)
         && is_done("open", opened) && opened() == TRACECTL_ALREADY_OPEN && enabled() == TRACECTL_NOT_JOINED
-        && is_done("join", joined) && joined() == TRACECTL_ALREADY_JOINED && is_done("append", declared) && is_done("line", enabled) && is_done("write", filtered)
+        && is_done("join", joined) && joined() == TRACECTL_ALREADY_JOINED && is_done("append", declared)
+        && tells(TEXT(""), 0) && is_done("line", enabled) && tells(TEXT(""), 1) && is_done("write", filtered)
         && is_done("trigger", counted) && tells(TEXT("trace_pipe"), 0) && is_done("emit", emitted) && is_done("emit_values", emitted_by_values)
         && tells(TEXT("trace_pipe"), 1) && tells(TEXT("per_cpu/cpu1/trace_pipe"), 1) && tells(TEXT("per_cpu/cpu0/trace_pipe"), 1)
         && tells(TEXT("per_cpu/cpu2/trace_pipe"), -20) && tells(TEXT("no_file"), -1) && tells(TEXT("trace"), -TRACECTL_BAD_VALUE)

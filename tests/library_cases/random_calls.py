@@ -39,8 +39,8 @@ class Library:
     """A second tracer: the functions of tracectl.h by ctypes, called by what arguments mean."""
 
     def __init__(self, path, *settings):
-        self.library, self.tracer, self.thread = CDLL(path), (c_uint64 * 3)(), (c_uint64 * 1)()
-        for name, kind in (("reply_length", c_size_t), ("reply", c_size_t), ("offset", c_size_t), ("entries", c_uint64), ("waiting", c_int32)):
+        self.library, self.tracer, self.thread = CDLL(path), (c_uint64 * 6)(), (c_uint64 * 1)()
+        for name, kind in (("reply_length", c_size_t), ("reply", c_size_t), ("offset", c_size_t), ("entries", c_uint64), ("waiting", c_int32), ("wanted", c_int32)):
             getattr(self.library, "tracectl_" + name).restype = kind
         self.opened = self.come(self.library.tracectl_open(self.tracer, byref(Settings(*settings))) or self.join())
 
@@ -71,11 +71,11 @@ class Library:
         count = self.call("reply", c_size_t(0), room, c_size_t(len(room)))
         return ("refused", status, self.call("offset"), room.raw[:count]) if status else ("done", room.raw[:count])
 
-    def waiting(self, path):
+    def look(self, name, *words):
         if not self.thread[0]:
             return self.come(self.join())
-        waits = self.call("waiting", path, c_size_t(len(path)))
-        return self.come(-waits) if waits < 0 else ("done", waits == 1)
+        told = self.call(name, *words)
+        return self.come(-told) if told < 0 else ("done", told == 1)
 
     def entries(self):
         return ("done", self.call("entries")) if self.thread[0] else self.come(self.join())
@@ -118,7 +118,12 @@ def draw_take(drawing):
 
 def draw_waiting(drawing):
     path = drawing.string(PIPES + READ[:2])
-    return call_of([path], lambda second: second.waiting(path.means))
+    return call_of([path], lambda second: second.look("waiting", path.means, c_size_t(len(path.means))))
+
+
+def draw_wanted(drawing):
+    event = drawing.number([1, 2, 3, 0, 4, 64, 65], 0, 2**32 - 1)
+    return call_of([event], lambda second: second.look("wanted", c_uint32(event.means)))
 
 
 def draw_number_of(drawing):
@@ -207,12 +212,13 @@ DRAWS = {  # how often each is drawn, and the draw
     "read": (8, drawn_strings("read", READ)),
     "take": (5, draw_take),
     "waiting": (5, draw_waiting),
+    "wanted": (3, draw_wanted),
     "files": (1, drawn_strings("files")),
     "open": (2, draw_settings),
 }
 DRAWN = [name for name, (often, _) in DRAWS.items() for _ in range(often)]
 COUNTS = {"line": (1, 1), "emit": (1, 2), "number_of": (1, 1), "write": (2, 2), "append": (2, 2), "read": (1, 1), "take": (2, 2)}
-COUNTS.update(waiting=(1, 1), files=(0, 0))  # how many positional arguments a call takes, at least and at most
+COUNTS.update(waiting=(1, 1), wanted=(1, 1), files=(0, 0))  # how many positional arguments a call takes, at least and at most
 OTHERS = {name: draw_count(*bounds) for name, bounds in COUNTS.items()}
 
 

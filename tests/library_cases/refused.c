@@ -37,6 +37,7 @@ void *__wrap_malloc(size_t size) {
 static void ask_again(void) {
     tell_status("a write within a call", tracectl_write(&thread, TEXT("tracing_on"), TEXT("0")));
     tell("a look", tracectl_waiting(&thread, TEXT("trace_pipe")));
+    tell("a question", tracectl_wanted(&thread, 1));
     tell("a reply", (long)tracectl_reply_length(&thread));
     tell("entries", (long)tracectl_entries(&thread));
     tell_status("a leave", tracectl_leave(&thread));
@@ -80,6 +81,9 @@ static void call_in_child(void) {
     tracectl own = TRACECTL_CLOSED;
     tracectl_settings settings = {.cpus = 1, .pages = 2, .page_bytes = 64, .history_limit = 0};
     tell_status("in a child, a write", tracectl_write(&thread, TEXT("tracing_on"), TEXT("0")));
+    tell("in a child, a question", tracectl_wanted(&thread, 1));
+    tell_status("in a child, an emission that is wanted", TRACECTL_EMIT(&thread, 1, tracectl_unsigned(1)));
+    tell_status("in a child, one that is not", TRACECTL_EMIT(&thread, 2, tracectl_unsigned(1)));
     tell_status("in a child, a leave", tracectl_leave(&thread));
     tell_status("in a child, the same handle joins", tracectl_join(&tracer, &thread));
     tell_status("in a child, another joins", tracectl_join(&tracer, &other));
@@ -87,6 +91,7 @@ static void call_in_child(void) {
     tell_status("in a child, an open", tracectl_open(&tracer, &settings));
     tell_status("in a child, an open of its own", tracectl_open(&own, &settings));
     tell_status("in a child, a join of its own", tracectl_join(&own, &other));
+    tell("in a child, a question to its own", tracectl_wanted(&other, 1));
     tell_status("in a child, a read of its own", tracectl_read(&other, TEXT("trace")));
     tell_status("in a child, a leave of its own", tracectl_leave(&other));
     tell_status("in a child, a close of its own", tracectl_close(&own));
@@ -94,6 +99,7 @@ static void call_in_child(void) {
 
 static void fork_and_call(void) {
     int status = -1;
+    tell_status("a write", tracectl_write(&thread, TEXT("events/synthetic/tick/enable"), TEXT("1")));
     fflush(stdout);
     pid_t child = fork();
     if (!child) {
@@ -138,6 +144,8 @@ int main(void) {
     tell_status("an open", tracectl_open(&tracer, &settings));
     tell_status("before it has joined, a write", tracectl_write(&thread, TEXT("tracing_on"), TEXT("1")));
     tell_status("a leave", tracectl_leave(&thread));
+    tell("a question", tracectl_wanted(&thread, 1));
+    tell_status("an emission", TRACECTL_EMIT(&thread, 1, tracectl_unsigned(1)));
     tell("a place", (long)tracectl_here(&thread).cpu + tracectl_here(&thread).thread);
     tell_status("a join", tracectl_join(&tracer, &thread));
     tell_status("another", tracectl_join(&tracer, &thread));

@@ -1,6 +1,7 @@
 -- What a try leaves of a console.
-use Rattle.std.proofs.Common.{◌≡◌, ◌≢◌, ◌⊎◌, ◌<◌, ◌^◌, inl, inr, ℕ, true, false, List, length, Bool, Option, Some, None, Result, Ok, Err, IfOk, IfErr, IfSome, IsSome, refl, sym, ap, subst, ◌∙◌}
+use Rattle.std.proofs.Common.{◌≡◌, ◌≢◌, ◌⊎◌, ◌<◌, ◌^◌, inl, inr, ℕ, true, false, List, length, Bool, Option, Some, None, Result, Ok, Err, MatchResult, IfOk, IfErr, IfSome, IfNone, IsSome, refl, sym, ap, subst, ◌∙◌}
 use Rattle.std.specs.Arc.{arc_value}
+use Rattle.std.specs.Option.{MatchOption}
 use Rattle.ticket_lock.specs.Calls.{HasLooked, IsWorn}
 use Rattle.trace_command.specs.Commands.{Command}
 use Rattle.trace_command.specs.Paths.{address_of}
@@ -12,17 +13,20 @@ use Rattle.trace_command.specs.declared.refusal.Refusal.{Refusal}
 use Rattle.trace_command.specs.declared.refusal.Refusal.TheVariants.{Worn}
 use Rattle.tracer_specification.specs.History.{past_of, IsLegal}
 use Rattle.tracer_specification.specs.Waiting.{waiting}
-use Rattle.tracer_state.proofs.Histories.{length-past_of}
 use Rattle.tracer.specs.LiveSeen.{LiveSeen}
 use Rattle.tracer.specs.Lives.{IsLive}
 use Rattle.shared_book.specs.Asks.{GoesOn, IsDone, IsRefused}
 use Rattle.shared_book.specs.Bases.{numbers_of}
-use Rattle.shared_tracer.specs.SharedCallers.{calls_of, caller_view, config_of, line_calls, line_view, HasNoTurn, IsCallerOf, IsInLineOf, IsLookedAt, IsMade, NeedsNoMemory}
+use Rattle.shared_tracer.specs.SharedCallers.{calls_of, caller_view, config_of, line_calls, line_view, HasNoTurn, IsCallerOf, IsInLineOf, IsLookedAt, IsMade, IsToldOf, NeedsNoMemory}
 use Rattle.shared_tracer.specs.declared.caller.Caller.{Caller}
+use Rattle.trace_script.specs.declared.outcome.Outcome.{Outcome}
+use Rattle.trace_script.specs.declared.outcome.Outcome.TheVariants.{Refused}
 use Rattle.library_tracer.specs.ConsolesSeen.{ConsoleSeen, Known}
-use Rattle.library_tracer.specs.Consoles.{outcome_of, shows_waiting, HasSeen, IsAnswered, IsBusy, IsWornOut, Looks}
+use Rattle.library_tracer.specs.Consoles.{outcome_of, shows_waiting, HasSeen, IsAnswered, IsBusy, IsWornOut, Looks, TellsWaiting}
+use Rattle.library_tracer.specs.declared.console.Tried.{Tried}
+use Rattle.library_tracer.specs.declared.console.Tried.TheVariants.{Busy, Told}
 use Rattle.library_tracer.specs.Inner.{known_by, known_in, seen, IsSound}
-use Rattle.library_tracer.specs.private.Told.{IsToldOf}
+use Rattle.library_tracer.specs.private.Turns.{IsSeenNow}
 use Rattle.library_tracer.specs.declared.console.Console.TheInside.{Inside}
 use Rattle.library_tracer.specs.declared.queued.Queued.{Queued}
 use Rattle.library_tracer.proofs.WaitingLimits.{any_waiting}
@@ -139,19 +143,53 @@ answered i was now in_line command answer before mid after before_is mid_is afte
       unworn = unworn;
     }))
 
-pub idle_answered : (i : Inside) (caller next : Caller) (command : List Entry → Command) (answer : Result Reply Refusal) (after : ConsoleSeen)
-    → i.idle ≡ Some caller → IsSound i → after ≡ record (seen (record i { idle = Some next })) { last = outcome_of answer }
-    → HasAnswer (config_in i) command answer (known_by caller) (known_by next) → IsAnswered command answer (seen i) after
-idle_answered i caller next command answer after e sound is has =
-    answered i (known_by caller) (known_by next) false command answer _ _ after (idle_is i caller e sound) (still_idle i caller next e sound) is
+pub idle_answered : (i : Inside) (caller next : Caller) (last : Outcome) (command : List Entry → Command) (answer : Result Reply Refusal)
+    → i.idle ≡ Some caller → IsSound i → last ≡ outcome_of answer → HasAnswer (config_in i) command answer (known_by caller) (known_by next)
+    → IsAnswered command answer (seen i) (seen (record i { idle = Some next; last = last }))
+idle_answered i caller next last command answer e sound is has =
+    answered i (known_by caller) (known_by next) false command answer _ (seen (record i { idle = Some next })) _ (idle_is i caller e sound)
+    (still_idle i caller next e sound) (ap (λ (o : Outcome). record (seen (record i { idle = Some next })) { last = o }) is)
     (idle_base i caller e sound) has (λ in_line. absurd (cc))
 
-pub line_answered : (i : Inside) (queued : Queued) (next : Caller) (command : List Entry → Command) (answer : Result Reply Refusal) (after : ConsoleSeen)
-    → i.queued ≡ Some queued → IsSound i → after ≡ record (seen (record i { idle = Some next; queued = None })) { last = outcome_of answer }
-    → HasAnswer (config_in i) command answer (known_in queued) (known_by next) → answer ≢ Err Worn → IsAnswered command answer (seen i) after
-line_answered i queued next command answer after e sound is has unworn =
-    answered i (known_in queued) (known_by next) true command answer _ _ after (line_is i queued e sound) refl is (line_base i queued e sound) has
-    (λ in_line. unworn)
+pub line_answered : (i : Inside) (queued : Queued) (next : Caller) (rest : Option Queued) (last : Outcome) (command : List Entry → Command)
+    (answer : Result Reply Refusal) → i.queued ≡ Some queued → IsSound i → rest ≡ None → last ≡ outcome_of answer
+    → HasAnswer (config_in i) command answer (known_in queued) (known_by next) → answer ≢ Err Worn
+    → IsAnswered command answer (seen i) (seen (record i { idle = Some next; queued = rest; last = last }))
+line_answered i queued next rest last command answer e sound none is has unworn =
+    answered i (known_in queued) (known_by next) true command answer _ (seen (record i { idle = Some next; queued = None })) _ (line_is i queued e sound) refl
+    (ap (λ (q : Option Queued). seen (record i { idle = Some next; queued = q; last = last })) none
+    ∙ ap (λ (o : Outcome). record (seen (record i { idle = Some next; queued = None })) { last = o }) is) (line_base i queued e sound) has (λ in_line. unworn)
+
+-- ---- what was seen in the turn of a call
+
+pub idle_saw : {A : Type 0} (i : Inside) (next : Caller) (last : Outcome) (tells : LiveSeen → A → Type 0) (given : Option (Result Reply Refusal))
+    (told : Option A) (status : ℕ) → IfSome told (λ answer. IsSome given × IsToldOf (config_in i) tells (caller_view next).seen answer)
+    → IfSome told (IsSeenNow (IsToldOf (seen i).config tells) (seen (record i { idle = Some next; last = last })) (Told status))
+idle_saw i next last tells given None status saw = tt
+idle_saw i next last tells given (Some answer) status saw =
+    record { now = known_by next; has = refl; shown_is = saw.1; had_turn = λ is. absurd (cc) }
+
+pub line_saw : {A : Type 0} (i : Inside) (next : Caller) (rest : Option Queued) (last : Outcome) (tells : LiveSeen → A → Type 0) (answer : A) (status : ℕ)
+    → IsToldOf (config_in i) tells (caller_view next).seen answer
+    → IsSeenNow (IsToldOf (seen i).config tells) (seen (record i { idle = Some next; queued = rest; last = last })) (Told status) answer
+line_saw i next rest last tells answer status saw =
+    record { now = known_by next; has = refl; shown_is = saw; had_turn = λ is. absurd (cc) }
+
+-- nothing, if there was none
+pub saw_nothing : {A : Type 0} (shown : A → Type 0) (given : Option (Result Reply Refusal)) (told : Option A) (other : A → Type 0)
+    → given ≡ None → IfSome told (λ answer. IsSome given × shown answer) → IfSome told other
+saw_nothing shown given None other none saw = tt
+saw_nothing shown given (Some answer) other none saw =
+    let there : false ≡ true = subst (λ (o : Option (Result Reply Refusal)). IsSome o) none saw.0 in absurd (cc)
+
+-- and none if all tickets are drawn
+pub was_worn : {A : Type 0} (given : Option (Result Reply Refusal)) (answer : Result Reply Refusal) (told : Option A) (last : Outcome) (tried : Tried)
+    → given ≡ Some answer → last ≡ outcome_of answer → IfNone told ((given ≡ None) ⊎ (given ≡ Some (Err Worn)))
+    → IfNone told ((tried ≡ Busy) ⊎ (last ≡ Refused Worn))
+was_worn given answer (Some told) last tried is kept unlooked = tt
+was_worn given answer None last tried is kept (inl none) = absurd (cc)
+was_worn given answer None last tried is kept (inr worn) =
+    let same : answer ≡ Err Worn = cc in inr (kept ∙ ap outcome_of same)
 
 -- ---- a look
 
@@ -171,7 +209,7 @@ looked i was now in_line tells answer before after before_is after_is base look 
       rises = look.rises;
       undone = look.undone;
       calls = calls;
-      shown_is = record { tracer = look.tracer; config = look.config; lives = look.lives; told = look.told };
+      shown_is = look.told;
     }))
 
 pub idle_looked : {A : Type 0} (i : Inside) (caller next : Caller) (tells : LiveSeen → A → Type 0) (answer : A) → i.idle ≡ Some caller → IsSound i
@@ -223,24 +261,12 @@ seen_as one other to before after h = record {
   shown_is = to h.now.view.seen h.shown_is;
 }
 
--- how many commands were done
-abbrev tells_done : LiveSeen → ℕ → Type 0
-tells_done live count = (past : List Request) → IsLive live.config past live → count ≡ length past
-
-pub done_seen : (before after : ConsoleSeen) (told : Option (Result ℕ Refusal)) → Looks (IsToldOf before.config tells_done) before after told
-    → Looks (λ entries count. count ≡ length entries) before after told
-done_seen before after None looks = looks
-done_seen before after (Some (Err refusal)) looks = looks
-done_seen before after (Some (Ok count)) looks =
-    seen_as (λ entries. IsToldOf before.config tells_done entries count) (λ entries. count ≡ length entries)
-    (λ entries told. told.told (past_of entries) told.lives ∙ length-past_of entries) before after looks
-
 -- whether a record waits
 abbrev tells_waiting : List ℕ → LiveSeen → Result Bool Refusal → Type 0
 tells_waiting path live waits =
     (past : List Request) → IsLive live.config past live → waits ≡ waiting live.config past (address_of path).instance (address_of path).file
 
-pub waiting_seen : (path : List ℕ) (waits : Result Bool Refusal) (before after : ConsoleSeen)
+waiting_seen : (path : List ℕ) (waits : Result Bool Refusal) (before after : ConsoleSeen)
     → HasSeen (λ entries. IsToldOf before.config (tells_waiting path) entries waits) before after
     → HasSeen (λ entries. shows_waiting before.config path entries waits) before after
 waiting_seen path waits before after looks =
@@ -250,6 +276,16 @@ waiting_seen path waits before after looks =
     told.told (past_of entries) told.lives
     ∙ sym (any_waiting before.config.history_limit told.tracer.config a.instance (past_of entries) a.file)
     ∙ ap (λ (g : Config). waiting g (past_of entries) a.instance a.file) (sym told.config)) before after looks
+
+pub waiting_told : (path : List ℕ) (seen : Option (Result (Result Bool Refusal) Refusal)) (told : Option (Result Bool Refusal)) (before after : ConsoleSeen)
+    → MatchOption seen (told ≡ None) (λ one. MatchResult one (λ waits. told ≡ Some waits) (λ refusal. told ≡ Some (Err refusal)))
+    → Looks (IsToldOf before.config (tells_waiting path)) before after seen → TellsWaiting path before after told
+waiting_told path None told before after is looks = subst (λ t. TellsWaiting path before after t) (sym is) looks
+waiting_told path (Some (Ok waits)) told before after is looks =
+    subst (λ t. TellsWaiting path before after t) (sym is) (inl (waiting_seen path waits before after looks))
+waiting_told path (Some (Err refusal)) told before after is looks =
+    let worn : Err refusal ≡ Err Worn = ap (λ (r : Refusal). Err r) looks.0 in
+    subst (λ t. TellsWaiting path before after t) (sym is) (inr (worn, looks.1))
 
 -- ---- a ticket
 

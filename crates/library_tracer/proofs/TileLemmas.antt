@@ -10,6 +10,15 @@ use Rattle.shared_tracer.specs.declared.shared.SharedTracer.{SharedTracer}
 use Rattle.shared_tracer.specs.SharedCallers.{calls_of, caller_view, IsCallerOf}
 use Rattle.library_tracer.specs.Tiled.{AreAll, AreFresh, AreParts, AreTiles, calls_of_rest, IsMeeting, IsRootOf, IsTile, MeetsNext}
 
+-- what is split no more
+pub one_part : (shared : SharedTracer) (caller : Caller) (times : ℕ) → times ≡ 0 → IsCallerOf shared caller
+    → (caller_view caller).end ≡ (caller_view caller).low + 64 * 2 ^ times → AreParts shared (caller_view caller).low (2 ^ times) (Some caller ∷ [])
+one_part shared caller times e of names = record {
+  count_is = ap (λ t. 2 ^ t) (sym e);
+  tiles = (record { of = of; low_is = refl; end_is = names ∙ ap (λ t. (caller_view caller).low + 64 * 2 ^ t) e }, tt);
+  all = tt;
+}
+
 pub falls : (t m : ℕ) → (t ≡ 0 → ⊥) → t ≡ m → t - 1 < m
 falls t m other e = omega (arith, other, e)
 

@@ -1,9 +1,11 @@
+pub mod ClearBits
 pub mod Consoles
 pub mod ConsolesSeen
 pub mod Fields
 pub mod Inner
 pub mod InnerPasses
 pub mod ListedFiles
+pub mod Masks
 pub mod PassNames
 pub mod PassesSeen
 pub mod Statuses

@@ -1,2 +1,2 @@
 -- Words of private functions and of proofs: no public clause cites them.
-pub mod Told
+pub mod Turns

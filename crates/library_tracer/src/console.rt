@@ -9,41 +9,57 @@
 //!   InLine ── try, ticket is served ──> Idle, answered        InLine ── try, it is not ─────────> InLine, nothing was run
 //! ```
 
-ghost use Rattle.std.specs.Prelude.{◌≡◌, ◌⊎◌, false, true, None, Some, IsSome, IsOk, IfSome, IfNone, length};
+ghost use Rattle.std.specs.Prelude.{◌≡◌, ◌⊎◌, false, true, None, Some, Ok, Err, IsSome, IsOk, IfOk, IfErr, IfSome, MatchResult, IfNone};
 ghost use Rattle.std.specs.Arc.{arc_value};
+ghost use Rattle.std.specs.Option.{MatchOption};
 ghost use Rattle.trace_command.specs.declared.command.CommandOf.TheVariants as commands;
 ghost use Rattle.trace_command.specs.declared.command.Reply.TheVariants as replies;
+ghost use Rattle.trace_script.specs.declared.line.Line.TheVariants as lines;
 ghost use Rattle.trace_script.specs.declared.outcome.Outcome.TheVariants as outcomes;
 ghost use Rattle.shared_tracer.specs.AskedCommands.{command_after};
-ghost use Rattle.shared_tracer.specs.SharedCallers.{config_of, IsCallerOf};
+ghost use Rattle.shared_tracer.specs.SharedCallers.{config_of, IsCallerOf, IsToldOf};
 ghost use Rattle.shared_tracer.specs.declared.shared.SharedTracer.{SharedTracer as SharedSeen};
-ghost use Rattle.library_tracer.specs.Consoles.{Asks, Tells, Comes, HasLeft, IsBusy, IsOfTracer, IsWornOut, LacksMemory, Lists, Looks, TellsWaiting, failed, outcome_of, says, said_emission, said_line, said_values};
+ghost use Rattle.library_tracer.specs.Consoles.{Asks, Tells, Comes, HasLeft, IsBusy, IsOfTracer, IsWornOut, LacksMemory, Lists, Looks, TellsWaiting, failed, says, said_by, said_emission, said_line, said_values};
 ghost use Rattle.library_tracer.specs.Inner.{known_by};
+ghost use Rattle.library_tracer.specs.Masks.{IsMaskOf, Masks};
+ghost use Rattle.library_tracer.specs.private.Turns.{HadNoTurn, IsSeenNow};
 ghost use Rattle.library_tracer.specs.Statuses.{offset_in, reply_in, status_of};
-ghost use Rattle.library_tracer.specs.private.Told.{IsToldOf};
 
 use crate::fields::{lone_pair, pairs};
-use crate::looks::{Done, Files, Nothing, Waiting};
+use crate::looks::{Files, Waiting, Wanted};
+use crate::mask::Mask;
 use crate::queued::Queued;
-use crate::status;
-use shared_tracer::{Asked, Caller, Look, SharedTracer, ValuesEmission};
+use crate::status::{self, keep, tell};
+use shared_tracer::{Asked, Caller, InLine, Look, Nothing, SharedTracer, ValuesEmission};
 use std::alloc::{AllocError, Global};
 use std::marker::Model;
 use std::sync::Arc;
 use std::{mem, slice};
-use trace_command::{Command, Refusal, Reply};
+use trace_command::{Bytes, Command, Refusal, Reply};
 use trace_format::FieldValue;
 use trace_lex::Text;
 use trace_script::{Line, LineError, LineRoom, Outcome, ScriptFault, prepare};
 
 /// The console of a thread: a caller of a tracer that is shared, and what its last call came to.
-#[derive(Drop)]
 pub struct Console {
     alloc: Global,
     tracer: Arc<SharedTracer, Global>,
     idle: Option<Caller>,
     queued: Option<Queued>,
     last: Outcome,
+}
+
+impl Drop for Console {
+    // Not derived, so that no crate above proves the drops of its parts.
+    fn drop(self) {
+        let Console {
+            alloc: _,
+            tracer: _,
+            idle: _,
+            queued: _,
+            last: _,
+        } = self;
+    }
 }
 
 /// What a try came to.
@@ -88,49 +104,71 @@ impl Console {
         }
     }
 
-    /// Has the tracer run what is asked, in one try, and keeps the answer if there is one.
+    /// Has the tracer run what is asked, in one try, and keeps the answer if there is one. In the same turn it looks at the tracer.
     #[inline(always)]
-    fn ask(&mut self, asked: &Asked<'_>) -> Tried
+    fn ask<L: Look>(&mut self, asked: &Asked<'_>, look: &L) -> (Tried, Option<L::Answer>)
         requires { IsSome self.old.has }
-        ensures comes { Comes (Asks (λ entries. command_after entries asked.now)) self.old self.new result }
+        ensures comes { Comes (Asks (λ entries. command_after entries asked.now)) self.old self.new result.0 }
         ensures has { IsSome self.new.has }
+        ensures looked { IfSome result.1 (IsSeenNow (IsToldOf self.old.config (L.tells look.now)) self.new result.0) }
+        ensures unlooked { IfNone result.1 (HadNoTurn self.new result.0) }
     {
         match mem::replace(&mut self.idle, None) {
             Some(caller) => {
-                let (caller, answer) = self.tracer.try_ask(caller, asked);
-                self.idle = Some(caller);
+                let (caller, answer, told) = self.tracer.try_ask(caller, asked, look);
+                settle(&mut self.idle, caller);
                 match answer {
-                    Some(answer) => {
-                        self.keep(answer);
-                        Tried::Told(self.status())
-                    }
-                    None => Tried::Busy,
+                    Some(answer) => (Tried::Told(keep(&mut self.last, answer)), told),
+                    None => (Tried::Busy, told),
                 }
             }
-            None => self.ask_in_line(asked),
+            None => self.ask_in_line(asked, look),
         }
+    }
+
+    /// Has the tracer run a command.
+    #[inline(always)]
+    fn run(&mut self, command: Command<'_>) -> Tried
+        requires { IsSome self.old.has }
+        ensures comes { Comes (says command.entry) self.old self.new result }
+        ensures has { IsSome self.new.has }
+    {
+        self.ask(&Asked::Command(&command), &Nothing).0
+    }
+
+    /// Has the tracer run a command that may change which events are wanted, and tells which are then.
+    fn run_masked(&mut self, command: Command<'_>, mask: &mut Mask) -> Tried
+        requires { IsSome self.old.has }
+        ensures comes { Comes (says command.entry) self.old self.new result }
+        ensures has { IsSome self.new.has }
+        ensures masked { Masks (says command.entry) self.new result mask.old mask.new }
+    {
+        let (tried, wanted) = self.ask(&Asked::Command(&command), &Wanted);
+        *mask = wanted.unwrap_or(*mask);
+        tried
     }
 
     /// As `ask`, of a caller that is in line, as few are.
     #[cold]
     #[inline(never)]
-    fn ask_in_line(&mut self, asked: &Asked<'_>) -> Tried
+    fn ask_in_line<L: Look>(&mut self, asked: &Asked<'_>, look: &L) -> (Tried, Option<L::Answer>)
         requires { self.old.is_in_line ≡ true }
-        ensures comes { Comes (Asks (λ entries. command_after entries asked.now)) self.old self.new result }
+        ensures comes { Comes (Asks (λ entries. command_after entries asked.now)) self.old self.new result.0 }
         ensures has { IsSome self.new.has }
+        ensures looked { IfSome result.1 (IsSeenNow (IsToldOf self.old.config (L.tells look.now)) self.new result.0) }
+        ensures unlooked { IfNone result.1 (HadNoTurn self.new result.0) }
     {
         let Some(queued) = mem::replace(&mut self.queued, None) else {
-            return Tried::Busy;
+            return (Tried::Busy, None);
         };
-        match self.tracer.ask_in_line(queued.into_line(), asked) {
-            Ok((caller, answer)) => {
-                self.idle = Some(caller);
-                self.keep(answer);
-                Tried::Told(self.status())
+        match self.tracer.ask_in_line(queued.into_line(), asked, look) {
+            Ok((caller, answer, told)) => {
+                settle(&mut self.idle, caller);
+                (Tried::Told(keep(&mut self.last, answer)), Some(told))
             }
             Err(line) => {
-                self.queued = Some(Queued::new(line));
-                Tried::Busy
+                line_up(&mut self.queued, line);
+                (Tried::Busy, None)
             }
         }
     }
@@ -146,11 +184,11 @@ impl Console {
         match mem::replace(&mut self.idle, None) {
             Some(caller) => match self.tracer.try_look(caller, look) {
                 Ok((caller, answer)) => {
-                    self.idle = Some(caller);
+                    settle(&mut self.idle, caller);
                     Some(answer)
                 }
                 Err(caller) => {
-                    self.idle = Some(caller);
+                    settle(&mut self.idle, caller);
                     None
                 }
             },
@@ -169,43 +207,14 @@ impl Console {
         let queued = mem::replace(&mut self.queued, None)?;
         match self.tracer.look_in_line(queued.into_line(), look) {
             Ok((caller, answer)) => {
-                self.idle = Some(caller);
+                settle(&mut self.idle, caller);
                 Some(Ok(answer))
             }
             Err(line) => {
-                self.queued = Some(Queued::new(line));
+                line_up(&mut self.queued, line);
                 None
             }
         }
-    }
-
-    /// Keeps an answer.
-    #[inline(always)]
-    fn keep(&mut self, answer: Result<Reply, Refusal>)
-        ensures { self.new ≡ record self.old { last = outcome_of answer } }
-    {
-        match answer {
-            Ok(Reply::Done) => self.tell_done(),
-            Ok(reply) => self.tell(Outcome::Replied(reply)),
-            Err(refusal) => self.tell(Outcome::Refused(refusal)),
-        }
-    }
-
-    /// Keeps that a call was done. After another such call, as most are, there is nothing to write.
-    #[inline(always)]
-    fn tell_done(&mut self)
-        ensures { self.new ≡ record self.old { last = outcomes.Replied replies.Done } }
-    {
-        if !matches!(self.last, Outcome::Replied(Reply::Done)) {
-            self.last = Outcome::Replied(Reply::Done);
-        }
-    }
-
-    /// Keeps what a call came to.
-    fn tell(&mut self, outcome: Outcome)
-        ensures { self.new ≡ record self.old { last = outcome } }
-    {
-        self.last = outcome;
     }
 
     /// Tells what a call came to that asked nothing.
@@ -213,8 +222,7 @@ impl Console {
         ensures comes { Comes (Tells outcome) self.old self.new result }
         ensures has { IsSome self.old.has → IsSome self.new.has }
     {
-        self.tell(outcome);
-        Tried::Told(self.status())
+        Tried::Told(tell(&mut self.last, outcome))
     }
 
     /// Does an emission of a string of fields, for which a list is allocated.
@@ -224,7 +232,7 @@ impl Console {
         ensures has { IsSome self.new.has }
     {
         match pairs(self.alloc, fields) {
-            Ok(pairs) => self.ask(&Asked::Command(&Command::emit(event, cpu, pid, &pairs))),
+            Ok(pairs) => self.run(Command::emit(event, cpu, pid, &pairs)),
             Err(error) => self.told(failed(error)),
         }
     }
@@ -243,11 +251,11 @@ impl Console {
         match mem::replace(&mut self.idle, None) {
             Some(caller) => match self.tracer.draw(caller) {
                 Ok(line) => {
-                    self.queued = Some(Queued::new(line));
+                    line_up(&mut self.queued, line);
                     true
                 }
                 Err(caller) => {
-                    self.idle = Some(caller);
+                    settle(&mut self.idle, caller);
                     false
                 }
             },
@@ -255,21 +263,19 @@ impl Console {
         }
     }
 
-    /// Does a line of a script. Nothing is done for one of a parallel part, which is out of place.
-    pub fn line(&mut self, line: &[u8]) -> Tried
+    /// Does a line of a script, and tells which events are wanted then. Nothing is done, and told of events, for one of a parallel part, which is out of
+    /// place.
+    pub fn line(&mut self, line: &[u8], mask: &mut Mask) -> Tried
         requires { IsSome self.old.has }
-        ensures comes { Comes (said_line line.now) self.old self.new result ⊎ LacksMemory self.old self.new result }
+        ensures comes { (Comes (said_line line.now) self.old self.new result × Masks (said_line line.now) self.new result mask.old mask.new)
+            ⊎ (LacksMemory self.old self.new result × (mask.new ≡ mask.old)) }
         ensures has { IsSome self.new.has }
     {
         let mut room = LineRoom::new(self.alloc);
         let mut pairs = Vec::new(self.alloc);
-        match prepare(&mut room, &mut pairs, line) {
-            Ok(Line::Ask(command)) => self.ask(&Asked::Command(&command)),
-            Ok(Line::Blank) => self.told(Outcome::Replied(Reply::Done)),
-            Ok(Line::Parallel | Line::Thread | Line::End) => {
-                self.told(Outcome::Fault(ScriptFault::BlockOutOfPlace))
-            }
-            Err(error) => self.told(failed(error)),
+        match asked_by(prepare(&mut room, &mut pairs, line)) {
+            Ok(command) => self.run_masked(command, mask),
+            Err(outcome) => self.told(outcome),
         }
     }
 
@@ -282,7 +288,7 @@ impl Console {
         match lone_pair(fields) {
             Some(pair) => {
                 let pairs = slice::from_ref(&pair);
-                self.ask(&Asked::Command(&Command::emit(event, cpu, pid, pairs)))
+                self.run(Command::emit(event, cpu, pid, pairs))
             }
             None => self.ask_pairs(event, cpu, pid, fields),
         }
@@ -308,7 +314,7 @@ impl Console {
             pid,
             values,
         };
-        self.ask(&Asked::Values(&emission))
+        self.ask(&Asked::Values(&emission), &Nothing).0
     }
 
     /// Tells that a call was refused before anything was asked.
@@ -320,40 +326,27 @@ impl Console {
         self.told(Outcome::Refused(refusal))
     }
 
-    /// Writes a string to a file, as `echo TEXT > PATH` does. One that takes no memory (`TakesNoMemory`), as to a switch, is never refused any.
-    pub fn write(&mut self, path: &[u8], text: &[u8]) -> Tried
+    /// Writes a string to a file, as `echo TEXT > PATH` does, or appends it, as `echo TEXT >> PATH`, and tells which events are wanted then. One that takes
+    /// no memory (`TakesNoMemory`), as to a switch, is never refused any.
+    pub fn write(&mut self, path: &[u8], text: &[u8], append: bool, mask: &mut Mask) -> Tried
         requires { IsSome self.old.has }
-        ensures comes { Comes (says (commands.Write path.now false text.now)) self.old self.new result }
+        ensures comes { Comes (says (commands.Write path.now append text.now)) self.old self.new result }
         ensures has { IsSome self.new.has }
+        ensures masked { Masks (says (commands.Write path.now append text.now)) self.new result mask.old mask.new }
     {
-        self.ask(&Asked::Command(&Command::write(path, text)))
+        let path = Bytes::new(path);
+        let text = Bytes::new(text);
+        self.run_masked(Command::Write { path, append, text }, mask)
     }
 
-    /// Appends a string to a file, as `echo TEXT >> PATH` does. One that takes no memory is never refused any, as by `write`.
-    pub fn append(&mut self, path: &[u8], text: &[u8]) -> Tried
+    /// Reads a file to its end, as `cat PATH` does; or, with a limit, at most so many records of a pipe, as `take LIMIT PATH`.
+    pub fn read(&mut self, path: &[u8], limit: Option<u64>) -> Tried
         requires { IsSome self.old.has }
-        ensures comes { Comes (says (commands.Write path.now true text.now)) self.old self.new result }
+        ensures comes { Comes (says (commands.Read path.now limit)) self.old self.new result }
         ensures has { IsSome self.new.has }
     {
-        self.ask(&Asked::Command(&Command::append(path, text)))
-    }
-
-    /// Reads a file to its end, as `cat PATH` does.
-    pub fn read(&mut self, path: &[u8]) -> Tried
-        requires { IsSome self.old.has }
-        ensures comes { Comes (says (commands.Read path.now None)) self.old self.new result }
-        ensures has { IsSome self.new.has }
-    {
-        self.ask(&Asked::Command(&Command::read(path)))
-    }
-
-    /// Reads at most so many records of a pipe, as `take LIMIT PATH` does.
-    pub fn take(&mut self, path: &[u8], limit: u64) -> Tried
-        requires { IsSome self.old.has }
-        ensures comes { Comes (says (commands.Read path.now (Some limit))) self.old self.new result }
-        ensures has { IsSome self.new.has }
-    {
-        self.ask(&Asked::Command(&Command::take(path, limit)))
+        let path = Bytes::new(path);
+        self.run(Command::Read { path, limit })
     }
 
     /// Lists the files that there are, as `tracectl --list` does: a line for each, which has `r`, `w` or `rw`, a space and the file's path. This is no
@@ -393,13 +386,13 @@ impl Console {
         status::offset_in(&self.last)
     }
 
-    /// How many commands were done by all threads. Nothing, where somebody else has a turn. This is no command, and keeps what the last call came to.
-    pub fn done(&mut self) -> Option<Result<u64, Refusal>>
+    /// Which events are wanted, and how many commands were done by all threads. Nothing, where somebody else has a turn. This is no command: it takes no memory and keeps what the last call came to.
+    pub fn wanted(&mut self) -> Option<Result<Mask, Refusal>>
         requires { IsSome self.old.has }
-        ensures comes { Looks (λ entries count. count ≡ length entries) self.old self.new result }
+        ensures comes { Looks IsMaskOf self.old self.new result }
         ensures has { IsSome self.new.has }
     {
-        self.look(&Done)
+        self.look(&Wanted)
     }
 
     /// Whether a record waits to be read in the pipe at this path. It is refused as `take` of the path is; nothing is told where somebody else has a turn.
@@ -409,11 +402,7 @@ impl Console {
         ensures comes { TellsWaiting path.now self.old self.new result }
         ensures has { IsSome self.new.has }
     {
-        match self.look(&Waiting { path }) {
-            Some(Ok(waits)) => Some(waits),
-            Some(Err(refusal)) => Some(Err(refusal)),
-            None => None,
-        }
+        flat(self.look(&Waiting { path }))
     }
 
     /// Gives the caller back, and the console leaves: one that is in line has its turn first. Nothing is done where that isn't its yet.
@@ -443,6 +432,49 @@ impl Console {
     }
 }
 
+/// Puts a caller where it is idle. (The drop of what was there is proved once, here.)
+#[inline(always)]
+fn settle(idle: &mut Option<Caller>, caller: Caller)
+    ensures { idle.new ≡ Some caller }
+{
+    *idle = Some(caller);
+}
+
+/// Puts a caller where it is in line.
+#[inline(always)]
+fn line_up(queued: &mut Option<Queued>, line: InLine)
+    ensures { queued.new ≡ Some (record { line = line }) }
+{
+    *queued = Some(Queued { line });
+}
+
+/// What was seen, or why it was not.
+fn flat(seen: Option<Result<Result<bool, Refusal>, Refusal>>) -> Option<Result<bool, Refusal>>
+    ensures { MatchOption seen (result ≡ None) (λ one. MatchResult one (λ waits. result ≡ Some waits) (λ refusal. result ≡ Some (Err refusal))) }
+{
+    match seen {
+        Some(Ok(waits)) => Some(waits),
+        Some(Err(refusal)) => Some(Err(refusal)),
+        None => None,
+    }
+}
+
+/// The command that a line asks for, or what is told of a line that asks for none.
+#[inline(always)]
+fn asked_by(read: Result<Line<'_>, LineError>) -> Result<Command<'_>, Outcome>
+    ensures asks { IfOk result (λ command. read.entry ≡ Ok (lines.Ask command)) }
+    ensures tells { IfErr result (λ outcome. MatchResult read.entry (λ line. said_by (Ok line) ≡ Tells outcome) (λ error. outcome ≡ failed error)) }
+{
+    match read {
+        Ok(Line::Ask(command)) => Ok(command),
+        Ok(Line::Blank) => Err(Outcome::Replied(Reply::Done)),
+        Ok(Line::Parallel | Line::Thread | Line::End) => {
+            Err(Outcome::Fault(ScriptFault::BlockOutOfPlace))
+        }
+        Err(error) => Err(failed(error)),
+    }
+}
+
 /// What is told of a line that was not read.
 fn failed(error: LineError) -> Outcome
     ensures { result ≡ failed error }
@@ -451,14 +483,4 @@ fn failed(error: LineError) -> Outcome
         LineError::Fault(fault) => Outcome::Fault(fault),
         LineError::Memory => Outcome::Refused(Refusal::Memory),
     }
-}
-
-// A value that goes to another thread.
-fn moved<T: Send>(value: T) -> T {
-    value
-}
-
-// A console may go to another thread.
-fn sent(console: Console) -> Console {
-    moved(console)
 }

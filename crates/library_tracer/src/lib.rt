@@ -4,11 +4,14 @@
 mod console;
 mod fields;
 mod files;
+pub mod laws;
 mod looks;
+mod mask;
 mod passes;
 mod queued;
 mod status;
 
 pub use console::{Console, Tried};
+pub use mask::Mask;
 pub use passes::{JoinError, PASSES, Passes};
 pub use trace_command::Config;

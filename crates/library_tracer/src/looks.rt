@@ -4,28 +4,16 @@ ghost use Rattle.std.specs.Prelude.{◌≡◌, List, IfOk, length};
 ghost use Rattle.trace_command.specs.Paths as paths;
 ghost use Rattle.trace_command.specs.Requests.{Request};
 ghost use Rattle.tracer_specification.specs.Waiting.{waiting};
+ghost use Rattle.tracer.specs.LiveMasks.{IsMaskAfter};
 ghost use Rattle.tracer.specs.Lives.{IsLive};
 ghost use Rattle.library_tracer.specs.ListedFiles.{files_after};
 
 use crate::files::files_of;
+use crate::mask::Mask;
 use shared_tracer::Look;
 use std::alloc::{AllocError, Global};
 use trace_command::Refusal;
 use tracer::Tracer;
-
-/// How many commands were done.
-#[derive(Drop)]
-pub(crate) struct Done;
-
-impl Look for Done {
-    type Answer = u64;
-
-    ghost tells = { λ _ live count. (past : List Request) → IsLive live.config past live → count ≡ length past };
-
-    fn look(&self, tracer: &Tracer) -> u64 {
-        tracer.done()
-    }
-}
 
 /// Whether a record waits to be read in the pipe at this path.
 #[derive(Drop)]
@@ -61,16 +49,20 @@ impl Look for Files {
     }
 }
 
-/// Nothing. So a caller that is in line has its turn, and is in line no longer.
+/// The events that are wanted, and after how many commands.
 #[derive(Drop)]
-pub(crate) struct Nothing;
+pub(crate) struct Wanted;
 
-impl Look for Nothing {
-    type Answer = ();
+impl Look for Wanted {
+    type Answer = Mask;
 
-    ghost tells = { λ _ _ _. Unit {0} };
+    ghost tells = { λ _ live mask. (past : List Request) → IsLive live.config past live
+        → (mask.entries ≡ length past) × IsMaskAfter past mask.events };
 
-    fn look(&self, tracer: &Tracer) {
-        let _ = tracer;
+    fn look(&self, tracer: &Tracer) -> Mask {
+        Mask {
+            entries: tracer.done(),
+            events: tracer.wanted(),
+        }
     }
 }

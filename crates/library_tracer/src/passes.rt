@@ -10,7 +10,8 @@
 //!            pass       -           pass        ..   pass                a thread has pass 1
 //! ```
 
-ghost use Rattle.std.specs.Prelude.{◌≡◌, ◌≢◌, ◌↔◌, ◌≤◌, ◌+◌, ◌*◌, ◌^◌, [], true, false, IfOk, IfErr, OnOk, IsSome, List, Option, IfSome, vec_len, vec_capacity, ◌++◌};
+ghost use Rattle.std.specs.Prelude.{◌≡◌, ◌≢◌, ◌↔◌, ◌≤◌, ◌+◌, ◌*◌, ◌^◌, [], true, false, IfOk, IfErr, OnOk, IsSome, List, Option, Some, IfSome, vec_len, vec_capacity, ◌++◌};
+ghost use Rattle.std.specs.Arc.{arc_value};
 ghost use Rattle.trace_command.specs.Configs.{IsInRange};
 ghost use Rattle.trace_command.specs.declared.command.Entry.{Entry as EntrySeen};
 ghost use Rattle.trace_command.specs.declared.refusal.Refusal.TheVariants as refusals;
@@ -23,7 +24,7 @@ ghost use Rattle.library_tracer.specs.Tiled.{AreFresh, AreParts, IsFirstThere, I
 
 use crate::console::Console;
 use shared_tracer::{Caller, SharedTracer};
-use std::alloc::Global;
+use std::alloc::{AllocError, Global};
 use std::marker::Model;
 use std::mem;
 use std::sync::Arc;
@@ -39,11 +40,21 @@ const SPLITS: u32 = 10;
 const NAMES: u32 = 64;
 
 /// A tracer that threads share, and the passes that no thread has; or nothing any more, once it is closed.
-#[derive(Drop)]
 pub struct Passes {
     alloc: Global,
     tracer: Option<Arc<SharedTracer, Global>>,
     callers: Vec<Option<Caller>>,
+}
+
+impl Drop for Passes {
+    // Not derived, so that no crate above proves the drops of its parts.
+    fn drop(self) {
+        let Passes {
+            alloc: _,
+            tracer: _,
+            callers: _,
+        } = self;
+    }
 }
 
 /// Why no thread joined.
@@ -113,7 +124,7 @@ impl Passes {
         let (tracer, root) = SharedTracer::new(alloc, config, limit)?;
         let mut callers = Vec::with_capacity(alloc, PASSES)?;
         split_evenly(&tracer, root, SPLITS, &mut callers);
-        match Arc::new(alloc, tracer) {
+        match share(alloc, tracer) {
             Ok(tracer) => Ok(Passes {
                 alloc,
                 tracer: Some(tracer),
@@ -181,11 +192,28 @@ impl Passes {
                 true
             }
             Err(tracer) => {
-                self.tracer = Some(tracer);
+                stay_open(&mut self.tracer, tracer);
                 false
             }
         }
     }
+}
+
+/// Shares a tracer, if there is memory. (What is dropped otherwise is proved here, without all passes at hand.)
+fn share(alloc: Global, tracer: SharedTracer) -> Result<Arc<SharedTracer, Global>, AllocError>
+    ensures ok { IfOk result (λ shared. arc_value shared ≡ tracer) }
+{
+    match Arc::new(alloc, tracer) {
+        Ok(shared) => Ok(shared),
+        Err(_) => Err(AllocError),
+    }
+}
+
+/// Puts a tracer back that goes on.
+fn stay_open(place: &mut Option<Arc<SharedTracer, Global>>, tracer: Arc<SharedTracer, Global>)
+    ensures { place.new ≡ Some tracer }
+{
+    *place = Some(tracer);
 }
 
 /// The index of the first caller that is there.

@@ -5,17 +5,11 @@ use shared_tracer::InLine;
 /// A caller that is in line. A console that is dropped in line would give its ticket up, and nobody would be served any more: so it has its turn first
 /// (`Console::leave`).
 pub struct Queued {
-    line: InLine,
+    pub(crate) line: InLine,
 }
 
 impl Queued {
     ghost use Rattle.std.specs.Prelude.{◌≡◌};
-
-    pub fn new(line: InLine) -> Queued
-        ensures { result.line ≡ line }
-    {
-        Queued { line }
-    }
 
     pub fn into_line(self) -> InLine
         ensures { result ≡ self.line }

@@ -1,6 +1,9 @@
 //! Outcomes as numbers, and what of them is text.
 
 ghost use Rattle.std.specs.Prelude.{◌≡◌, Option, None, Some};
+ghost use Rattle.trace_command.specs.declared.command.Reply.TheVariants as replies;
+ghost use Rattle.trace_script.specs.declared.outcome.Outcome.TheVariants as outcomes;
+ghost use Rattle.library_tracer.specs.Consoles.{outcome_of};
 ghost use Rattle.library_tracer.specs.Statuses.{fault_number, offset_in, reply_in, status_of};
 
 use trace_command::{Refusal, Reply};
@@ -34,6 +37,40 @@ pub(crate) fn status_of(outcome: &Outcome) -> u32
         Outcome::Refused(refusal) => u32::from(refusal.number()),
         Outcome::Fault(fault) => FAULTS + fault_number(*fault),
     }
+}
+
+/// Keeps an answer, and tells its status.
+#[inline(always)]
+pub(crate) fn keep(last: &mut Outcome, answer: Result<Reply, Refusal>) -> u32
+    ensures kept { last.new ≡ outcome_of answer }
+    ensures status { result ≡ status_of last.new }
+{
+    match answer {
+        Ok(Reply::Done) => keep_done(last),
+        Ok(reply) => tell(last, Outcome::Replied(reply)),
+        Err(refusal) => tell(last, Outcome::Refused(refusal)),
+    }
+}
+
+/// Keeps that a call was done. After another such call, as most are, there is nothing to write.
+#[inline(always)]
+fn keep_done(last: &mut Outcome) -> u32
+    ensures kept { last.new ≡ outcomes.Replied replies.Done }
+    ensures status { result ≡ 0 }
+{
+    if !matches!(last, Outcome::Replied(Reply::Done)) {
+        *last = Outcome::Replied(Reply::Done);
+    }
+    0
+}
+
+/// Keeps what a call came to, and tells its status.
+pub(crate) fn tell(last: &mut Outcome, outcome: Outcome) -> u32
+    ensures kept { last.new ≡ outcome }
+    ensures status { result ≡ status_of outcome }
+{
+    *last = outcome;
+    status_of(last)
 }
 
 /// The bytes that an outcome has: what was read, or the name of the field whose value is wrong. Other outcomes have none.

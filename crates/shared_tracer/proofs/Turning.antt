@@ -23,7 +23,7 @@ use Rattle.shared_book.proofs.SameBases.{numbers_of-determines}
 use Rattle.shared_tracer.specs.AskedCommands.{command_after}
 use Rattle.shared_tracer.specs.CallLogs.{AreAllCalls, entries_if_done, entries_of_call}
 use Rattle.shared_tracer.specs.RaisedLimits.{with_limit}
-use Rattle.shared_tracer.specs.SharedCallers.{IsCallMade, IsLookedAt, NeedsNoMemory}
+use Rattle.shared_tracer.specs.SharedCallers.{IsCallMade, IsLookedAt, IsToldOf, NeedsNoMemory}
 use Rattle.shared_tracer.specs.declared.asked.Asked.{Asked}
 use Rattle.shared_tracer.specs.declared.call.Call.{Call}
 use Rattle.shared_tracer.proofs.CallLists.{all-made}
@@ -113,6 +113,17 @@ turn_none v w g config asked (Err refusal) before after base same left kept none
     let here : P g w.seen = subst (λ (es : List Entry). P g es) (sym (left ∙ kept)) (subst (λ (k : Config). P k before) alike none) in
     λ unworn takes. sym (here takes)
 
+-- what a look tells in a turn
+pub turn_told : {A : Type 0} (tells : LiveSeen → A → Type 0) (v w : View Entry) (answer : A) (tracer : LiveSeen) (g config : Config) (entries : List Entry)
+    → numbers_of config ≡ v.base → numbers_of g ≡ v.base → config ≡ with_limit config.history_limit tracer.config → w.seen ≡ entries
+    → IsLive tracer.config (past_of entries) tracer → tells tracer answer → IsToldOf g tells w.seen answer
+turn_told tells v w answer tracer g config entries base same numbers seen lives told = record {
+  tracer = tracer;
+  config = subst (λ (k : Config). k ≡ with_limit k.history_limit tracer.config) (numbers_of-determines config g (base ∙ sym same)) numbers;
+  lives = rw seen lives;
+  told = told;
+}
+
 -- a turn in which nothing was done
 pub turn_looked : {A : Type 0} (tells : LiveSeen → A → Type 0) (v h w : View Entry) (served : ℕ) (answer : A) (tracer : LiveSeen) (g config : Config)
     → numbers_of config ≡ v.base → numbers_of g ≡ v.base → config ≡ with_limit config.history_limit tracer.config
@@ -131,8 +142,5 @@ turn_looked tells v h w served answer tracer g config base same numbers drawn fi
   };
   rises = record { risen = omega (arith, drawn.risen, back.front); all_names = λ all. back.front ∙ drawn.all_names all };
   undone = record { others = finds.seen.0; seen = back.seen ∙ finds.seen.1; by_others = finds.seen.2 };
-  tracer = tracer;
-  config = subst (λ (k : Config). k ≡ with_limit k.history_limit tracer.config) (numbers_of-determines config g (base ∙ sym same)) numbers;
-  lives = rw back.seen lives;
-  told = told;
+  told = turn_told tells v w answer tracer g config h.seen base same numbers back.seen lives told;
 }

@@ -81,13 +81,17 @@ abbrev pub NeedsNoMemory : Config → View Entry → Command → Refusal → Typ
 NeedsNoMemory g w command refusal =
     refusal ≢ Worn → TakesNoMemory (past_of w.seen) (request_of command) → answer_to g w.seen command ≡ Err refusal
 
--- A look in a turn told what it tells of the tracer that all commands led to which the caller sees now. A ticket was drawn for it, after all that the
--- caller had seen, and since then the caller did nothing itself. The tracer has the numbers of this configuration, but for the limit.
+-- A look told this of a tracer that these entries led to. The tracer has the numbers of this configuration, but for the limit.
+pub record IsToldOf {A : Type 0} (g : Config) (tells : LiveSeen → A → Type 0) (entries : List Entry) (answer : A) : Type 0 where
+  pub tracer : LiveSeen
+  pub config : g ≡ with_limit g.history_limit tracer.config
+  pub lives : IsLive tracer.config (past_of entries) tracer
+  pub told : tells tracer answer
+
+-- A look in a turn told this of the tracer that all commands led to which the caller sees now. A ticket was drawn for it, after all that the caller had
+-- seen, and since then the caller did nothing itself.
 pub record IsLookedAt {A : Type 0} (g : Config) (tells : LiveSeen → A → Type 0) (v w : View Entry) (answer : A) : Type 0 where
   pub goes_on : GoesOn v w
   pub rises : Rises v w
   pub undone : IsUndone v w
-  pub tracer : LiveSeen
-  pub config : g ≡ with_limit g.history_limit tracer.config
-  pub lives : IsLive tracer.config (past_of w.seen) tracer
-  pub told : tells tracer answer
+  pub told : IsToldOf g tells w.seen answer

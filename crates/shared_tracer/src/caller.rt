@@ -10,10 +10,16 @@ use ticket_lock::{Drawn, Pass};
 
 /// Who may ask a shared tracer, as any of a range of callers' numbers; it asks under the first of them. Clauses know what it has seen of the history, and
 /// which calls it made.
-#[derive(Drop)]
 pub struct Caller {
     pub(crate) pass: Pass<LiveTracer>,
     pub(crate) calls: GhostList<Call>,
+}
+
+impl Drop for Caller {
+    // Not derived, so that no crate above proves the drops of its parts.
+    fn drop(self) {
+        let Caller { pass: _, calls: _ } = self;
+    }
 }
 
 impl Caller {
@@ -26,6 +32,14 @@ impl Caller {
         ensures end { result.end ≡ (caller_view self.now).end }
     {
         self.pass.names()
+    }
+
+    #[inline(always)]
+    pub(crate) fn into_parts(self) -> (Pass<LiveTracer>, GhostList<Call>)
+        ensures { (result.0 ≡ self.pass) × (result.1 ≡ self.calls) }
+    {
+        let Caller { pass, calls } = self;
+        (pass, calls)
     }
 }
 

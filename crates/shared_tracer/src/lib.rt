@@ -14,7 +14,7 @@ pub use asked::Asked;
 pub use call::Call;
 pub use caller::{Caller, InLine};
 pub use live_tracer::LiveTracer;
-pub use look::Look;
+pub use look::{Look, Nothing};
 pub use shared::SharedTracer;
 pub use tracer::MOST_DONE;
 pub use tracer_state::ValuesEmission;

@@ -25,11 +25,21 @@ use trace_command::{Command, Config, Entry, Refusal, Reply};
 use tracer::{MOST_DONE, Tracer};
 
 /// A tracer and the history of the commands done, of which it keeps nothing in memory. It does as many commands as its limit says.
-#[derive(Drop)]
 pub struct LiveTracer {
     live: Tracer,
     limit: u64,
     past: GhostList<Entry>,
+}
+
+impl Drop for LiveTracer {
+    // Not derived, so that no crate above proves the drops of its parts.
+    fn drop(self) {
+        let LiveTracer {
+            live: _,
+            limit: _,
+            past: _,
+        } = self;
+    }
 }
 
 impl Model for LiveTracer {

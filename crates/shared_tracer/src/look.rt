@@ -16,3 +16,18 @@ pub trait Look {
     fn look(&self, tracer: &Tracer) -> Self::Answer
         ensures { tells self.now tracer.now result };
 }
+
+/// Nothing is looked at. So a caller that is in line has its turn, and is in line no longer.
+#[derive(Drop)]
+pub struct Nothing;
+
+impl Look for Nothing {
+    type Answer = ();
+
+    ghost tells = { λ _ _ _. Unit {0} };
+
+    #[inline(always)]
+    fn look(&self, tracer: &Tracer) {
+        let _ = tracer;
+    }
+}

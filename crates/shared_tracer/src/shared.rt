@@ -10,7 +10,7 @@
 //!
 //! Nothing here but `ask` waits: `try_ask` has a turn if nobody is in line, and `draw` puts a caller in line, whose turn `ask_in_line` tries.
 
-ghost use Rattle.std.specs.Prelude.{◌≡◌, ◌≢◌, ◌↔◌, ◌⊎◌, ◌+◌, ◌<◌, ◌≤◌, [], ◌++◌, Err, IfOk, IfErr, IfSome, IfNone, IsOk, OnOk, OnSome, MatchResult};
+ghost use Rattle.std.specs.Prelude.{◌≡◌, ◌≢◌, ◌↔◌, ◌⊎◌, ◌+◌, ◌<◌, ◌≤◌, [], ◌++◌, Err, IfOk, IfErr, IfSome, IfNone, IsSome, IsOk, OnOk, OnSome, MatchResult};
 ghost use Rattle.ticket_lock.specs.Calls.{IsRoot, AreHalves, IsMet, IsWorn, HasLooked};
 ghost use Rattle.ticket_lock.specs.Views.{HasAllNames};
 ghost use Rattle.trace_command.specs.Configs.{IsInRange};
@@ -27,7 +27,7 @@ use crate::asked::Asked;
 use crate::call::{all_calls, cut_calls, no_calls};
 use crate::caller::{Caller, InLine};
 use crate::live_tracer::LiveTracer;
-use crate::look::Look;
+use crate::look::{Look, Nothing};
 use crate::turn::{Turn, ask_in_turn, look_in_turn, seen_before, seen_by};
 use shared_book::join;
 use std::alloc::Global;
@@ -37,15 +37,25 @@ use trace_command::{Config, Refusal, Reply};
 
 /// A tracer that callers share. It keeps no history and does as many commands as its limit says; one more that would be done is refused with
 /// `HistoryFull`.
-#[derive(Drop)]
 pub struct SharedTracer {
     lock: TicketLock<LiveTracer>,
     config: Config,
     limit: u64,
 }
 
+impl Drop for SharedTracer {
+    // Not derived, so that no crate above proves the drops of its parts.
+    fn drop(self) {
+        let SharedTracer {
+            lock: _,
+            config: _,
+            limit: _,
+        } = self;
+    }
+}
+
 impl SharedTracer {
-    ghost use Rattle.shared_tracer.specs.SharedCallers.{caller_view, calls_of, line_view, line_calls, config_of, IsCallerOf, IsInLineOf, IsLookedAt, HasNoTurn, IsMade, NeedsNoMemory};
+    ghost use Rattle.shared_tracer.specs.SharedCallers.{caller_view, calls_of, line_view, line_calls, config_of, IsCallerOf, IsInLineOf, IsLookedAt, IsToldOf, HasNoTurn, IsMade, NeedsNoMemory};
     ghost use Rattle.shared_tracer.specs.SharedHistories.{IsOneHistory};
 
     /// A tracer of which nothing was asked, and its root caller, which has all numbers from 0 to 65,535. It does `limit` commands, at most `MOST_DONE`,
@@ -101,7 +111,7 @@ impl SharedTracer {
             × (calls_of h.1 ≡ calls_from (caller_view h.0).end (calls_of caller))) }
         ensures err { IfErr result (λ c. (caller_view c ≡ caller_view caller) × (calls_of c ≡ calls_of caller)) }
     {
-        let Caller { pass, calls } = caller;
+        let (pass, calls) = caller.into_parts();
         match self.lock.split(pass) {
             Ok((lower, upper)) => {
                 let middle = lower.names().end;
@@ -131,11 +141,8 @@ impl SharedTracer {
         ensures met { IsMet (λ entry. entry.ticket) (λ entry. entry.by) (caller_view first) (caller_view second) (caller_view result) }
         ensures calls { calls_of result ≡ calls_of first ++ calls_of second }
     {
-        let Caller { pass: lower, calls } = first;
-        let Caller {
-            pass: upper,
-            calls: more,
-        } = second;
+        let (lower, calls) = first.into_parts();
+        let (upper, more) = second.into_parts();
         let calls = all_calls(&calls, &more);
         let pass = join(&self.lock, lower, upper);
         Caller { pass, calls }
@@ -165,10 +172,14 @@ impl SharedTracer {
         ensures made { IsMade (caller_view caller) (caller_view result.0) (command_after (caller_view result.0).seen asked.now) result.1
             (calls_of caller) (calls_of result.0) }
     {
-        let Caller { pass, calls } = caller;
+        let (pass, calls) = caller.into_parts();
         let seen = seen_by(&pass);
         match self.lock.acquire(rt, pass) {
-            Ok(held) => ask_in_turn(&self.lock, Turn { held, seen, calls }, asked),
+            Ok(held) => {
+                let turn = Turn { held, seen, calls };
+                let (caller, answer, ()) = ask_in_turn(&self.lock, turn, asked, &Nothing);
+                (caller, answer)
+            }
             Err(worn) => (
                 Caller {
                     pass: worn.pass,
@@ -180,13 +191,14 @@ impl SharedTracer {
     }
 
     /// As `ask`, but it waits for nobody: if somebody else has a turn, or is in line for one, there is no answer and nothing was run. That is never so once
-    /// all tickets are drawn: then it is refused with `Worn`.
+    /// all tickets are drawn: then it is refused with `Worn`. In the same turn it looks at the tracer, after what was asked.
     #[inline(always)]
-    pub fn try_ask(
+    pub fn try_ask<L: Look>(
         &self,
         caller: Caller,
         asked: &Asked<'_>,
-    ) -> (Caller, Option<Result<Reply, Refusal>>)
+        look: &L,
+    ) -> (Caller, Option<Result<Reply, Refusal>>, Option<L::Answer>)
         requires { IsCallerOf self.now caller }
         ensures of { IsCallerOf self.now result.0 }
         ensures goes_on { OnSome result.1 (GoesOn (caller_view caller) (caller_view result.0)) }
@@ -201,21 +213,26 @@ impl SharedTracer {
         ensures made { IfSome result.1 (λ answer. IsMade (caller_view caller) (caller_view result.0)
             (command_after (caller_view result.0).seen asked.now) answer (calls_of caller) (calls_of result.0)) }
         ensures busy { IfNone result.1 (HasNoTurn (caller_view caller) (caller_view result.0) × (calls_of result.0 ≡ calls_of caller)) }
+        ensures looked { IfSome result.2 (λ told.
+            IsSome result.1 × IsToldOf (config_of self.now) (L.tells look.now) (caller_view result.0).seen told) }
+        ensures unlooked { IfNone result.2 ((result.1 ≡ None) ⊎ (result.1 ≡ Some (Err refusal.Worn))) }
     {
-        let Caller { pass, calls } = caller;
+        let (pass, calls) = caller.into_parts();
         let seen = seen_by(&pass);
         match self.lock.try_acquire(pass) {
             Ok(held) => {
-                let (caller, answer) = ask_in_turn(&self.lock, Turn { held, seen, calls }, asked);
-                (caller, Some(answer))
+                let turn = Turn { held, seen, calls };
+                let (caller, answer, told) = ask_in_turn(&self.lock, turn, asked, look);
+                (caller, Some(answer), Some(told))
             }
-            Err(TryAcquireError::Busy(pass)) => (Caller { pass, calls }, None),
+            Err(TryAcquireError::Busy(pass)) => (Caller { pass, calls }, None, None),
             Err(TryAcquireError::Worn(worn)) => (
                 Caller {
                     pass: worn.pass,
                     calls,
                 },
                 Some(Err(Refusal::Worn)),
+                None,
             ),
         }
     }
@@ -230,7 +247,7 @@ impl SharedTracer {
         ensures failed { IfErr result (λ c. (HasNoTurn (caller_view caller) (caller_view c) ⊎ IsWorn (caller_view caller) (caller_view c))
             × (calls_of c ≡ calls_of caller)) }
     {
-        let Caller { pass, calls } = caller;
+        let (pass, calls) = caller.into_parts();
         match self.lock.try_draw(pass) {
             Ok(drawn) => Ok(InLine { drawn, calls }),
             Err(TryAcquireError::Busy(pass)) => Err(Caller { pass, calls }),
@@ -241,14 +258,15 @@ impl SharedTracer {
         }
     }
 
-    /// As `ask`, of a caller that is in line: if its ticket isn't served yet, it comes back as it was and nothing was run. It has its ticket, so it is never
-    /// refused with `Worn`.
+    /// As `try_ask`, of a caller that is in line: if its ticket isn't served yet, it comes back as it was and nothing was run. It has its ticket, so it is
+    /// never refused with `Worn`.
     #[inline(always)]
-    pub fn ask_in_line(
+    pub fn ask_in_line<L: Look>(
         &self,
         line: InLine,
         asked: &Asked<'_>,
-    ) -> Result<(Caller, Result<Reply, Refusal>), InLine>
+        look: &L,
+    ) -> Result<(Caller, Result<Reply, Refusal>, L::Answer), InLine>
         requires { IsInLineOf self.now line }
         ensures of { MatchResult result (λ r. IsCallerOf self.now r.0) (λ l. IsInLineOf self.now l) }
         ensures goes_on { IfOk result (λ r. GoesOn (line_view line) (caller_view r.0)) }
@@ -263,12 +281,13 @@ impl SharedTracer {
         ensures unworn { IfOk result (λ r. r.1 ≢ Err refusal.Worn) }
         ensures made { IfOk result (λ r. IsMade (line_view line) (caller_view r.0) (command_after (caller_view r.0).seen asked.now) r.1
             (line_calls line) (calls_of r.0)) }
+        ensures looked { IfOk result (λ r. IsToldOf (config_of self.now) (L.tells look.now) (caller_view r.0).seen r.2) }
         ensures busy { IfErr result (λ l. (line_view l ≡ line_view line) × (line_calls l ≡ line_calls line)) }
     {
         let InLine { drawn, calls } = line;
         let seen = seen_before(&drawn);
         match self.lock.try_enter(drawn) {
-            Ok(held) => Ok(ask_in_turn(&self.lock, Turn { held, seen, calls }, asked)),
+            Ok(held) => Ok(ask_in_turn(&self.lock, Turn { held, seen, calls }, asked, look)),
             Err(drawn) => Err(InLine { drawn, calls }),
         }
     }
@@ -287,7 +306,7 @@ impl SharedTracer {
         ensures worn { IfOk result (λ r. IfErr r.1 (λ refused. (refused ≡ refusal.Worn) × IsWorn (caller_view caller) (caller_view r.0))) }
         ensures busy { IfErr result (λ c. HasNoTurn (caller_view caller) (caller_view c)) }
     {
-        let Caller { pass, calls } = caller;
+        let (pass, calls) = caller.into_parts();
         let seen = seen_by(&pass);
         match self.lock.try_acquire(pass) {
             Ok(held) => {
@@ -339,7 +358,7 @@ impl SharedTracer {
             config: _,
             limit: _,
         } = self;
-        let Caller { pass, calls: _ } = caller;
+        let (pass, _) = caller.into_parts();
         lock.close(pass)
     }
 }

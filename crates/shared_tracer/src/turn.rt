@@ -10,7 +10,7 @@ ghost use Rattle.shared_book.specs.Bases.{numbers_of};
 ghost use Rattle.shared_book.specs.private.Turns.{Comes};
 ghost use Rattle.shared_tracer.specs.AskedCommands.{command_after};
 ghost use Rattle.shared_tracer.specs.CallLogs.{AreAllCalls};
-ghost use Rattle.shared_tracer.specs.SharedCallers.{IsCallMade, IsLookedAt, NeedsNoMemory};
+ghost use Rattle.shared_tracer.specs.SharedCallers.{IsCallMade, IsLookedAt, IsToldOf, NeedsNoMemory};
 ghost use Rattle.shared_tracer.specs.private.TurnsOfCallers.{IsTurnOfCaller};
 
 use crate::asked::Asked;
@@ -70,13 +70,14 @@ pub(crate) struct Turn {
     pub calls: GhostList<Call>,
 }
 
-/// Has the tracer run what is asked, and ends the turn.
+/// Has the tracer run what is asked, looks at it, and ends the turn.
 #[inline(always)]
-pub(crate) fn ask_in_turn(
+pub(crate) fn ask_in_turn<L: Look>(
     lock: &TicketLock<LiveTracer>,
     turn: Turn,
     asked: &Asked<'_>,
-) -> (Caller, Result<Reply, Refusal>)
+    look: &L,
+) -> (Caller, Result<Reply, Refusal>, L::Answer)
     requires of { IsTurnOf lock.now turn.held }
     requires turn { (v : View EntrySeen)
         × IsTurnOfCaller v (held_view turn.held) (held_ticket turn.held) (held_value turn.held) turn.seen.items }
@@ -97,6 +98,9 @@ pub(crate) fn ask_in_turn(
         → IsTurnOfCaller v (held_view turn.held) (held_ticket turn.held) (held_value turn.held) turn.seen.items
         → (g : Config) → numbers_of g ≡ v.base
         → IfErr result.1 (NeedsNoMemory g (view_of result.0.pass) (command_after (view_of result.0.pass).seen asked.now)) }
+    ensures looked { (v : View EntrySeen)
+        → IsTurnOfCaller v (held_view turn.held) (held_ticket turn.held) (held_value turn.held) turn.seen.items
+        → (g : Config) → numbers_of g ≡ v.base → IsToldOf g (L.tells look.now) (view_of result.0.pass).seen result.2 }
 {
     let Turn {
         mut held,
@@ -115,8 +119,9 @@ pub(crate) fn ask_in_turn(
         found,
     };
     let calls = with_call(&calls, &taken, asked, &answer);
+    let told = look.look(tracer.tracer());
     let pass = lock.release(held);
-    (Caller { pass, calls }, answer)
+    (Caller { pass, calls }, answer, told)
 }
 
 /// Looks at the tracer, and ends the turn.

@@ -1,19 +1,21 @@
 -- What one try of a call leaves of a handle, and its status.
-use Rattle.std.specs.Prelude.{◌≡◌, ◌⊎◌, ◌^◌, ◌-◌, ◌==◌, if◌then◌else◌, max, ℕ, ℤ, pos, neg_ℤ, Bool, true, false, List, [], length, Option, Some, None, Result, Ok, Err}
+use Rattle.std.specs.Prelude.{◌≡◌, ◌⊎◌, ◌^◌, ◌-◌, ◌==◌, if◌then◌else◌, max, min, not, take, drop, ◌++◌, ℕ, ℤ, pos, neg_ℤ, Bool, true, false, List, [], length, Option, Some, None, Result, Ok, Err}
 use Rattle.trace_command.specs.Refusals.{number_of}
+use Rattle.trace_command.specs.declared.command.CommandOf.TheVariants.{Write}
 use Rattle.trace_command.specs.declared.command.Config.{Config}
-use Rattle.trace_command.specs.declared.command.Entry.{Entry}
 use Rattle.trace_command.specs.declared.refusal.Refusal.{Refusal}
 use Rattle.trace_command.specs.declared.refusal.Refusal.TheVariants.{BadValue}
 use Rattle.trace_format.specs.declared.field_value.FieldValue.{FieldValue}
 use Rattle.tracer.specs.Lives.{most_done}
 use Rattle.trace_script.specs.declared.outcome.Outcome.TheVariants.{Refused}
-use Rattle.library_tracer.specs.Consoles.{Comes, HasLeft, IsBusy, IsWornOut, LacksMemory, Looks, Said, Tells, TellsWaiting, said_values}
+use Rattle.library_tracer.specs.Consoles.{Comes, HasLeft, IsBusy, IsWornOut, LacksMemory, Looks, Said, Tells, TellsWaiting, said_values, says}
 use Rattle.library_tracer.specs.ConsolesSeen.{ConsoleSeen, Known}
+use Rattle.library_tracer.specs.Masks.{IsMaskOf, Masks}
 use Rattle.library_tracer.specs.PassesSeen.{HasBack, HasTaken, NoneIsThere, PassesSeen}
 use Rattle.library_tracer.specs.Statuses.{offset_in, reply_in}
 use Rattle.library_tracer.specs.declared.console.Tried.{Tried}
 use Rattle.library_tracer.specs.declared.console.Tried.TheVariants.{Told, Busy}
+use Rattle.library_tracer.specs.declared.mask.Mask.{Mask}
 use Rattle.tracectl_c.specs.declared.Settings.{Settings}
 
 -- what a contract sees of passes
@@ -51,10 +53,37 @@ Tries may (Some before) (Some after) status = (tried : Tried) × may before afte
 abbrev pub OrLacksMemory : Said → May
 OrLacksMemory said before after tried = Comes said before after tried ⊎ LacksMemory before after tried
 
+-- What one try may do to a console, and to a mask that it may tell: here and below the mask before it, and after.
+abbrev pub MayMask : Type 1
+MayMask = ConsoleSeen → ConsoleSeen → Tried → Mask → Mask → Type 0
+
+-- as Tries; of a thread that has not joined the mask stays
+abbrev pub TriesMasked : MayMask → Option ConsoleSeen → Option ConsoleSeen → Mask → Mask → ℕ → Type 0
+TriesMasked may None after was now status = (status ≡ 203) × (after ≡ None) × (now ≡ was)
+TriesMasked may (Some before) None was now status = ⊥
+TriesMasked may (Some before) (Some after) was now status = (tried : Tried) × may before after tried was now × (status ≡ status_tried tried)
+
+-- what a call comes to that says this, with the mask that is told in its turn
+abbrev pub ComesMasked : Said → MayMask
+ComesMasked said before after tried was now = Comes said before after tried × Masks said after tried was now
+
+-- or memory is refused before anything is asked
+abbrev pub MasksOrLacksMemory : Said → MayMask
+MasksOrLacksMemory said before after tried was now =
+    ComesMasked said before after tried was now ⊎ (LacksMemory before after tried × (now ≡ was))
+
 -- an emission of the values that are given; one of an unknown kind is refused, and nothing is asked
 abbrev pub said_given : ℕ → ℕ → ℤ → Option (List FieldValue) → Said
 said_given event cpu process None = Tells (Refused BadValue)
 said_given event cpu process (Some values) = said_values event cpu process values
+
+-- a write, or unless the number is 0 an append
+abbrev pub said_write : List ℕ → ℕ → List ℕ → Said
+said_write path append text = says (Write path (not (append == 0)) text)
+
+-- the limit, unless the number is 0
+abbrev pub limit_if : ℕ → ℕ → Option ℕ
+limit_if is_limited limit = if is_limited == 0 then None else Some limit
 
 -- ---- threads that come and go
 
@@ -103,33 +132,33 @@ TriesWaiting path (Some before) None told = ⊥
 TriesWaiting path (Some before) (Some after) told =
     (waits : Option (Result Bool Refusal)) × TellsWaiting path before after waits × (told ≡ waiting_number waits)
 
--- the status of a look at the number of commands
-abbrev pub status_of_count : Option (Result ℕ Refusal) → ℕ
-status_of_count None = 202
-status_of_count (Some (Ok count)) = 0
-status_of_count (Some (Err refusal)) = number_of refusal
+-- the status of a look at the mask
+abbrev pub status_of_mask : Option (Result Mask Refusal) → ℕ
+status_of_mask None = 202
+status_of_mask (Some (Ok mask)) = 0
+status_of_mask (Some (Err refusal)) = number_of refusal
 
--- the number of commands is written where the status is 0, and otherwise nothing
-abbrev pub is_written : Option (Result ℕ Refusal) → ℕ → ℕ
-is_written (Some (Ok count)) was = count
-is_written _ was = was
+-- it is written where the status is 0, and otherwise nothing
+abbrev pub mask_told : Option (Result Mask Refusal) → Mask → Mask
+mask_told (Some (Ok mask)) was = mask
+mask_told _ was = was
 
-abbrev pub TriesEntries : Option ConsoleSeen → Option ConsoleSeen → ℕ → ℕ → ℕ → Type 0
-TriesEntries None after was now status = (status ≡ 203) × (after ≡ None) × (now ≡ was)
-TriesEntries (Some before) None was now status = ⊥
-TriesEntries (Some before) (Some after) was now status = (seen : Option (Result ℕ Refusal))
-    × Looks (λ (entries : List Entry) (count : ℕ). count ≡ length entries) before after seen × (status ≡ status_of_count seen) × (now ≡ is_written seen was)
+abbrev pub TriesWanted : Option ConsoleSeen → Option ConsoleSeen → Mask → Mask → ℕ → Type 0
+TriesWanted None after was now status = (status ≡ 203) × (after ≡ None) × (now ≡ was)
+TriesWanted (Some before) None was now status = ⊥
+TriesWanted (Some before) (Some after) was now status = (told : Option (Result Mask Refusal))
+    × Looks IsMaskOf before after told × (status ≡ status_of_mask told) × (now ≡ mask_told told was)
 
 -- ---- the last outcome
 
--- the length of the reply and the offset; 0 and the greatest number where there is none
-abbrev pub length_read : Option ConsoleSeen → ℕ
-length_read None = 0
-length_read (Some console) = length (reply_in console.last)
-
+-- the reply, and the offset; the greatest number where there is none
 abbrev pub reply_read : Option ConsoleSeen → List ℕ
 reply_read None = []
 reply_read (Some console) = reply_in console.last
+
+-- room with as much of a text in front as it can have
+abbrev pub filled : List ℕ → List ℕ → List ℕ
+filled text room = take (min (length text) (length room)) text ++ drop (min (length text) (length room)) room
 
 abbrev pub or_greatest : Option ℕ → ℕ
 or_greatest None = 2 ^ 64 - 1

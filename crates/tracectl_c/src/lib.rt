@@ -9,7 +9,7 @@ ghost use Rattle.tracer.specs.Lives.{most_done};
 ghost use Rattle.shared_tracer.specs.RaisedLimits.{with_limit};
 ghost use Rattle.library_tracer.specs.Consoles.{Comes, Lists, says, said_emission, said_line};
 ghost use Rattle.library_tracer.specs.PassesSeen.{AreNew, HasClosed, HasTaken, IsOfPasses, PassesSeen};
-ghost use Rattle.tracectl_c.specs.Calls.{IsLinedUp, Joins, Leaves, OrLacksMemory, Tries, TriesEntries, TriesWaiting, config_of, length_read, limit_of, offset_read, reply_read, said_given, status_tried, waiting_number};
+ghost use Rattle.tracectl_c.specs.Calls.{ComesMasked, IsLinedUp, Joins, Leaves, MasksOrLacksMemory, OrLacksMemory, Tries, TriesMasked, TriesWaiting, TriesWanted, config_of, limit_if, limit_of, offset_read, reply_read, filled, said_given, said_write, status_tried, waiting_number};
 ghost use Rattle.tracectl_c.specs.GivenValues.{values_in};
 ghost use Rattle.tracectl_c.specs.Handles.{console_of, passes_of};
 
@@ -22,7 +22,7 @@ mod tracer_calls;
 mod tracer_handle;
 mod value;
 
-use library_tracer::{Console, JoinError, Passes, Tried};
+use library_tracer::{Console, JoinError, Mask, Passes, Tried};
 use std::alloc::{AllocError, Global};
 use std::slice;
 use thread_handle::ThreadHandle;
@@ -262,15 +262,20 @@ pub extern "C" fn tracectl_try_line_up(alloc: Global, thread: &mut ThreadHandle)
     if is_in_line { 0 } else { BUSY }
 }
 
-/// Does a line of a script.
+/// Does a line of a script, and tells which events are wanted then, unless nothing was asked.
 #[unsafe(no_mangle)]
-pub extern "C" fn tracectl_try_line(alloc: Global, thread: &mut ThreadHandle, line: &[u8]) -> u32
-    ensures { Tries (OrLacksMemory (said_line line.now)) (console_of thread.old) (console_of thread.new) result }
+pub extern "C" fn tracectl_try_line(
+    alloc: Global,
+    thread: &mut ThreadHandle,
+    line: &[u8],
+    mask: &mut Mask,
+) -> u32
+    ensures { TriesMasked (MasksOrLacksMemory (said_line line.now)) (console_of thread.old) (console_of thread.new) mask.old mask.new result }
 {
     let Some(mut console) = thread.take(alloc) else {
         return NOT_JOINED;
     };
-    let tried = console.line(line);
+    let tried = console.line(line, mask);
     thread.keep(console);
     status_of(tried)
 }
@@ -368,69 +373,49 @@ pub extern "C" fn tracectl_try_emit_values(
     status_of(tried)
 }
 
-/// Writes a string to a file, as `echo TEXT > PATH` does.
+/// Writes a string to a file, as `echo TEXT > PATH` does, or, unless `append` is 0, appends it, as `echo TEXT >> PATH`; and tells which events are wanted
+/// then.
 #[unsafe(no_mangle)]
 pub extern "C" fn tracectl_try_write(
     alloc: Global,
     thread: &mut ThreadHandle,
     path: &[u8],
     text: &[u8],
+    append: u32,
+    mask: &mut Mask,
 ) -> u32
-    ensures { Tries (Comes (says (commands.Write path.now false text.now))) (console_of thread.old) (console_of thread.new) result }
+    ensures { TriesMasked (ComesMasked (said_write path.now append text.now)) (console_of thread.old) (console_of thread.new) mask.old mask.new result }
 {
     let Some(mut console) = thread.take(alloc) else {
         return NOT_JOINED;
     };
-    let tried = console.write(path, text);
+    let tried = console.write(path, text, append != 0, mask);
     thread.keep(console);
     status_of(tried)
 }
 
-/// Appends a string to a file, as `echo TEXT >> PATH` does.
+/// What is asked of a pipe: all that it has, unless `is_limited`.
+fn limit_if(is_limited: u32, limit: u64) -> Option<u64>
+    ensures { result ≡ limit_if is_limited limit }
+{
+    if is_limited == 0 { None } else { Some(limit) }
+}
+
+/// Reads a file to its end, as `cat PATH` does; or, unless `is_limited` is 0, at most so many records of a pipe, as `take LIMIT PATH`.
 #[unsafe(no_mangle)]
-pub extern "C" fn tracectl_try_append(
+pub extern "C" fn tracectl_try_read(
     alloc: Global,
     thread: &mut ThreadHandle,
     path: &[u8],
-    text: &[u8],
-) -> u32
-    ensures { Tries (Comes (says (commands.Write path.now true text.now))) (console_of thread.old) (console_of thread.new) result }
-{
-    let Some(mut console) = thread.take(alloc) else {
-        return NOT_JOINED;
-    };
-    let tried = console.append(path, text);
-    thread.keep(console);
-    status_of(tried)
-}
-
-/// Reads a file to its end, as `cat PATH` does.
-#[unsafe(no_mangle)]
-pub extern "C" fn tracectl_try_read(alloc: Global, thread: &mut ThreadHandle, path: &[u8]) -> u32
-    ensures { Tries (Comes (says (commands.Read path.now None))) (console_of thread.old) (console_of thread.new) result }
-{
-    let Some(mut console) = thread.take(alloc) else {
-        return NOT_JOINED;
-    };
-    let tried = console.read(path);
-    thread.keep(console);
-    status_of(tried)
-}
-
-/// Reads at most so many records of a pipe, as `take LIMIT PATH` does.
-#[unsafe(no_mangle)]
-pub extern "C" fn tracectl_try_take(
-    alloc: Global,
-    thread: &mut ThreadHandle,
-    path: &[u8],
+    is_limited: u32,
     limit: u64,
 ) -> u32
-    ensures { Tries (Comes (says (commands.Read path.now (Some limit)))) (console_of thread.old) (console_of thread.new) result }
+    ensures { Tries (Comes (says (commands.Read path.now (limit_if is_limited limit)))) (console_of thread.old) (console_of thread.new) result }
 {
     let Some(mut console) = thread.take(alloc) else {
         return NOT_JOINED;
     };
-    let tried = console.take(path, limit);
+    let tried = console.read(path, limit_if(is_limited, limit));
     thread.keep(console);
     status_of(tried)
 }
@@ -448,28 +433,12 @@ pub extern "C" fn tracectl_try_files(alloc: Global, thread: &mut ThreadHandle) -
     status_of(tried)
 }
 
-/// How many bytes the thread's last call replied; 0 where the thread has not joined.
-#[unsafe(no_mangle)]
-pub extern "C" fn tracectl_try_reply_length(alloc: Global, thread: &mut ThreadHandle) -> usize
-    ensures length { result ≡ length_read (console_of thread.old) }
-    ensures same { console_of thread.new ≡ console_of thread.old }
-{
-    let Some(console) = thread.take(alloc) else {
-        return 0;
-    };
-    let count = console.reply().len();
-    thread.keep(console);
-    count
-}
-
 /// Copies the front of a string, as far as there is room.
-fn copy_front(text: &[u8], room: &mut [u8]) -> usize
-    ensures count { result ≡ min (length text.now) (length room.old) }
-    ensures copied { room.new ≡ take result text.now ++ drop result room.old }
+fn copy_front(text: &[u8], room: &mut [u8])
+    ensures { room.new ≡ filled text.now room.old }
 {
     let count = text.len().min(room.len());
     room[..count].copy_from_slice(&text[..count]);
-    count
 }
 
 /// A string from a place on; nothing, where it has fewer bytes.
@@ -483,7 +452,8 @@ fn rest_of(text: &[u8], from: usize) -> &[u8]
     &text[from..]
 }
 
-/// Copies what the thread's last call replied, from this byte on and as far as there is room, and tells how many bytes.
+/// Copies what the thread's last call replied, from this byte on and as far as there is room, and tells how many bytes there are from there on; 0 where the
+/// thread has not joined.
 #[unsafe(no_mangle)]
 pub extern "C" fn tracectl_try_reply(
     alloc: Global,
@@ -491,14 +461,16 @@ pub extern "C" fn tracectl_try_reply(
     from: usize,
     room: &mut [u8],
 ) -> usize
-    ensures count { result ≡ min (length (drop from (reply_read (console_of thread.old)))) (length room.old) }
-    ensures copied { room.new ≡ take result (drop from (reply_read (console_of thread.old))) ++ drop result room.old }
+    ensures count { result ≡ length (drop from (reply_read (console_of thread.old))) }
+    ensures copied { room.new ≡ filled (drop from (reply_read (console_of thread.old))) room.old }
     ensures same { console_of thread.new ≡ console_of thread.old }
 {
     let Some(console) = thread.take(alloc) else {
         return 0;
     };
-    let count = copy_front(rest_of(console.reply(), from), room);
+    let rest = rest_of(console.reply(), from);
+    copy_front(rest, room);
+    let count = rest.len();
     thread.keep(console);
     count
 }
@@ -518,21 +490,21 @@ pub extern "C" fn tracectl_try_offset(alloc: Global, thread: &mut ThreadHandle) 
     offset
 }
 
-/// Tells how many commands were done by all threads. Where the status isn't 0, nothing is told.
+/// Tells which events are wanted, and how many commands were done by all threads. Where the status isn't 0, nothing is told.
 #[unsafe(no_mangle)]
-pub extern "C" fn tracectl_try_entries(
+pub extern "C" fn tracectl_try_wanted(
     alloc: Global,
     thread: &mut ThreadHandle,
-    entries: &mut u64,
+    mask: &mut Mask,
 ) -> u32
-    ensures { TriesEntries (console_of thread.old) (console_of thread.new) entries.old entries.new result }
+    ensures { TriesWanted (console_of thread.old) (console_of thread.new) mask.old mask.new result }
 {
     let Some(mut console) = thread.take(alloc) else {
         return NOT_JOINED;
     };
-    let status = match console.done() {
-        Some(Ok(count)) => {
-            *entries = count;
+    let status = match console.wanted() {
+        Some(Ok(wanted)) => {
+            *mask = wanted;
             0
         }
         Some(Err(refusal)) => u32::from(refusal.number()),

@@ -1,8 +1,21 @@
-use Rattle.std.proofs.Common.{◌-◌, ◌^◌, ◌++◌, ap, subst, ◌∙◌, arith}
+use Rattle.std.proofs.Common.{◌-◌, ◌^◌, ◌++◌, [], ◌∷◌, Some, ap, subst, ◌∙◌, arith}
 use Rattle.shared_tracer.specs.CallLogs.{calls_below, calls_from}
 use Rattle.library_tracer.specs.Tiled.{AreParts}
-use Rattle.library_tracer.proofs.TileLemmas.{appended, falls, twice, lower_end, upper_low, upper_end, parts_append, fresh_append}
+use Rattle.library_tracer.proofs.TileLemmas.{appended, falls, one_part, twice, lower_end, upper_low, upper_end, parts_append, fresh_append}
 use Rattle.library_tracer.proofs.passes.+split_evenly.Goals as goal
+
+pub returns-then-times-eq0-clause-added : goal.returns-then-times-eq0-clause-added
+returns-then-times-eq0-clause-added m c = (
+  Some c.args.caller ∷ [],
+  c.push_reserved.ensures.items,
+  one_part c.args.tracer.now c.args.caller c.args.times c.if-times-eq0.true c.requires.of c.requires.names,
+  (c.requires.fresh.0, c.requires.fresh.1, tt),
+)
+
+pub returns-then-times-eq0-clause-len : goal.returns-then-times-eq0-clause-len
+returns-then-times-eq0-clause-len m c =
+    let one = ap (λ t. 2 ^ t) c.if-times-eq0.true in
+    let len = c.push_reserved.ensures.len in omega (arith, one, len)
 
 pub split_evenly-requires : goal.split_evenly-requires
 split_evenly-requires m c =

@@ -6,12 +6,13 @@ use Rattle.library_tracer.proofs.console.Console.look_in_line.Goals as goal
 pub returns-in-Err-clause-comes : goal.returns-in-Err-clause-comes
 returns-in-Err-clause-comes g c =
     let says = c.in-Err.ensures in
-    rw (← c.self.view_is) (line_busy c.self.inside c.in_ok-queued.queued c.new.result (sym c.replace.ensures.value ∙ c.in_ok-queued.was) c.self.invariant
-    (ap line_view c.new.ensures ∙ says.busy ∙ ap line_view c.into_line.ensures) (ap line_calls c.new.ensures ∙ says.calls ∙ ap line_calls c.into_line.ensures))
+    rw (← c.self.view_is, c.line_up.ensures) (line_busy c.self.inside c.in_ok-queued.queued (record { line = c.in-Err.line })
+    (sym c.replace.ensures.value ∙ c.in_ok-queued.was) c.self.invariant (says.busy ∙ ap line_view c.into_line.ensures)
+    (says.calls ∙ ap line_calls c.into_line.ensures))
 
 pub returns-in-Ok-clause-comes : goal.returns-in-Ok-clause-comes
 returns-in-Ok-clause-comes g c =
     let says = c.in-Ok.ensures in
     let of = c.into_line.ensures in
-    rw (← c.self.view_is, c.replace.ensures.after) (line_looked c.self.inside c.in_ok-queued.queued c.in-Ok.caller (g.L.Look.tells c.args.look.now) c.in-Ok.answer
+    rw (← c.self.view_is, c.replace.ensures.after, c.settle.ensures) (line_looked c.self.inside c.in_ok-queued.queued c.in-Ok.caller (g.L.Look.tells c.args.look.now) c.in-Ok.answer
     (sym c.replace.ensures.value ∙ c.in_ok-queued.was) c.self.invariant (rw (of, c.deref.ensures) at says.looked) (rw of at says.calls))

@@ -1,7 +1,5 @@
-use Rattle.std.proofs.Common.{inl}
-use Rattle.library_tracer.proofs.ConsoleLemmas.{waiting_seen}
+use Rattle.library_tracer.proofs.ConsoleLemmas.{waiting_told}
 use Rattle.library_tracer.proofs.console.Console.waiting.Goals as goal
 
-pub returns-in-Some-Ok-clause-comes : goal.returns-in-Some-Ok-clause-comes
-returns-in-Some-Ok-clause-comes c =
-    inl (waiting_seen c.args.path.now c.in-Some-Ok.waits _ _ (rw c.in-Some-Ok.field-0-is at c.in-Some-Ok.ensures.comes))
+pub returns-clause-comes : goal.returns-clause-comes
+returns-clause-comes c = waiting_told c.args.path.now c.look.result c.flat.result _ _ c.flat.ensures c.look.ensures.comes
