@@ -109,6 +109,13 @@ line_busy i queued next e sound same calls =
     busy i (known_in queued) (known_in next) true _ _ (line_is i queued e sound) (still_in_line i queued next e sound) (inr same) calls
     (λ out. absurd (cc))
 
+-- one that is in line stays as it was
+pub line_stays : (i : Inside) (queued next : Queued) → i.queued ≡ Some queued → IsSound i → line_view next.line ≡ line_view queued.line
+    → line_calls next.line ≡ line_calls queued.line → seen (record i { queued = Some next }) ≡ seen i
+line_stays i queued next e sound same calls =
+    let known : known_in next ≡ known_in queued = cc in
+    still_in_line i queued next e sound ∙ ap (λ (k : Known). knowing i k true) known ∙ sym (line_is i queued e sound)
+
 -- ---- an answer
 
 -- what an answer to a command says of the caller

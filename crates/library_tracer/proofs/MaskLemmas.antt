@@ -1,5 +1,5 @@
 -- The mask that is told in the turn of a call, or by a look.
-use Rattle.std.proofs.Common.{◌≡◌, ◌⊎◌, inl, inr, ℕ, List, length, Option, Some, None, Result, Ok, Err, MatchResult, IfSome, IfNone, unwrap_or, refl, sym, ap, subst, ◌∙◌}
+use Rattle.std.proofs.Common.{◌≡◌, ◌⊎◌, inl, inr, List, length, Option, Some, None, Result, Ok, Err, MatchResult, IfSome, IfNone, unwrap_or, refl, sym, ap, subst, ◌∙◌}
 use Rattle.trace_command.specs.Commands.{Command}
 use Rattle.trace_command.specs.Requests.{Request}
 use Rattle.trace_command.specs.declared.command.Config.{Config}

@@ -168,7 +168,7 @@ impl Passes {
     pub fn is_whole(&self) -> bool
         ensures { result ≡ true ↔ IsWhole self.now }
     {
-        self.tracer.is_some() && self.callers.iter().all(|caller| caller.is_some())
+        self.tracer.is_some() && self.callers.iter().all(Option::is_some)
     }
 
     /// Ends the tracer if all passes are there, and no thread has a console of it: they meet, from left to right, and one history has the calls of all.
@@ -220,7 +220,7 @@ fn stay_open(place: &mut Option<Arc<SharedTracer, Global>>, tracer: Arc<SharedTr
 fn first_there(callers: &[Option<Caller>]) -> Option<usize>
     ensures { IsFirstThere callers.now result }
 {
-    callers.iter().position(|caller| caller.is_some())
+    callers.iter().position(Option::is_some)
 }
 
 /// Has all callers meet, from left to right.

@@ -176,11 +176,14 @@ impl Mount {
     {
         match self.ask_write(owner, asked, false, text) {
             Ok(_) => Ok(()),
+            // Where it isn't noted, the refusal is let go by a call, so that the proof doesn't follow its parts.
             Err(refusal) => {
                 let Ok(path) = self.path_of(owner, asked) else {
+                    drop(refusal);
                     return Err(Errno::ENOMEM);
                 };
                 let Ok(()) = self.begin_note(owner, file) else {
+                    drop(refusal);
                     return Err(Errno::ENOMEM);
                 };
                 note_answer(&mut self.errors, path.as_bytes(), text, shown, at, &refusal);

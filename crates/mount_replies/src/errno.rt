@@ -36,7 +36,7 @@ pub(crate) fn errno_of(refusal: &Refusal) -> Errno
     }
 }
 
-/// Likewise, of a refusal that is not needed any more.
+/// Likewise, of a refusal that is not needed any more, which is let go here, so that the proofs of callers don't follow its parts.
 pub(crate) fn errno_of_refused(refusal: Refusal) -> Errno
     ensures { result ≡ errno_of refusal }
 {

@@ -9,7 +9,6 @@ use fuse_wire::Errno;
 use trace_command::Refusal;
 
 /// Why a line is not done.
-#[derive(Drop)]
 pub enum LineFault {
     /// It is no command.
     NoCommand,
@@ -17,6 +16,15 @@ pub enum LineFault {
     TooLong,
     /// Its command was refused so.
     Refused(Refusal),
+}
+
+impl Drop for LineFault {
+    // Not derived, so that where one is let go the parts of a refusal are not followed.
+    fn drop(self) {
+        match self {
+            LineFault::NoCommand | LineFault::TooLong | LineFault::Refused(_) => {}
+        }
+    }
 }
 
 impl LineFault {

@@ -221,10 +221,10 @@ impl Mount {
         if cpus == 0 {
             return Err(LineFault::NoCommand);
         }
-        let (Ok(name), Ok(left)) = (
-            Text::from_slice(self.alloc, own.name()),
-            left_out(self.alloc, pairs, own.fields()),
-        ) else {
+        let Ok(name) = Text::from_slice(self.alloc, own.name()) else {
+            return Err(LineFault::Refused(Refusal::Memory));
+        };
+        let Ok(left) = left_out(self.alloc, pairs, own.fields()) else {
             return Err(LineFault::Refused(Refusal::Memory));
         };
         let cpu = pid % cpus;

@@ -17,7 +17,6 @@ use trace_lex::Text;
 /// An open file: whose it is and which, whether it was opened to be emptied and nothing was written yet, and the text that its reads give, of which
 /// so many bytes were given and won't be again, or the length of one that was read to its end; of a pipe also whether a read gave records, and its polls;
 /// of `inject` what was written.
-#[derive(Drop)]
 pub struct OpenFile {
     owner: Owner,
     file: File,
@@ -35,6 +34,23 @@ pub(crate) fn is_read_out(offset: u64, size: u32, text: &[u8]) -> bool
     ensures { result ≡ is_read_out offset size text.now }
 {
     text.len() as u64 <= offset || text.len() as u64 - offset <= u64::from(size.min(MOST_DATA))
+}
+
+impl Drop for OpenFile {
+    // Not derived, so that where one is let go its text and its stream are not followed.
+    fn drop(self) {
+        let OpenFile {
+            owner: _,
+            file: _,
+            starts_over: _,
+            text: _,
+            given: _,
+            ended: _,
+            has_read: _,
+            polls: _,
+            stream: _,
+        } = self;
+    }
 }
 
 impl Model for OpenFile {

@@ -16,7 +16,7 @@ ghost use Rattle.mount_replies.specs.Sizes.{text_in as text_of};
 ghost use Rattle.mount_replies.specs.Steps.{Parks, Plain};
 ghost use Rattle.mount_replies.specs.private.TextReads.{cached_read, text_made, text_read};
 
-use crate::errno::errno_of;
+use crate::errno::errno_of_refused;
 use crate::mount::Mount;
 use crate::open_file::is_read_out;
 use crate::parked::{Parked, add};
@@ -207,7 +207,7 @@ impl Mount {
     {
         match self.ask_read(owner, file, None) {
             Ok(answer) => self.give_text(read, text_in(self.alloc, answer), offset, out),
-            Err(refusal) => tell_error(read.unique, errno_of(&refusal), out),
+            Err(refusal) => tell_error(read.unique, errno_of_refused(refusal), out),
         }
     }
 
@@ -312,7 +312,7 @@ impl Mount {
                 self.files
                     .keep_records(read.handle, text, read.size.min(MOST_DATA) as usize);
             }
-            Err(refusal) => tell_error(read.unique, errno_of(&refusal), out),
+            Err(refusal) => tell_error(read.unique, errno_of_refused(refusal), out),
         }
     }
 }

@@ -15,7 +15,7 @@ ghost use Rattle.mount_replies.specs.Told.{known};
 ghost use Rattle.mount_replies.specs.private.ShortReplies.{IsShort};
 ghost use Rattle.mount_replies.specs.private.Targets.{EndsCommands, IsTarget, NotesLine};
 
-use crate::errno::errno_of;
+use crate::errno::errno_of_refused;
 use crate::fault::{LineFault, Progress, Stop};
 use crate::mount::Mount;
 use crate::noting::{forget, note_command, note_wrong};
@@ -267,7 +267,7 @@ impl Mount {
                 let node = Node::Folder(Owner::Made(serial), Folder::Root);
                 Reply::Entry(self.attributes_of(node, 0))
             }
-            Err(refusal) => Reply::Error(errno_of(&refusal)),
+            Err(refusal) => Reply::Error(errno_of_refused(refusal)),
         }
     }
 
@@ -295,7 +295,7 @@ impl Mount {
                 forget(&mut self.errors, folder);
                 Reply::Done
             }
-            Err(refusal) => Reply::Error(errno_of(&refusal)),
+            Err(refusal) => Reply::Error(errno_of_refused(refusal)),
         }
     }
 }

@@ -16,7 +16,7 @@ returns-in-Ok-clause-comes g c =
     let of = c.into_line.ensures in (
       (
         c.in-Ok.answer,
-        rw (← c.self.view_is, c.settle.ensures) (line_answered c.self.inside c.in-Some.queued c.in-Ok.caller _ _
+        rw (← c.self.view_is, c.settle.ensures) (line_answered c.self.inside c.in-Some.queued c.in-Ok.caller c.replace.new.dest c.keep.new.last
             (λ entries. command_after entries c.args.asked.now) c.in-Ok.answer
             (sym c.replace.ensures.value ∙ c.in-Some.is) c.self.invariant c.replace.ensures.after c.keep.ensures.kept (record {
               goes_on = rw of at says.goes_on;
@@ -32,5 +32,5 @@ returns-in-Ok-clause-comes g c =
 
 pub returns-in-Ok-clause-looked : goal.returns-in-Ok-clause-looked
 returns-in-Ok-clause-looked g c =
-    rw (← c.self.view_is, c.settle.ensures) (line_saw c.self.inside c.in-Ok.caller _ _ (g.L.Look.tells c.args.look.now) c.in-Ok.told c.keep.result
+    rw (← c.self.view_is, c.settle.ensures) (line_saw c.self.inside c.in-Ok.caller c.replace.new.dest c.keep.new.last (g.L.Look.tells c.args.look.now) c.in-Ok.told c.keep.result
     (rw c.deref.ensures at c.in-Ok.ensures.looked))

@@ -19,5 +19,5 @@ pub returns-in-Err-clause-told : goal.returns-in-Err-clause-told
 returns-in-Err-clause-told c = λ past mounted.
     let old = c.args.self.now in
     refused-told past old c.ask_read.new.self (read_of old.scene (nodes.File c.args.owner c.args.file) None)
-    (given_text c.args.read.handle c.args.offset c.args.read.size old.files) c.in-Err.refusal c.errno_of.result c.args.read.unique
-    c.tell_error.new.out.items (c.in-Err.ensures past mounted) refl c.errno_of.ensures c.tell_error.ensures.bytes
+    (given_text c.args.read.handle c.args.offset c.args.read.size old.files) c.in-Err.refusal c.errno_of_refused.result c.args.read.unique
+    c.tell_error.new.out.items (c.in-Err.ensures past mounted) refl c.errno_of_refused.ensures c.tell_error.ensures.bytes

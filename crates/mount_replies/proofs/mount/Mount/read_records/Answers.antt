@@ -22,5 +22,5 @@ returns-in-Err-clause-told c = λ past mounted.
     let old = c.args.self.now in
     rw (← c.records_for.ensures) (
     refused-told past old c.ask_read.new.self (read_of old.scene (nodes.File c.args.owner c.args.file) (Some c.records_for.result))
-    (taken_records c.args.read.handle c.args.read.size old.files) c.in-Err.refusal c.errno_of.result c.args.read.unique c.tell_error.new.out.items
-    (c.in-Err.ensures past mounted) refl c.errno_of.ensures c.tell_error.ensures.bytes)
+    (taken_records c.args.read.handle c.args.read.size old.files) c.in-Err.refusal c.errno_of_refused.result c.args.read.unique c.tell_error.new.out.items
+    (c.in-Err.ensures past mounted) refl c.errno_of_refused.ensures c.tell_error.ensures.bytes)
