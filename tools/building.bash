@@ -1,20 +1,12 @@
-# What ./tracectl, ./tracectl-mount, ./check --quick and examples/c/build share: which programs there are and whether they are current, how one is
-# compiled without a proof, and how a program is proved. Sourced, with `top` set to the repository's folder and `tool` to the name that messages begin with.
+# What ./tracectl, ./tracectl-mount, ./check --quick, ./install and examples/c/build share: which programs there are and whether they are current, how one
+# is compiled without a proof, and how a program is proved. Sourced by programs.bash, with `top` set to the repository's folder.
 
 { [ -d "${TMPDIR:-/tmp}" ] && [ -w "${TMPDIR:-/tmp}" ]; } || export TMPDIR=/tmp
 
-readonly NOT_BUILT=5 OTHER_KIT=3 LINES_OF_LOG=20
+readonly OTHER_KIT=3 LINES_OF_LOG=20
 readonly TIME_OF_PROOF="30 minutes to an hour"
 readonly KIBIBYTES_NEEDED=$((4 * 1024 * 1024)) # free memory that compiling and proving take at most
-
-say() {
-  echo "$tool: $*" >&2
-}
-
-stop() {
-  say "$*"
-  exit "$NOT_BUILT"
-}
+readonly shown=./$tool                         # how help shows the starter
 
 # --- Sources ---
 
@@ -60,13 +52,6 @@ is_current() {
 }
 
 # --- Making ---
-
-# Has a signal end the script by way of its EXIT trap.
-stop_on_signals() {
-  trap 'exit 129' HUP
-  trap 'exit 130' INT
-  trap 'exit 143' TERM
-}
 
 # The memory that is free, in KiB: of the machine, or of the control group if that has less. Nothing if neither tells.
 free_memory() {
@@ -209,13 +194,23 @@ choose_program() {
   [ -z "$ahead" ] || say "${ahead%% *} is dated in the future; ${program#"$top/"} was made from it as it is"
 }
 
-# Prints the version of a crate's program as its sources have it, whether the program that would be run is proved, and the commit, if this is a checkout.
-print_version() {
-  local version commit kind=unproved
+# Says that nothing of the program is proved, and how that is changed.
+tell_unproved() {
+  say "nothing of this program is proved; ./check proves and tests it all${1-}"
+}
+
+# version_line NAME KIND: the version of something by this name as the sources have it, of this kind, and the commit, if this is a checkout.
+version_line() {
+  local version commit=
   version=$(sed -n 's/^const VERSION: &str = "\(.*\)";$/\1/p' "$top/crates/program_arguments/src/program.rt")
+  [ ! -e "$top/.git" ] || commit=$(git -C "$top" describe --always --dirty --abbrev=12 --exclude '*' 2> /dev/null) || commit=
+  echo "$1 $version, $2${commit:+, commit $commit}"
+}
+
+# Prints the version of a crate's program, and whether the one that would be run is proved.
+print_version() {
+  local kind=unproved
   find_sources "$1"
   ! is_current "$top/crates/$1/out/$1" || kind=proved
-  commit=
-  [ ! -e "$top/.git" ] || commit=$(git -C "$top" describe --always --dirty --abbrev=12 --exclude '*' 2> /dev/null) || commit=
-  echo "$tool $version, $kind${commit:+, commit $commit}"
+  version_line "$tool" "$kind"
 }

@@ -1,5 +1,5 @@
-/* What tracectl.h says of a tracer's handle and of threads that come and go, and, compiled for who calls them by name, the functions of the header. Both
- * libraries contain it, libtracectl_c.a and libtracectl.so (examples/c/build).
+/* What tracectl.h says of a tracer's handle, of threads that come and go, and of statuses' names; and, compiled for who calls them by name, the functions of
+ * the header. Both libraries contain it, libtracectl_c.a and libtracectl.so (examples/c/build).
  *
  * A tracer's handle is used under one lock of the process: threads join and leave seldom. What calls do to the tracer they do under the lock of the proved
  * part, of which each makes one try. */
@@ -132,7 +132,7 @@ static uint32_t give_back(struct tracectl_seat *seat) {
         if ((status = take_lock())) return status;
         status = tracectl_try_leave(&seat->tracer->passes, &seat->console);
         pthread_mutex_unlock(&lock);
-        if (status != TRACECTL_BUSY) return status;
+        if (status != TRACECTL_TRY_BUSY) return status;
         tracectl_wait(&seat->console, ++tries);
     }
 }
@@ -202,4 +202,56 @@ tracectl_place tracectl_here(const tracectl_thread *thread) {
         place.thread = thread->seat->thread;
     }
     return place;
+}
+
+/* ---- Names of statuses. ---- */
+
+/* The switch has no default, so that a compiler tells which constant has no name. */
+const char *tracectl_status_name(uint32_t status) {
+    switch ((enum tracectl_status)status) {
+    case TRACECTL_DONE: return "Done";
+    case TRACECTL_NO_SUCH_FILE: return "NoSuchFile";
+    case TRACECTL_NOT_READABLE: return "NotReadable";
+    case TRACECTL_NOT_WRITABLE: return "NotWritable";
+    case TRACECTL_BAD_VALUE: return "BadValue";
+    case TRACECTL_NO_SUCH_EVENT: return "NoSuchEvent";
+    case TRACECTL_EVENT_EXISTS: return "EventExists";
+    case TRACECTL_BAD_DEFINITION: return "BadDefinition";
+    case TRACECTL_TOO_BIG: return "TooBig";
+    case TRACECTL_FILTER_SYNTAX: return "FilterSyntax";
+    case TRACECTL_NO_SUCH_FIELD: return "NoSuchField";
+    case TRACECTL_WRONG_OPERATOR: return "WrongOperator";
+    case TRACECTL_HIST_SYNTAX: return "HistSyntax";
+    case TRACECTL_BAD_SIZE: return "BadSize";
+    case TRACECTL_TRIGGER_EXISTS: return "TriggerExists";
+    case TRACECTL_NO_SUCH_TRIGGER: return "NoSuchTrigger";
+    case TRACECTL_TOO_MANY: return "TooMany";
+    case TRACECTL_INSTANCE_EXISTS: return "InstanceExists";
+    case TRACECTL_NO_SUCH_INSTANCE: return "NoSuchInstance";
+    case TRACECTL_BUSY: return "Busy";
+    case TRACECTL_NO_SUCH_CPU: return "NoSuchCpu";
+    case TRACECTL_BAD_ROW: return "BadRow";
+    case TRACECTL_HISTORY_FULL: return "HistoryFull";
+    case TRACECTL_MEMORY: return "Memory";
+    case TRACECTL_WORN: return "Worn";
+    case TRACECTL_LINE_TOO_LONG: return "LineTooLong";
+    case TRACECTL_BAD_BYTE: return "BadByte";
+    case TRACECTL_UNCLOSED_QUOTE: return "UnclosedQuote";
+    case TRACECTL_UNKNOWN_COMMAND: return "UnknownCommand";
+    case TRACECTL_WRONG_WORDS: return "WrongWords";
+    case TRACECTL_BAD_NUMBER: return "BadNumber";
+    case TRACECTL_BLOCK_OUT_OF_PLACE: return "BlockOutOfPlace";
+    case TRACECTL_TOO_MANY_THREADS: return "TooManyThreads";
+    case TRACECTL_NOT_OPEN: return "NotOpen";
+    case TRACECTL_ALREADY_OPEN: return "AlreadyOpen";
+    case TRACECTL_TRY_BUSY: return "Busy";
+    case TRACECTL_NOT_JOINED: return "NotJoined";
+    case TRACECTL_ALREADY_JOINED: return "AlreadyJoined";
+    case TRACECTL_NO_PASS_LEFT: return "NoPassLeft";
+    case TRACECTL_STILL_JOINED: return "StillJoined";
+    case TRACECTL_FORKED: return "Forked";
+    case TRACECTL_IN_CALL: return "InCall";
+    case TRACECTL_OTHER_THREAD: return "OtherThread";
+    }
+    return "unknown";
 }

@@ -11,6 +11,13 @@
  * belong to the thread's handle. A tracer keeps no list of what it was asked, so its memory does not grow with the number of commands: it has its rings,
  * events, instances and tables, and for each thread the last reply.
  *
+ * With what ./install has put below PREFIX a program links the shared library, the static one, or the archive by hand. (Without ./install examples/c/build
+ * makes such an archive.)
+ *
+ *     cc server.c $(pkg-config --cflags --libs tracectl)
+ *     cc -static server.c $(pkg-config --static --cflags --libs tracectl)
+ *     cc -I PREFIX/include server.c PREFIX/lib/libtracectl.a -pthread
+ *
  * The functions that a user calls are here and in tracectl.c. Each tries until the call had its turn. What one try leaves, and its status, is proved
  * whatever was asked before it (crates/tracectl_c/src/lib.rt). Nothing checks the C side, so the proof holds only if these files, of which that is said
  * where they do it, and their caller uphold this:
@@ -98,30 +105,63 @@ typedef struct tracectl_settings {
     uint64_t history_limit; /* the most commands that are done, from 1 to 2^32; 0 is no limit: 2^60 */
 } tracectl_settings;
 
-/* The status of a call: one of these, the number of a refusal (docs/REFUSALS.md), or 100 and the number of a line's fault. */
-enum {
+/* The status of a call. docs/REFUSALS.md has an example of each refusal and each fault, and the order in which they are looked for. Of those with an offset
+ * tracectl_offset tells where the string is wrong. */
+enum tracectl_status {
     TRACECTL_DONE = 0,
-    TRACECTL_BAD_VALUE = 4,
-    TRACECTL_HISTORY_FULL = 22,
-    TRACECTL_MEMORY = 23,
-    TRACECTL_LINE_TOO_LONG = 101,
-    TRACECTL_BAD_BYTE = 102,
-    TRACECTL_UNCLOSED_QUOTE = 103,
-    TRACECTL_UNKNOWN_COMMAND = 104,
-    TRACECTL_WRONG_WORDS = 105, /* of a line; and the fields of an emission are no pairs */
-    TRACECTL_BAD_NUMBER = 106,
-    TRACECTL_BLOCK_OUT_OF_PLACE = 107, /* parallel, thread and end */
-    TRACECTL_NOT_OPEN = 200,
-    TRACECTL_ALREADY_OPEN = 201,
-    TRACECTL_BUSY = 202,           /* of one try: somebody else has a turn. The functions that a user calls have no such status */
+
+    /* refusals */
+    TRACECTL_NO_SUCH_FILE = 1,      /* no file has the path */
+    TRACECTL_NOT_READABLE = 2,      /* the file can't be read */
+    TRACECTL_NOT_WRITABLE = 3,      /* the file can't be written */
+    TRACECTL_BAD_VALUE = 4,         /* not what the file takes; a setting is out of range; a value's kind is none of the three */
+    TRACECTL_NO_SUCH_EVENT = 5,     /* no event has this name, or this number */
+    TRACECTL_EVENT_EXISTS = 6,      /* an event has this name */
+    TRACECTL_BAD_DEFINITION = 7,    /* not a declaration of an event, with an offset */
+    TRACECTL_TOO_BIG = 8,           /* a record of the event would be longer than a page */
+    TRACECTL_FILTER_SYNTAX = 9,     /* not a filter, with an offset */
+    TRACECTL_NO_SUCH_FIELD = 10,    /* no field has this name, with an offset */
+    TRACECTL_WRONG_OPERATOR = 11,   /* the field doesn't take the operator, with an offset */
+    TRACECTL_HIST_SYNTAX = 12,      /* not a hist trigger, with an offset */
+    TRACECTL_BAD_SIZE = 13,         /* a hist trigger's size is out of its range */
+    TRACECTL_TRIGGER_EXISTS = 14,   /* such a trigger is attached, or it doesn't fit its table */
+    TRACECTL_NO_SUCH_TRIGGER = 15,  /* no such trigger to remove, continue or clear */
+    TRACECTL_TOO_MANY = 16,         /* a limit is passed, as that of events, fields, instances or triggers */
+    TRACECTL_INSTANCE_EXISTS = 17,  /* an instance has this name */
+    TRACECTL_NO_SUCH_INSTANCE = 18, /* no instance has this name */
+    TRACECTL_BUSY = 19,             /* what would be changed is in use */
+    TRACECTL_NO_SUCH_CPU = 20,      /* the CPU's number is not below the number of CPUs */
+    TRACECTL_BAD_ROW = 21,          /* the fields are not the event's, or a value is not of its field's type; the reply is the field's name */
+    TRACECTL_HISTORY_FULL = 22,     /* as many commands were done as history_limit says */
+    TRACECTL_MEMORY = 23,           /* memory was refused */
+    TRACECTL_WORN = 24,             /* 2^63 tickets of the tracer's lock were drawn */
+
+    /* faults of a line */
+    TRACECTL_LINE_TOO_LONG = 101,      /* over 4,096 bytes */
+    TRACECTL_BAD_BYTE = 102,           /* a byte that no line may have */
+    TRACECTL_UNCLOSED_QUOTE = 103,     /* a quote is not closed */
+    TRACECTL_UNKNOWN_COMMAND = 104,    /* the first word is no command */
+    TRACECTL_WRONG_WORDS = 105,        /* too few words, or too many; also of tracectl_emit: a field without = */
+    TRACECTL_BAD_NUMBER = 106,         /* a CPU, a process or a limit is not a decimal number in its range */
+    TRACECTL_BLOCK_OUT_OF_PLACE = 107, /* parallel, thread and end, which are for scripts */
+    TRACECTL_TOO_MANY_THREADS = 108,   /* a part of a script has more than eight threads: no call has this status */
+
+    /* what is wrong with a handle */
+    TRACECTL_NOT_OPEN = 200,       /* the tracer is not open */
+    TRACECTL_ALREADY_OPEN = 201,   /* the tracer is open */
+    TRACECTL_TRY_BUSY = 202,       /* of one try: somebody else has a turn. The functions that a user calls have no such status */
     TRACECTL_NOT_JOINED = 203,     /* the thread's handle has left, or never joined */
-    TRACECTL_ALREADY_JOINED = 204,
+    TRACECTL_ALREADY_JOINED = 204, /* the thread's handle has joined */
     TRACECTL_NO_PASS_LEFT = 205,   /* 1,024 threads have joined */
     TRACECTL_STILL_JOINED = 206,   /* a tracer that is to be closed has threads that have not left */
     TRACECTL_FORKED = 207,         /* the process is a child, and what it calls was opened or joined in its parent */
     TRACECTL_IN_CALL = 208,        /* the thread is within another call */
     TRACECTL_OTHER_THREAD = 209    /* a handle is to leave that another thread joined with */
 };
+
+/* A status's name, as docs/REFUSALS.md has it: "NoSuchFile" for TRACECTL_NO_SUCH_FILE, and so on; "unknown" for a number that is no status. What a call
+ * tells below 0, as tracectl_waiting does, is a status with its sign changed: tracectl_status_name((uint32_t)-told). */
+const char *tracectl_status_name(uint32_t status);
 
 /* Opens a handle: a tracer of which nothing was asked. TRACECTL_BAD_VALUE: a setting is out of range. */
 uint32_t tracectl_open(tracectl *tracer, const tracectl_settings *settings);
@@ -201,7 +241,7 @@ TRACECTL_FUNCTION uint32_t tracectl_line(tracectl_thread *thread, const char *li
     struct tracectl_mask mask = {0, 0};
     uint32_t tries = 0, status = tracectl_begin(thread);
     if (status) return status;
-    while ((status = tracectl_try_line(&thread->seat->console, line, line_length, &mask)) == TRACECTL_BUSY)
+    while ((status = tracectl_try_line(&thread->seat->console, line, line_length, &mask)) == TRACECTL_TRY_BUSY)
         tracectl_wait(&thread->seat->console, ++tries);
     tracectl_take_mask(thread->seat->tracer, &mask);
     tracectl_end(thread);
@@ -214,7 +254,7 @@ TRACECTL_FUNCTION uint32_t tracectl_emit(tracectl_thread *thread, const char *ev
                                          const char *fields, size_t fields_length) {
     uint32_t tries = 0, status = tracectl_begin(thread);
     if (status) return status;
-    while ((status = tracectl_try_emit(&thread->seat->console, event, event_length, cpu, process, fields, fields_length)) == TRACECTL_BUSY)
+    while ((status = tracectl_try_emit(&thread->seat->console, event, event_length, cpu, process, fields, fields_length)) == TRACECTL_TRY_BUSY)
         tracectl_wait(&thread->seat->console, ++tries);
     tracectl_end(thread);
     return status;
@@ -247,13 +287,13 @@ static inline tracectl_value tracectl_bytes(const char *bytes, size_t bytes_leng
 
 /* An event happens, as by tracectl_emit, but no text is written for it: the event is named by its number, which is the ID in
  * events/synthetic/EVENT/format (1 for the event that was declared first, and so on), and its fields have the values, in order of declaration. A
- * value means what its text does: a number its decimal digits. Refused as tracectl_emit is, a number that no event has as a name that none has (5),
+ * value means what its text does: a number its decimal digits. Refused as tracectl_emit is, a number that no event has as a name that none has,
  * and a value beyond the last field as one of a field with no name; and with TRACECTL_BAD_VALUE if a kind is none of the three. */
 TRACECTL_FUNCTION uint32_t tracectl_emit_values(tracectl_thread *thread, uint32_t event, uint32_t cpu, int32_t process, const tracectl_value *values,
                                                 size_t count) {
     uint32_t tries = 0, status = tracectl_begin(thread);
     if (status) return status;
-    while ((status = tracectl_try_emit_values(&thread->seat->console, event, cpu, process, values, count)) == TRACECTL_BUSY)
+    while ((status = tracectl_try_emit_values(&thread->seat->console, event, cpu, process, values, count)) == TRACECTL_TRY_BUSY)
         tracectl_wait(&thread->seat->console, ++tries);
     tracectl_end(thread);
     return status;
@@ -265,7 +305,7 @@ TRACECTL_FUNCTION uint32_t tracectl_write_by(tracectl_thread *thread, const char
     struct tracectl_mask mask = {0, 0};
     uint32_t tries = 0, status = tracectl_begin(thread);
     if (status) return status;
-    while ((status = tracectl_try_write(&thread->seat->console, path, path_length, text, text_length, append, &mask)) == TRACECTL_BUSY)
+    while ((status = tracectl_try_write(&thread->seat->console, path, path_length, text, text_length, append, &mask)) == TRACECTL_TRY_BUSY)
         tracectl_wait(&thread->seat->console, ++tries);
     tracectl_take_mask(thread->seat->tracer, &mask);
     tracectl_end(thread);
@@ -285,7 +325,7 @@ TRACECTL_FUNCTION uint32_t tracectl_append(tracectl_thread *thread, const char *
 TRACECTL_FUNCTION uint32_t tracectl_read_by(tracectl_thread *thread, const char *path, size_t path_length, uint32_t is_limited, uint64_t limit) {
     uint32_t tries = 0, status = tracectl_begin(thread);
     if (status) return status;
-    while ((status = tracectl_try_read(&thread->seat->console, path, path_length, is_limited, limit)) == TRACECTL_BUSY)
+    while ((status = tracectl_try_read(&thread->seat->console, path, path_length, is_limited, limit)) == TRACECTL_TRY_BUSY)
         tracectl_wait(&thread->seat->console, ++tries);
     tracectl_end(thread);
     return status;
@@ -307,13 +347,13 @@ TRACECTL_FUNCTION uint32_t tracectl_take(tracectl_thread *thread, const char *pa
 TRACECTL_FUNCTION uint32_t tracectl_files(tracectl_thread *thread) {
     uint32_t tries = 0, status = tracectl_begin(thread);
     if (status) return status;
-    while ((status = tracectl_try_files(&thread->seat->console)) == TRACECTL_BUSY) tracectl_wait(&thread->seat->console, ++tries);
+    while ((status = tracectl_try_files(&thread->seat->console)) == TRACECTL_TRY_BUSY) tracectl_wait(&thread->seat->console, ++tries);
     tracectl_end(thread);
     return status;
 }
 
-/* How many bytes the reply has: what the thread's last command read, or the name of the field whose value is wrong (N21 BadRow), or the list; else 0. None
- * of the calls from here on changes the reply. */
+/* How many bytes the reply has: what the thread's last command read, or the name of the field whose value is wrong (TRACECTL_BAD_ROW), or the list; else
+ * 0. None of the calls from here on changes the reply. */
 TRACECTL_FUNCTION size_t tracectl_reply_length(tracectl_thread *thread) {
     char no_room;
     size_t length;
@@ -346,20 +386,20 @@ TRACECTL_FUNCTION uint64_t tracectl_entries(tracectl_thread *thread) {
     struct tracectl_mask mask = {0, 0};
     uint32_t tries = 0;
     if (tracectl_begin(thread)) return 0;
-    while (tracectl_try_wanted(&thread->seat->console, &mask) == TRACECTL_BUSY) tracectl_wait(&thread->seat->console, ++tries);
+    while (tracectl_try_wanted(&thread->seat->console, &mask) == TRACECTL_TRY_BUSY) tracectl_wait(&thread->seat->console, ++tries);
     tracectl_take_mask(thread->seat->tracer, &mask);
     tracectl_end(thread);
     return mask.entries;
 }
 
 /* Whether a record waits to be read in a pipe: trace_pipe or per_cpu/cpuN/trace_pipe, of the top instance or of one in instances/. 1 if one does,
- * 0 if none does; below 0 is what tracectl_take of this path would be refused with, as -1 for N1 NoSuchFile, or -TRACECTL_NOT_JOINED. It takes no
+ * 0 if none does; below 0 is what tracectl_take of this path would be refused with, as -TRACECTL_NO_SUCH_FILE, or -TRACECTL_NOT_JOINED. It takes no
  * memory and is no command: nothing changes, the reply neither. */
 TRACECTL_FUNCTION int32_t tracectl_waiting(tracectl_thread *thread, const char *path, size_t path_length) {
     int32_t waits;
     uint32_t tries = 0, status = tracectl_begin(thread);
     if (status) return -(int32_t)status;
-    while ((waits = tracectl_try_waiting(&thread->seat->console, path, path_length)) == -TRACECTL_BUSY)
+    while ((waits = tracectl_try_waiting(&thread->seat->console, path, path_length)) == -TRACECTL_TRY_BUSY)
         tracectl_wait(&thread->seat->console, ++tries);
     tracectl_end(thread);
     return waits;
@@ -387,7 +427,7 @@ TRACECTL_FUNCTION int32_t tracectl_wanted(tracectl_thread *thread, uint32_t even
     struct tracectl_mask mask = {0, 0};
     uint32_t tries = 0, status = tracectl_begin(thread);
     if (status) return -(int32_t)status;
-    while ((status = tracectl_try_wanted(&thread->seat->console, &mask)) == TRACECTL_BUSY) tracectl_wait(&thread->seat->console, ++tries);
+    while ((status = tracectl_try_wanted(&thread->seat->console, &mask)) == TRACECTL_TRY_BUSY) tracectl_wait(&thread->seat->console, ++tries);
     tracectl_take_mask(thread->seat->tracer, &mask);
     tracectl_end(thread);
     if (status) return -(int32_t)status;

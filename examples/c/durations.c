@@ -9,7 +9,7 @@ enum { PAUSES = 200, NANOSECONDS_EACH = 1000000 };
 /* Does a line, and tells it if it was refused. */
 static int line(tracectl_thread *thread, const char *text) {
     uint32_t status = tracectl_line(thread, text, strlen(text));
-    if (status) fprintf(stderr, "%s: refused, status %u\n", text, (unsigned)status);
+    if (status) fprintf(stderr, "%s: refused: %s\n", text, tracectl_status_name(status));
     return status == TRACECTL_DONE;
 }
 

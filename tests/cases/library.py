@@ -12,6 +12,7 @@ from pathlib import Path
 from cases.python_calls import python_cases
 from cases.running import TOP, Case, Outcome, differences, run, text_differences
 from cases.scripts import scripts_of, wanted, words_of
+from cases.statuses import status_cases
 
 LIBRARY = TOP / "crates" / "tracectl_c" / "out" / "libtracectl_c.a"
 CASES = TOP / "tests" / "library_cases"
@@ -190,5 +191,6 @@ def library_cases():
     ]
     if (folder / "wanted_in_cpp").exists():
         cases.append(example_case("tests/library_cases/wanted.c in C++", [folder / "wanted_in_cpp"], folder, CASES / "wanted.stdout"))
-    cases += [sanitized_case(name, program) for name, program in sanitized.items()] + python_cases(folder / "libtracectl.so")
+    cases += [sanitized_case(name, program) for name, program in sanitized.items()]
+    cases += python_cases(folder / "libtracectl.so") + status_cases(folder / "libtracectl.so")
     return cases + list(map(script_case, scripts)) + [values_case(script) for script in scripts if b"\nemit " in script.read_bytes()]

@@ -6,6 +6,7 @@ import re
 import sys
 
 from cases.running import TOP, Case, Outcome, differences, run
+from cases.statuses import in_header, name_differences
 from walking.walks import seed_of
 
 CASES = TOP / "tests" / "library_cases"
@@ -43,27 +44,11 @@ def walks(library, program):
     return wrong + got.stderr.decode().splitlines() + ([] if got.status == 0 else ["exit status %d: %s" % (got.status, told)])
 
 
-def told_names():
-    """The names of statuses in the pages and the header."""
-    page = (TOP / "docs" / "REFUSALS.md").read_text()
-    names = {int(number): name for number, name in re.findall(r"^- \*\*N(\d+) (\w+)", page, re.MULTILINE)}
-    names.update(enumerate(re.findall(r"^- \*\*(\w+)\*\*:", page[page.index("## Script faults") :], re.MULTILINE), 101))
-    header = (TOP / "crates" / "tracectl_c" / "tracectl.h").read_text()
-    statuses = re.search(r"enum \{(.*?)\};", header, re.DOTALL)[1]
-    return names, {int(number): name for name, number in re.findall(r"TRACECTL_(\w+) = (\d+)", statuses) if name != "DONE"}
-
-
 def names(_):
-    """Compares the names with those of the page and, without their underscores, with those of the header."""
+    """Compares the names with those of the header, which tests/cases/statuses.py compares with all others."""
     import tracectl
 
-    given = getattr(tracectl, "NAMES", {})
-    page, header = told_names()
-    found = ["%d is %s, in docs/REFUSALS.md %s" % (status, given.get(status), name) for status, name in page.items() if given.get(status) != name]
-    for status, name in header.items():
-        if given.get(status, "").upper() != name.replace("_", ""):
-            found.append("%d is %s, in tracectl.h %s" % (status, given.get(status), name))
-    return found + ["%d is told nowhere" % status for status in set(given) - set(page) - set(header)]
+    return name_differences("in Python", getattr(tracectl, "NAMES", {}), {number: name for number, name in in_header().items() if number})
 
 
 def python_cases(library):

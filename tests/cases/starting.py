@@ -45,7 +45,7 @@ class Starter:
         self.source.write_text("// a source\n")
         self.source.with_name("program.rt").write_text('const VERSION: &str = "%s";\n' % run([program, "--version"]).stdout.decode().split()[1])
         (self.top / "crates.txt").write_text("program_arguments: clap\ntracectl may_wait=4: program_arguments\ntracectl_mount: program_arguments\n")
-        for name in ("tracectl", "tracectl-mount", "HANDLES", "tools/building.bash"):
+        for name in ("tracectl", "tracectl-mount", "HANDLES", "tools/programs.bash", "tools/building.bash"):
             shutil.copy(str(TOP / name), str(self.top / name))
         old = time.time() - 100
         for path in (self.source, self.source.with_name("program.rt"), self.source.parent, self.top / "crates.txt"):

@@ -119,8 +119,9 @@ int main(void) {
         && tells(TEXT(""), 0) && is_done("line", enabled) && tells(TEXT(""), 1) && is_done("write", filtered)
         && is_done("trigger", counted) && tells(TEXT("trace_pipe"), 0) && is_done("emit", emitted) && is_done("emit_values", emitted_by_values)
         && tells(TEXT("trace_pipe"), 1) && tells(TEXT("per_cpu/cpu1/trace_pipe"), 1) && tells(TEXT("per_cpu/cpu0/trace_pipe"), 1)
-        && tells(TEXT("per_cpu/cpu2/trace_pipe"), -20) && tells(TEXT("no_file"), -1) && tells(TEXT("trace"), -TRACECTL_BAD_VALUE)
-        && tells(TEXT("instances/a/trace_pipe"), -18) && is_done("take", taken) && tells(TEXT("per_cpu/cpu1/trace_pipe"), 0) && is_done("read", read_hist) && is_done("files", listed)
+        && tells(TEXT("per_cpu/cpu2/trace_pipe"), -TRACECTL_NO_SUCH_CPU) && tells(TEXT("no_file"), -TRACECTL_NO_SUCH_FILE)
+        && tells(TEXT("trace"), -TRACECTL_BAD_VALUE) && tells(TEXT("instances/a/trace_pipe"), -TRACECTL_NO_SUCH_INSTANCE) && is_done("take", taken)
+        && tells(TEXT("per_cpu/cpu1/trace_pipe"), 0) && is_done("read", read_hist) && is_done("files", listed)
         && is_done("mkdir", made) && is_done("snapshot", swapped);
     printf("entries: %llu\n", (unsigned long long)tracectl_entries(&thread));
     done = is_given_back() && done;

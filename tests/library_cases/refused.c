@@ -16,10 +16,15 @@ enum { PASSES = 1024 };
 static tracectl tracer = TRACECTL_CLOSED;
 static tracectl_thread thread = TRACECTL_LEFT;
 
-/* Prints what a call came to. */
+/* Prints what a call came to: a number, a status, or a status below 0 where it has no answer. */
 static void tell(const char *what, long come) { printf("%s: %ld\n", what, come); }
 
-static void tell_status(const char *what, uint32_t status) { tell(what, (long)status); }
+static void tell_status(const char *what, uint32_t status) { printf("%s: %s\n", what, tracectl_status_name(status)); }
+
+static void tell_answer(const char *what, int32_t answer) {
+    if (answer < 0) tell_status(what, (uint32_t)-answer);
+    else tell(what, answer);
+}
 
 /* ---- Within another call. ---- */
 
@@ -36,8 +41,8 @@ void *__wrap_malloc(size_t size) {
 
 static void ask_again(void) {
     tell_status("a write within a call", tracectl_write(&thread, TEXT("tracing_on"), TEXT("0")));
-    tell("a look", tracectl_waiting(&thread, TEXT("trace_pipe")));
-    tell("a question", tracectl_wanted(&thread, 1));
+    tell_answer("a look", tracectl_waiting(&thread, TEXT("trace_pipe")));
+    tell_answer("a question", tracectl_wanted(&thread, 1));
     tell("a reply", (long)tracectl_reply_length(&thread));
     tell("entries", (long)tracectl_entries(&thread));
     tell_status("a leave", tracectl_leave(&thread));
@@ -81,7 +86,7 @@ static void call_in_child(void) {
     tracectl own = TRACECTL_CLOSED;
     tracectl_settings settings = {.cpus = 1, .pages = 2, .page_bytes = 64, .history_limit = 0};
     tell_status("in a child, a write", tracectl_write(&thread, TEXT("tracing_on"), TEXT("0")));
-    tell("in a child, a question", tracectl_wanted(&thread, 1));
+    tell_answer("in a child, a question", tracectl_wanted(&thread, 1));
     tell_status("in a child, an emission that is wanted", TRACECTL_EMIT(&thread, 1, tracectl_unsigned(1)));
     tell_status("in a child, one that is not", TRACECTL_EMIT(&thread, 2, tracectl_unsigned(1)));
     tell_status("in a child, a leave", tracectl_leave(&thread));
@@ -91,7 +96,7 @@ static void call_in_child(void) {
     tell_status("in a child, an open", tracectl_open(&tracer, &settings));
     tell_status("in a child, an open of its own", tracectl_open(&own, &settings));
     tell_status("in a child, a join of its own", tracectl_join(&own, &other));
-    tell("in a child, a question to its own", tracectl_wanted(&other, 1));
+    tell_answer("in a child, a question to its own", tracectl_wanted(&other, 1));
     tell_status("in a child, a read of its own", tracectl_read(&other, TEXT("trace")));
     tell_status("in a child, a leave of its own", tracectl_leave(&other));
     tell_status("in a child, a close of its own", tracectl_close(&own));
@@ -144,7 +149,7 @@ int main(void) {
     tell_status("an open", tracectl_open(&tracer, &settings));
     tell_status("before it has joined, a write", tracectl_write(&thread, TEXT("tracing_on"), TEXT("1")));
     tell_status("a leave", tracectl_leave(&thread));
-    tell("a question", tracectl_wanted(&thread, 1));
+    tell_answer("a question", tracectl_wanted(&thread, 1));
     tell_status("an emission", TRACECTL_EMIT(&thread, 1, tracectl_unsigned(1)));
     tell("a place", (long)tracectl_here(&thread).cpu + tracectl_here(&thread).thread);
     tell_status("a join", tracectl_join(&tracer, &thread));

@@ -1,0 +1,22 @@
+#compdef tracectl-mount
+# Completes the words of tracectl-mount in zsh, from a folder of fpath. Made of the text of tracectl-mount --help by tests/cases/helping.py.
+local at=${words[(i)--]}
+if (( at < CURRENT )); then # a command and its words
+  shift at words
+  (( CURRENT -= at ))
+  _normal
+  return
+fi
+_arguments \
+  '--over[Run the command with the tracer that is mounted on DIR already. There are no other options then.]:DIR:_directories' \
+  '--cpus=[Number of CPUs, 1 to 8 \[default: 1\]]:N: ' \
+  '--pages=[Pages per ring, 2 to 1024 \[default: 16\]]:N: ' \
+  '--page-bytes=[Bytes per page, 64 to 4080, a multiple of 8 \[default: 4080\]]:N: ' \
+  '--allow-other[Let other users in, as far as permissions allow it]' \
+  '--mode=[Permissions, in octal, 0 to 0777 \[default: 0750\]]:MODE: ' \
+  '--uid=[User that the files belong to, 0 to 4294967295 \[default: who mounts\]]:N: ' \
+  '--gid=[Group that the files belong to, 0 to 4294967295 \[default: that of who mounts\]]:N: ' \
+  '-f[Stay in the foreground until the tracer is unmounted; an interrupt unmounts it]' \
+  '(-h --help)'{-h,--help}'[Print help]' \
+  '(-V --version)'{-V,--version}'[Print version, with the commit, and whether the program is proved]' \
+  '1:DIR:_directories'

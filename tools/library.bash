@@ -1,0 +1,33 @@
+# What examples/c/build and ./install share: the library for C, static and shared. Sourced after programs.bash.
+
+# Puts into `archive` the proved part of the library: crates/tracectl_c/out/libtracectl_c.a, which `rt lib` in crates/tracectl_c proves and makes. Where
+# there is none or it is older than its sources, that is libtracectl_c-unproved.a beside it, which is compiled first if need be. `is_proved` says which.
+choose_archive() {
+  archive=$top/crates/tracectl_c/out/libtracectl_c.a
+  is_proved=yes
+  find_sources tracectl_c
+  if ! is_current "$archive"; then
+    archive=${archive%.a}-unproved.a
+    is_proved=no
+    make_current compile tracectl_c "$archive" || stop "so there is no library: rt lib in crates/tracectl_c proves and makes it"
+    say "nothing of this library is proved; rt lib in crates/tracectl_c proves and makes it"
+  fi
+}
+
+# make_static FILE FOLDER: makes a static library of the archive that was chosen, of tracectl.c, and of the kit's heap, which calls malloc, realloc and
+# free. The folder, an empty one, takes what it is made of.
+make_static() {
+  local heap
+  heap=$(dirname "$(rt doc)")/c/liblibc_c.a
+  "$compiler" -O2 -Wall -Wextra -fPIC -I "$top/crates/tracectl_c" -c -o "$2/tracectl.o" "$top/crates/tracectl_c/tracectl.c"
+  (cd -- "$2" && ar x "$heap")
+  cp -- "$archive" "$2/library.a"
+  ar q "$2/library.a" "$2"/*.o
+  mv -f -- "$2/library.a" "$1"
+}
+
+# make_shared FILE FOLDER STATIC [FLAG ..]: makes a shared library of a static one. It has the functions of tracectl.h and no other names.
+make_shared() {
+  echo '{ global: tracectl_*; local: *; };' > "$2/names"
+  "$compiler" -shared -o "$1" "${@:4}" -Wl,--version-script="$2/names" -Wl,--whole-archive "$3" -Wl,--no-whole-archive -pthread
+}
