@@ -2,17 +2,19 @@
 from tracectl import Refused, Tracer
 
 with Tracer(pages=2, page_bytes=64) as tracer:
-    tracer.append("synthetic_events", "tick u64 n; char who[16]")
-    tracer.write("events/synthetic/tick/enable", "1")
-    tracer.write("events/synthetic/tick/filter", "n > 2")
+    tick = tracer.event("tick u64 n; char who[16]")
+    tick.enable()
+    tick.filter("n > 2")
     for n in range(4):
-        tracer.emit("tick", process=7, n=n, who="two words")
-    tracer.emit_values(tracer.number_of("tick"), 4, "two words", process=7)
+        tick(n=n, who="two words", process=7)
+    tracer.emit("tick", n=4, who="two words", process=7)  # the same by name
     print("waiting: %s" % tracer.waiting("trace_pipe"))
-    print(tracer.take("trace_pipe", 1).decode(), end="")
+    print(tracer.take("trace_pipe", 1), end="")
     try:
-        tracer.write("events/synthetic/tick/filter", "n > and")
+        tick.filter("n > and")
     except Refused as refused:
         print("refused: %s at %d" % (refused.name, refused.offset))
-    print(tracer.read("per_cpu/cpu0/stats").decode(), end="")
+    statistics = tracer.statistics(cpu=0)
+    print("%d kept, %d overwritten" % (statistics.entries, statistics.overrun))
+    print(tracer.read("per_cpu/cpu0/stats"), end="")
     print("entries: %d" % tracer.entries())

@@ -54,7 +54,6 @@ class Place:
         self.kit = Path(subprocess.run(["rt", "doc"], stdout=subprocess.PIPE, check=True).stdout.decode().strip()).parent
         self.copy_repository(programs)
         shutil.copytree(str(TOP / "examples"), str(self.elsewhere))
-        (self.elsewhere / "python" / "tracectl.py").unlink()
         self.home.mkdir()
         (self.room / "commands").mkdir()
         self.place_command("rt", "echo 'rt was called' >&2; exit 9")
@@ -265,12 +264,13 @@ def builds_as_the_header_says(place):
 
 
 def runs_python(place):
-    """Python keeps what it compiles beside the module, which goes with it."""
-    found = []
+    """Python keeps what it compiles beside the modules, which goes with them. The package names the library of the prefix."""
+    got = place.do("python3", "-c", "from tracectl.installed import LIBRARY; print(LIBRARY)")
+    found = differences(got, Outcome(0, b"%s/lib/libtracectl.so.0\n" % str(place.prefix).encode(), b""))
     for script in sorted((place.elsewhere / "python").glob("*.py")):
         got = place.do("python3", script)
         found += ["%s: %s" % (script.name, difference) for difference in differences(got, Outcome(0, script.with_suffix(".stdout").read_bytes(), b""))]
-    return found + ([] if any("__pycache__/tracectl." in name for name in tree_of(place.prefix)) else ["nothing is kept"])
+    return found + ([] if any("tracectl/__pycache__/tracer." in name for name in tree_of(place.prefix)) else ["nothing is kept"])
 
 
 def replaces_older(place):

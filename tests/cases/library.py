@@ -1,4 +1,4 @@
-"""The library for C and Python: its examples, calls of the Python module, and scripts of tests/rows done by it line by line, with the list of files
+"""The library for C and Python: its examples, calls of the Python package, and scripts of tests/rows done by it line by line, with the list of files
 after them; also with the emissions by values in which each pair gives the field in its place its value."""
 import atexit
 import os
@@ -16,7 +16,8 @@ from cases.statuses import status_cases
 
 LIBRARY = TOP / "crates" / "tracectl_c" / "out" / "libtracectl_c.a"
 CASES = TOP / "tests" / "library_cases"
-PYTHON = TOP / "examples" / "python"
+EXAMPLES = TOP / "examples" / "python"
+PACKAGE = TOP / "python"
 OPTIONS = {"--cpus": "cpus", "--pages": "pages", "--page-bytes": "page_bytes"}
 
 
@@ -85,7 +86,7 @@ def is_plain(script):
 
 def fields_of(tracer, event):
     """The names of an event's fields, which its format shows after that of the process."""
-    lines = tracer.read("events/synthetic/%s/format" % event).split(b"\n")
+    lines = tracer.read(b"events/synthetic/%s/format" % event).split(b"\n")
     declared = [line[len(b"\tfield:") :].split(b";")[0] for line in lines if line.startswith(b"\tfield:")]
     return [words.split()[-1].split(b"[")[0] for words in declared[1:]]
 
@@ -100,7 +101,7 @@ def emit_by_values(tracer, line):
     words = line.split()
     if words[:1] != [b"emit"] or any(quote in line for quote in b"'\""):
         return False
-    cpu, process, event = int(words[1]), int(words[2]), words[3].decode()
+    cpu, process, event = int(words[1]), int(words[2]), words[3]
     pairs = [word.partition(b"=") for word in words[4:]]
     if [name for name, _, _ in pairs] != fields_of(tracer, event):
         return False
@@ -112,7 +113,7 @@ def by_lines(tracer_of, script, does_another_way):
     """What a script's lines reply, one after another, and which files are listed after them. A line may be done another way, which has no reply."""
     with tracer_of(**settings_of(words_of(script))) as tracer:
         lines = script.read_bytes().split(b"\n")
-        return b"".join(b"" if does_another_way(tracer, line) else tracer.line(line) for line in lines), tracer.files()
+        return b"".join(b"" if does_another_way(tracer, line) else tracer.line(line) for line in lines), tracer.files().encode()
 
 
 def called(program, tracer_of, script, does_another_way=lambda tracer, line: False):
@@ -146,7 +147,7 @@ def timed_case(name, command, stdout):
 
 
 def example_case(name, command, folder, stdout):
-    settings = ["env", "PYTHONDONTWRITEBYTECODE=1", "TRACECTL_LIBRARY=%s" % (folder / "libtracectl.so")]
+    settings = ["env", "PYTHONDONTWRITEBYTECODE=1", "PYTHONPATH=%s" % PACKAGE, "TRACECTL_LIBRARY=%s" % (folder / "libtracectl.so")]
     return Case(name, lambda _: differences(run(settings + command), Outcome(0, stdout.read_bytes(), b"")))
 
 
@@ -156,7 +157,7 @@ def library_cases():
         print("skipped: the library for C and Python, as %s" % reason, flush=True)
         return []
     folder, sanitized = built()
-    sys.path.insert(0, str(PYTHON))
+    sys.path.insert(0, str(PACKAGE))
     from tracectl import Tracer
 
     def tracer_of(**settings):
@@ -186,9 +187,9 @@ def library_cases():
         example_case("tests/library_cases/wanted.c", [folder / "wanted"], folder, CASES / "wanted.stdout"),
         example_case("examples/c/four_threads.c", [folder / "four_threads"], folder, TOP / "examples" / "c" / "four_threads.stdout"),
         example_case("examples/c/switched.c", [folder / "switched"], folder, TOP / "examples" / "c" / "switched.stdout"),
-        example_case("examples/python/ticks.py", [sys.executable, PYTHON / "ticks.py"], folder, PYTHON / "ticks.stdout"),
-        example_case("examples/python/threads.py", [sys.executable, PYTHON / "threads.py"], folder, PYTHON / "threads.stdout"),
     ]
+    for script in sorted(EXAMPLES.glob("*.py")):
+        cases.append(example_case("examples/python/" + script.name, [sys.executable, script], folder, script.with_suffix(".stdout")))
     if (folder / "wanted_in_cpp").exists():
         cases.append(example_case("tests/library_cases/wanted.c in C++", [folder / "wanted_in_cpp"], folder, CASES / "wanted.stdout"))
     cases += [sanitized_case(name, program) for name, program in sanitized.items()]

@@ -1,4 +1,4 @@
-"""tracectl.py: what calls come to by their arguments, calls with random arguments, walks, and the names of statuses.
+"""The Python package: what calls come to by their arguments, calls with random arguments, walks, and the names of statuses.
 
 Calls are made in processes of their own, so that a crash is one case's failure.
 """
@@ -56,5 +56,5 @@ def python_cases(library):
         Case("tests/library_cases/arguments.py", lambda _: arguments(library)),
         Case("tests/library_cases/random_calls.py", lambda _: random_calls(library)),
         Case("tests/library_cases/walks.py", lambda program: walks(library, program)),
-        Case("the names of statuses in examples/python/tracectl.py", names),
+        Case("the names of statuses in python/tracectl/refused.py", names),
     ]

@@ -1,4 +1,4 @@
-"""arguments.py: what calls of tracectl.py come to, one after another: what they return, what is recorded, or which exception is raised.
+"""arguments.py: what calls of the Python package come to, one after another: what they return, what is recorded, or which exception is raised.
 
 A call that raises leaves the count of commands as it was, but for a read before it; a line ends in 'changed' where it does not.
 """
@@ -7,7 +7,7 @@ import threading
 from enum import Enum, IntEnum
 from pathlib import Path
 
-sys.path.insert(0, str(Path(__file__).resolve().parent.parent.parent / "examples" / "python"))
+sys.path.insert(0, str(Path(__file__).resolve().parent.parent.parent / "python"))
 
 from drawing import LyingBytes, LyingNumber
 from tracectl import Refused, Tracer
@@ -71,6 +71,33 @@ t.line(None)
 t.line()
 t.files(0)
 t.entries(0)
+t.event(0)
+t.event(None)
+t.event()
+tick(5)
+tick([("n", 5)])
+tick({1: 5})
+tick(n=None)
+tick(n=5.0)
+tick(n=True)
+tick(n=5, cpu="0")
+tick(n=5, process=7.0)
+tick()
+tick(n=5, m=6)
+tick({"n": 5}, n=5)
+tick({b"n": 5, "n": 5})
+request(path="/x", status=1)
+tick.filter(0)
+tick.filter()
+tick.trigger(None)
+t.histogram(0)
+t.histogram(None)
+t.histogram(tick, "0")
+t.histogram(tick, True)
+t.histograms(b"tick", 0)
+t.statistics("0")
+t.statistics(True)
+t.statistics(cpu=None)
 Tracer(cpus="1")
 Tracer(cpus=True)
 Tracer(pages=16.0)
@@ -94,7 +121,7 @@ t.emit("tick", n=5, cpu=-1)
 t.emit("tick", n=5, process=2**31)
 t.emit("tick", n=5, process=-(2**31) - 1)
 t.emit_values(2, "/x\0", 1, 1)
-t.emit_values(2, "\udcff", 1, 1)
+t.emit_values(2, "\udc41", 1, 1)
 t.emit_values(1, 2**64)
 t.emit_values(1, -(2**63) - 1)
 t.emit_values(2**32 + 1, 5)
@@ -113,6 +140,23 @@ t.waiting("trace_pipe\0")
 t.wanted(-1)
 t.wanted(2**32 + 1)
 t.line("cat trace\0")
+t.event("x u8 n\0")
+t.event("\ud800")
+tick({"n\0": 5})
+tick({"\ud800": 5})
+tick(n="5\0")
+tick(n=2**64)
+tick(n=-(2**63) - 1)
+tick(n=5, cpu=2**32)
+tick(n=5, process=-(2**31) - 1)
+tick.filter("0\0")
+tick.trigger("snapshot\0")
+t.histogram("tick\0")
+t.histogram(tick, -1)
+t.histogram(tick, 2**32)
+t.histogram(others)
+t.statistics(-1)
+t.statistics(cpu=2**32)
 Tracer(cpus=2**32 + 1)
 Tracer(cpus=-1)
 Tracer(pages=2**32 + 2)
@@ -140,6 +184,34 @@ t.read(b"events/synthetic/odd/enable")
 t.take("trace_pipe", 2**64 - 1)
 t.wanted(1)
 t.wanted(2**32 - 1)
+tick(n=5)
+tick({b"n": 2**64 - 1}, cpu=1, process=7)
+tick(n=Whole.FIVE, cpu=Whole.ONE)
+request({"us": -5}, path=b"/x", status="7")
+odd({"cpu": 1, "process": 2}, event="e", fields=3, self=4, cpu=1, process=7)
+tick
+t.event("odd").fields
+t.event("  request\tchar  path[16] ;u32 status; s64 us ; ").number
+t.event(b"tick u64 n;") is tick
+t.event("tick u64 n").number == tick.number
+tick.wanted
+tick.disable()
+tick.wanted
+tick.enable()
+tick.filter("n > 3")
+t.read("events/synthetic/tick/filter")
+tick.filter("0")
+request.filter(b"path == '\xff'")
+t.read("events/synthetic/request/filter")
+request.filter(t.read("events/synthetic/request/filter").strip())
+t.read(b"events/synthetic/request/filter")
+request.filter("0")
+t.take(b"trace_pipe", 0)
+t.line("cat tracing_on")
+t.line(b"cat tracing_on")
+t.files().split("\n")[0]
+t.histograms(tick)
+t.statistics(cpu=1)
 """
 # A call for each name that one can come to, in the order of the statuses.
 REFUSED = """
@@ -164,6 +236,16 @@ t.read("instances/b/trace")
 t.write("synthetic_events", "x u64 n")
 t.emit("tick", n=1, cpu=2**32 - 1)
 t.emit("tick", n=-1)
+t.event("tick")(n=-1)
+t.emit_values(1, 5, 6)
+t.event("tick u64 m")
+t.event("tick u32 n")
+t.event("x u65 n")
+t.event("")
+t.event("tock")
+t.event("a/b")
+t.histogram("tock")
+t.statistics(cpu=2)
 full.read("trace")
 t.line("#" * 5000)
 t.line("cat \\x01")
@@ -235,11 +317,11 @@ def show(calls, names, raises=True):
         changed = " changed" if raises and tracer.entries() != before else ""
         print("%s: %s%s" % (call, told, changed), flush=True)
         if not raises and tracer.waiting(PIPE):
-            print("    " + tracer.take(PIPE, 1).decode(), end="", flush=True)
+            print("    " + tracer.take(PIPE, 1), end="", flush=True)
 
 
 def main():
-    with Tracer(cpus=2, pages=2, page_bytes=128) as tracer, Tracer(history_limit=1) as full:
+    with Tracer(cpus=2, pages=2, page_bytes=128) as tracer, Tracer(history_limit=1) as full, Tracer() as others:
         closed = Tracer()
         closed.close()
         full.read("trace")
@@ -247,6 +329,8 @@ def main():
         for declared in DECLARED.strip().split("\n"):
             tracer.append("synthetic_events", declared)
         tracer.write("events/enable", "1")
+        names.update((name, tracer.event(name)) for name in ("tick", "request", "odd"))
+        names["others"] = others.event("tick u64 n")
         for calls in (WRONG_KINDS, WRONG_VALUES):
             show(calls, names)
         show(RIGHT, names, raises=False)

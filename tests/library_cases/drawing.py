@@ -67,7 +67,7 @@ class Pretender:
 # What means nothing to any call, but for a dict; the second of these may be keys.
 UNFIT = [lambda: bytearray(b"trace"), lambda: [b"trace"], dict, set, lambda: create_string_buffer(8), lambda: c_char_p(b"trace"), lambda: c_uint32(1)]
 UNFIT_KEYS = [None, True, False, 0.0, 1.0, float("nan"), float("inf"), 1j, (), (1, 2), ..., NotImplemented, int, len, object(), range(3),
-              decimal.Decimal(1), Path("trace"), memoryview(b"trace"), frozenset(), Pretender(), "\ud800", "a\udcff"]
+              decimal.Decimal(1), Path("trace"), memoryview(b"trace"), frozenset(), Pretender(), "\ud800", "a\udc41"]
 Argument = namedtuple("Argument", "value means")
 
 
@@ -92,10 +92,8 @@ class Drawing:
     def as_string(self, means):
         """These bytes in a type that has them."""
         values = [means, means, LyingBytes(means)]
-        try:
-            values += [means.decode(), means.decode(), LyingStr(means.decode())]
-        except UnicodeDecodeError:
-            pass
+        text = means.decode(errors="surrogateescape")
+        values += [text, text, LyingStr(text)]
         return Argument(self.choice(values), NOTHING if 0 in means else means)
 
     def string(self, usual, hashable=False):

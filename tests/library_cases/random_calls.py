@@ -1,4 +1,4 @@
-"""random_calls.py SEED COUNT [each]: so many calls of tracectl.py, with random arguments of all types. `each` prints each before it is made.
+"""random_calls.py SEED COUNT [each]: so many calls of the Python package, with random arguments of all types. `each` prints each before it is made.
 
 A call with an argument that means nothing (drawing.py) has to raise TypeError or ValueError. Any other is made of a second tracer, too, by ctypes and
 from what its arguments mean, emissions by values there by text: both have to come to the same, and both tracers to have done as many commands, so that
@@ -15,10 +15,11 @@ from os import environ
 from pathlib import Path
 
 TOP = Path(__file__).resolve().parent.parent.parent
-sys.path.insert(0, str(TOP / "examples" / "python"))
+sys.path.insert(0, str(TOP / "python"))
 
 from drawing import NOTHING, Drawing
-from tracectl import Refused, Settings, Tracer
+from tracectl import Refused, Tracer
+from tracectl.structures import Settings
 
 NO_OFFSET = 2**64 - 1
 RAISED = "TypeError or ValueError"
@@ -160,6 +161,19 @@ def draw_emit(drawing):
     return Call(given, keywords, fits, lambda second: without_reply(second.emit(name.means, [(n.means, v.means) for n, v in pairs], place)))
 
 
+def draw_event(drawing):
+    """A call of an event, which has to have its fields and no others. Its values are looked at in order of declaration."""
+    event = drawing.choice(list(EVENTS))
+    by_keyword, in_mapping = draw_pairs(drawing, event)
+    values = {name.means: value for name, value in [*in_mapping.values(), *by_keyword.values()]}
+    place, fields = drawing.place(), [field.encode() for field in EVENTS[event]]
+    keywords = {key: argument.value for key, argument in [*place.items(), *((key, value) for key, (_, value) in by_keyword.items())]}
+    fits = set(values) == set(fields) and fit(*place.values(), *values.values())
+    mapping = {key: value.value for key, (_, value) in in_mapping.items()}
+    pairs = [(field, values[field].means) for field in fields] if fits else []
+    return Call([event, mapping], keywords, fits, lambda second: without_reply(second.emit(event.encode(), pairs, place)))
+
+
 def draw_values(drawing):
     def emit(second):
         event = names[number.means - 1] if 1 <= number.means <= len(names) else "none"
@@ -206,6 +220,7 @@ DRAWS = {  # how often each is drawn, and the draw
     "line": (10, drawn_strings("line", LINES)),
     "emit": (30, draw_emit),
     "emit_values": (25, draw_values),
+    "event": (15, draw_event),
     "number_of": (3, draw_number_of),
     "write": (10, drawn_strings("write", WRITTEN, WORDS, gives=without_reply)),
     "append": (10, drawn_strings("append", WRITTEN, WORDS, gives=without_reply)),
@@ -231,11 +246,15 @@ def elsewhere(make):
     return come[0]
 
 
+def as_bytes(text):
+    return text.encode(errors="surrogateescape")
+
+
 def outcome(make):
     try:
         return ("done", make())
     except Refused as refused:
-        return ("refused", refused.status, NO_OFFSET if refused.offset is None else refused.offset, refused.reply)
+        return ("refused", refused.status, NO_OFFSET if refused.offset is None else refused.offset, as_bytes(refused.field or ""))
     except (TypeError, ValueError):
         return (RAISED,)
 
@@ -249,9 +268,10 @@ class Run:
     def renew(self):
         self.tracer = Tracer(cpus=2, pages=2, page_bytes=128)
         self.second = Library(environ["TRACECTL_LIBRARY"], 2, 2, 128, 0)
+        self.events = {declared.split()[0]: self.tracer.event(declared) for declared in DECLARED}
         for declared in DECLARED:
-            self.tracer.append("synthetic_events", declared)
             self.second.ask("append", b"synthetic_events", declared.encode())
+            self.second.ask("read", b"events/synthetic/%s/format" % declared.split()[0].encode())
         self.tracer.write("events/enable", "1")
         self.second.ask("write", b"events/enable", b"1")
 
@@ -270,9 +290,14 @@ class Run:
 
     def differs(self, name, call):
         """Makes a call of both, and says what differs."""
-        method = opened if name == "open" else getattr(self.tracer, name)
+        others = {"open": opened, "event": lambda event, /, *given, **keywords: self.events[event](*given, **keywords)}
+        method = others.get(name) or getattr(self.tracer, name)
         make = partial(method, *call.given, **call.keywords)
         got = elsewhere(make) if self.drawing.chance(0.002) else outcome(make)
+        if got[0] == "done" and isinstance(got[1], (str, bytes)):
+            if isinstance(got[1], bytes) != (name != "files" and isinstance(call.given[0], bytes)):
+                return "came to a %s" % type(got[1]).__name__
+            got = "done", got[1] if isinstance(got[1], bytes) else as_bytes(got[1])
         want = call.second(self.second) if call.fits else (RAISED,)
         self.counts[want[0]] += 1
         if got != want:

@@ -6,7 +6,7 @@ from pathlib import Path
 
 sys.dont_write_bytecode = True
 TOP = Path(__file__).resolve().parent.parent.parent
-sys.path[:0] = [str(TOP / "tests"), str(TOP / "examples" / "python")]
+sys.path[:0] = [str(TOP / "tests"), str(TOP / "python")]
 
 from walking import library
 from walking.commands import Walk

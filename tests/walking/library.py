@@ -27,11 +27,10 @@ class Caller:
         """The number of an event, and its fields in order of declaration; nothing, if it is not there."""
         if event not in self.events:
             try:
-                lines = self.tracer.read("events/synthetic/%s/format" % event).decode().split("\n")
+                found = self.tracer.event(event)
             except Refused:
                 return None, []
-            fields = [line.split(";")[0].split()[-1].split("[")[0] for line in lines if line.startswith("\tfield:")]
-            self.events[event] = next(int(line[4:]) for line in lines if line.startswith("ID: ")), fields[1:]  # after that of the process
+            self.events[event] = found.number, [field.name for field in found.fields]
         return self.events[event]
 
     def emit(self, emission):
@@ -39,7 +38,7 @@ class Caller:
         values, place = dict(emission.pairs), {"cpu": emission.cpu, "process": emission.process}
         number, fields = self.declared(emission.event)
         if len(values) < len(emission.pairs):
-            return self.tracer.line(emission.line())
+            return self.tracer.line(emission.line().encode())
         if sorted(values) == sorted(fields) and self.draw.random() < 0.5:
             self.tracer.emit_values(number, *[value_of(values[name]) for name in fields], **place)
         else:
@@ -49,23 +48,23 @@ class Caller:
     def done(self, command):
         """What a command replies, done as a line or by the call of its kind."""
         if self.draw.random() < 0.3:
-            return self.tracer.line(command.line())
+            return self.tracer.line(command.line().encode())
         if isinstance(command, Emission):
             return self.emit(command)
         if isinstance(command, Writing):
             (self.tracer.append if command.appends else self.tracer.write)(command.path, command.text)
             return b""
         if isinstance(command, Reading):
-            return self.tracer.read(command.path)
+            return self.tracer.read(command.path.encode())
         if isinstance(command, Taking):
-            return self.tracer.take(command.path, command.limit)
-        return self.tracer.line(command.line())
+            return self.tracer.take(command.path.encode(), command.limit)
+        return self.tracer.line(command.line().encode())
 
 
 def shown(number, refused):
     """What a script prints of a refusal."""
     at = " at %d" % refused.offset if refused.offset is not None else ""
-    field = " " + refused.reply.decode() if NAMES[refused.status] == "BadRow" else ""
+    field = " " + (refused.field or "") if NAMES[refused.status] == "BadRow" else ""
     return ("! %d: N%d %s%s%s\n" % (number, refused.status, NAMES[refused.status], at, field)).encode()
 
 

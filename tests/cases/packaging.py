@@ -1,0 +1,181 @@
+"""The Python package, as pip installs it."""
+import atexit
+import importlib.util
+import os
+import re
+import shutil
+import subprocess
+import sys
+import tempfile
+import textwrap
+from pathlib import Path
+
+from cases.running import TOP, Case, Outcome, differences, quoted, run, text_differences
+
+PACKAGE = TOP / "python"
+VERSION = re.compile(r'^const VERSION: &str = "(.*)";$', re.MULTILINE)
+COUNTED = re.compile(rb"^Ran (\d+) tests? in ", re.MULTILINE)
+
+
+def unusable():
+    """What there is not to install the package and to make the library, if anything."""
+    compiler = os.environ.get("CC", "cc")
+    for command in (compiler, "ar", "rt"):
+        if not shutil.which(command):
+            return "there is no %s" % command
+    missing = [name for name in ("venv", "ensurepip") if not importlib.util.find_spec(name)]
+    return "Python has no %s" % missing[0] if missing else None
+
+
+class Place:
+    """A folder with a virtual environment and the shared library."""
+
+    def __init__(self):
+        self.room = Path(tempfile.mkdtemp(prefix="python-package-"))
+        atexit.register(shutil.rmtree, str(self.room))
+        subprocess.run([str(TOP / "examples" / "c" / "build"), str(self.room)], check=True, stderr=subprocess.DEVNULL)
+        subprocess.run([sys.executable, "-m", "venv", str(self.room / "venv")], check=True)
+        self.python = self.room / "venv" / "bin" / "python"
+        self.offline = ["unshare", "-n" if os.geteuid() == 0 else "-Urn"]
+        if not shutil.which("unshare") or run([*self.offline, "true"]).status:
+            print("skipped: pip with no network at all, as there are no namespaces here", flush=True)
+            self.offline = []
+
+    def do(self, *words, script=None, settings=None):
+        """What Python in the virtual environment does, elsewhere than in the repository, with the library, or with other settings than that."""
+        unset = [word for name in ("PYTHONPATH", "PYTHONHOME", "TRACECTL_LIBRARY", "PKG_CONFIG_PATH") for word in ("-u", name)]
+        settings = ["TRACECTL_LIBRARY=%s" % (self.room / "libtracectl.so")] if settings is None else settings
+        return run(["env", "-C", self.room, *unset, "PYTHONDONTWRITEBYTECODE=1", *settings, self.python, *words], script=script)
+
+    def pip(self, *words):
+        """What pip does without a network, and without settings of the user's."""
+        settings = ["env", "-C", self.room, "-u", "PYTHONPATH", "PIP_CONFIG_FILE=/dev/null", "PYTHONDONTWRITEBYTECODE=1", "PIP_DISABLE_PIP_VERSION_CHECK=1"]
+        return run([*self.offline, *settings, self.python, "-m", "pip", *words])
+
+    def pip_installs(self, *words):
+        got = self.pip("install", "--no-index", "--quiet", *words)
+        return differences(got._replace(stdout=b"", stderr=b""), Outcome(0, b"", b"")) + ([] if not got.status else [quoted(got.stderr)])
+
+    def folder(self):
+        """Where what is imported as tracectl lies, and which version it says that it is."""
+        told = self.do("-c", "import os, tracectl; print(os.path.dirname(tracectl.__file__)); print(tracectl.__version__)").stdout.decode().split("\n")
+        return Path(told[0]), told[1:2]
+
+
+def tree_of(folder):
+    return {str(path.relative_to(folder)): path.read_bytes() for path in folder.rglob("*") if path.is_file() and path.suffix != ".pyc"}
+
+
+def installs(place):
+    """By pip, which changes nothing in the repository. What is installed is what is there."""
+    before = tree_of(PACKAGE)
+    found = place.pip_installs(PACKAGE)
+    if found:
+        return found
+    found += [] if tree_of(PACKAGE) == before else ["python/ has %s" % sorted(set(tree_of(PACKAGE)) ^ set(before))]
+    folder, _ = place.folder()
+    found += [] if place.room in folder.parents else ["it is imported from %s" % folder]
+    got, want = tree_of(folder), tree_of(PACKAGE / "tracectl")
+    found += [] if got == want else ["%s is not as in the repository" % name for name in sorted(set(got) ^ set(want) or want)]
+    return found + differences(place.pip("check")._replace(stdout=b""), Outcome(0, b"", b""))
+
+
+def tells_version(place):
+    """The programs' version is the package's, for pip and for who imports it."""
+    want = VERSION.search((TOP / "crates" / "program_arguments" / "src" / "program.rt").read_text())[1]
+    shown = place.pip("show", "tracectl").stdout.decode()
+    found = [] if "\nVersion: %s\n" % want in shown else ["pip says %s, expected %s" % (quoted(shown), want)]
+    return found + ([] if place.folder()[1] == [want] else ["it says %s, expected %s" % (place.folder()[1], want)])
+
+
+def own_tests(place, file):
+    """One of its files of tests."""
+    got = place.do("-m", "unittest", "discover", "-s", PACKAGE / "tests", "-p", file.name)
+    count = COUNTED.search(got.stderr)
+    if got.status or not count or count[1] == b"0":
+        return ["exit status %d: %s" % (got.status, line) for line in got.stderr.decode(errors="backslashreplace").splitlines() or ["nothing was told"]]
+    return []
+
+
+def does_readme(place):
+    """The program of README.md prints what follows it there."""
+    program, printed = re.search(r"\n\n((?:    .*\n|\n)+)\nprints\n\n((?:    .*\n)+)", (PACKAGE / "README.md").read_text()).groups()
+    got = place.do("-", script=textwrap.dedent(program).encode())
+    return differences(got, Outcome(0, textwrap.dedent(printed).encode(), b""))
+
+
+def finds_library(place):
+    """By pkg-config, if there is one, and beside its modules."""
+    opens = "import tracectl, tracectl.library as library; tracectl.Tracer().close(); print(library.find_library())"
+    found = []
+    if shutil.which("pkg-config"):
+        (place.room / "tracectl.pc").write_text("libdir=%s\nName: tracectl\nDescription: tracectl\nVersion: 0\n" % place.room)
+        got = place.do("-c", opens, settings=["PKG_CONFIG_PATH=%s" % place.room])
+        found += differences(got, Outcome(0, b"%s/libtracectl.so\n" % str(place.room).encode(), b""))
+    else:
+        print("skipped: the library by pkg-config, which is not there", flush=True)
+    beside = place.folder()[0] / "libtracectl.so.0"
+    shutil.copy(str(place.room / "libtracectl.so"), str(beside))
+    found += differences(place.do("-c", opens, settings=[]), Outcome(0, b"%s\n" % str(beside).encode(), b""))
+    beside.unlink()
+    return found
+
+
+def draws(place):
+    """examples/python/histogram.py into a file, if there is matplotlib. It is what runs the tests that may have it, not the virtual environment."""
+    if not importlib.util.find_spec("matplotlib"):
+        print("skipped: examples/python/histogram.py into a file, as there is no matplotlib", flush=True)
+        return []
+    settings = ["env", "PYTHONPATH=%s" % PACKAGE, "PYTHONDONTWRITEBYTECODE=1", "TRACECTL_LIBRARY=%s" % (place.room / "libtracectl.so")]
+    file = place.room / "drawn.png"
+    found = differences(run([*settings, sys.executable, TOP / "examples" / "python" / "histogram.py", file]), Outcome(0, b"", b""))
+    return found + ([] if file.exists() and file.read_bytes().startswith(b"\x89PNG") else ["nothing is drawn"])
+
+
+def installs_other_ways(place):
+    """From an archive of its sources, and as what is edited in place."""
+    backend = "import sys; sys.path.insert(0, sys.argv[1]); import backend; print(backend.build_sdist(sys.argv[2]))"
+    archive = place.do("-c", backend, PACKAGE, place.room)
+    found = differences(archive._replace(stdout=b""), Outcome(0, b"", b""))
+    found += place.pip_installs("--target", place.room / "target", place.room / archive.stdout.decode().strip())
+    found += [] if tree_of(place.room / "target" / "tracectl") == tree_of(PACKAGE / "tracectl") else ["from an archive it is another"]
+    found += place.pip_installs("--force-reinstall", "--editable", PACKAGE)
+    folder, _ = place.folder()
+    found += [] if folder == PACKAGE / "tracectl" else ["what is edited in place is imported from %s" % folder]
+    found += differences(place.pip("uninstall", "--quiet", "--yes", "tracectl")._replace(stderr=b""), Outcome(0, b"", b""))
+    return found + ([] if place.do("-c", "import tracectl").status else ["it is there after it was removed"])
+
+
+def has_types(place):
+    """What mypy says of the package and the examples, if it is there."""
+    if not importlib.util.find_spec("mypy"):
+        print("skipped: types of the Python package, as there is no mypy", flush=True)
+        return []
+    settings = ["env", "MYPYPATH=%s" % PACKAGE]
+    words = [sys.executable, "-m", "mypy", "--strict", "--cache-dir", place.room / "mypy", "--explicit-package-bases", PACKAGE / "tracectl"]
+    got = run(settings + words)
+    return [] if not got.status else got.stdout.decode().splitlines()
+
+
+def packaging_cases():
+    reason = unusable()
+    if reason:
+        print("skipped: the Python package, as %s" % reason, flush=True)
+        return []
+    place = Place()
+
+    def case(name, check, *given):
+        return Case(name, lambda _: check(place, *given))
+
+    tests = [case("python/tests/" + file.name, own_tests, file) for file in sorted((PACKAGE / "tests").glob("test_*.py"))]
+    # In this order: the last but one removes it.
+    return [
+        case("pip install ./python", installs),
+        case("the package's version", tells_version),
+        *tests,
+        case("the library by pkg-config, and beside the package", finds_library),
+        case("python/README.md", does_readme),
+        case("examples/python/histogram.py FILE", draws),
+        case("the package from an archive, and edited in place", installs_other_ways),
+        case("the package's types", has_types),
+    ]
