@@ -320,15 +320,17 @@ def says_which_is_proved(place):
     """A program that is proved and current is installed as such, another one as unproved, and each says so."""
     out, script = place.repository / "crates/tracectl/out", place.elsewhere / "first-session"
     program = shutil.copy(str(place.prefix / "libexec/tracectl/programs/tracectl"), str(place.room / "program"))
+    kept = out.rename(place.room / "kept")
     found = []
     for name, kind, said in (("tracectl", "proved", b""), ("tracectl-unproved", "unproved", (UNPROVED % "tracectl").encode())):
-        shutil.rmtree(str(out))
         out.mkdir()
         shutil.copy(program, str(out / name))
         found += differences(place.install("--no-library", "--prefix", place.prefix)._replace(stdout=b""), Outcome(0, b"", b""))
         told = place.do("tracectl", "--version").stdout.decode()
         found += [] if re.search(r", %s(,|$)" % kind, told.strip()) else ["a program that is %s: %s" % (kind, told)]
         found += differences(place.do("tracectl", *words_of(script)[:-1], script), wanted(script)._replace(stderr=said))
+        shutil.rmtree(str(out))
+    kept.rename(out)
     return found
 
 
