@@ -1,12 +1,11 @@
 //! A tracer used as a library: a book, two writes, five emissions and two reads, whose replies are printed, and the history of these; and threads that
-//! share a book.
+//! share a book. tests/library_example runs it.
 #![tactic(auto)]
 
 ghost use Rattle.std.specs.Prelude.{◌≡◌, IfOk, vec_len};
 
 use parallel_history::history_of;
 use std::alloc::{AllocError, Global};
-use std::process::ExitCode;
 use std::slice;
 use std::sync::Wait;
 use std::thread::Threads;
@@ -83,7 +82,8 @@ fn trace(rt: &(impl Print + AllocGlobal), tracer: &mut Tracer) -> Result<(), Ref
     Ok(())
 }
 
-fn run(rt: &(impl Print + AllocGlobal)) -> Result<(), Refusal> {
+/// Prints a record that is consumed, the statistics after it, and the emissions of the history.
+pub fn run(rt: &(impl Print + AllocGlobal)) -> Result<(), Refusal> {
     let mut tracer = Tracer::new(rt.alloc(), CONFIG)?;
     trace(rt, &mut tracer)?;
     show_emissions(rt, tracer.book());
@@ -110,27 +110,10 @@ fn made_by(done: &[Part]) -> usize {
 }
 
 /// How many of three threads that make one instance side by side are told that it is done, and how many entries the history has then.
-fn race<R: Threads + Wait + Sync>(rt: &R, alloc: Global) -> Result<(usize, usize), BlockFault> {
+pub fn race<R: Threads + Wait + Sync>(rt: &R, alloc: Global) -> Result<(usize, usize), BlockFault> {
     let parts = makers(alloc).map_err(|_| BlockFault::Memory)?;
     history_of(rt, alloc, CONFIG, parts, &OpenGate).map(|(book, done)| (
         made_by(&done),
         book.entries().len(),
     ))
-}
-
-fn main(rt: HostRuntime) -> ExitCode {
-    if let Err(refusal) = run(&rt) {
-        let _ = eprintln!(rt; "{refusal}");
-        return ExitCode::FAILURE;
-    }
-    match race(&rt, rt.alloc()) {
-        Ok((made, entries)) => {
-            let _ = println!(rt; "made by {made} of 3 threads, entries: {entries}");
-            ExitCode::SUCCESS
-        }
-        Err(fault) => {
-            let _ = eprintln!(rt; "{fault}");
-            ExitCode::FAILURE
-        }
-    }
 }
