@@ -43,7 +43,7 @@ impl Mount {
                 Answer::Text(text) => Ok(text),
                 Answer::Done => Ok(Text::new(self.alloc)),
             },
-            Err(refusal) => match refusal {
+            Err(refusal) => match &refusal {
                 Refusal::Memory => Err(AllocError),
                 _ => Ok(Text::new(self.alloc)),
             },

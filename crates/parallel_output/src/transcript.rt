@@ -19,7 +19,7 @@ fn replied(reply: Result<Reply, Refusal>) -> Result<Outcome, AllocError>
 {
     match reply {
         Ok(reply) => Ok(Outcome::Replied(reply)),
-        Err(Refusal::Worn) => Err(AllocError),
+        Err(refusal) if matches!(refusal, Refusal::Worn) => Err(AllocError),
         Err(refusal) => Ok(Outcome::Refused(refusal)),
     }
 }

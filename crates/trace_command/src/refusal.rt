@@ -38,7 +38,7 @@ pub enum Limit {
 /// Why a command was refused. A refused command changes nothing and is not in the history.
 /// `at` is a place in the text as it was written: how many bytes stand before it. The cause beside it, which no reply shows, is what its parser found
 /// wrong there.
-#[derive(Clone, Debug, PartialEq, Eq, Drop)]
+#[derive(Clone, Debug, PartialEq, Eq)]
 pub enum Refusal {
     /// No file of the tracing tree has this path.
     NoSuchFile,
@@ -92,6 +92,39 @@ pub enum Refusal {
     Memory,
     /// All tickets are drawn.
     Worn,
+}
+
+impl Drop for Refusal {
+    // Not derived, so that no crate above proves the drops of its parts.
+    fn drop(self) {
+        match self {
+            Refusal::NoSuchFile
+            | Refusal::NotReadable
+            | Refusal::NotWritable
+            | Refusal::BadValue
+            | Refusal::BadTrigger { cause: _ }
+            | Refusal::NoSuchEvent
+            | Refusal::EventExists
+            | Refusal::BadDefinition { at: _, cause: _ }
+            | Refusal::TooBig
+            | Refusal::FilterSyntax { at: _, cause: _ }
+            | Refusal::NoSuchField { at: _ }
+            | Refusal::WrongOperator { at: _, cause: _ }
+            | Refusal::HistSyntax { at: _, cause: _ }
+            | Refusal::BadSize
+            | Refusal::TriggerExists
+            | Refusal::NoSuchTrigger
+            | Refusal::TooMany { limit: _ }
+            | Refusal::InstanceExists
+            | Refusal::NoSuchInstance
+            | Refusal::Busy
+            | Refusal::NoSuchCpu
+            | Refusal::BadRow { row: _ }
+            | Refusal::HistoryFull
+            | Refusal::Memory
+            | Refusal::Worn => {}
+        }
+    }
 }
 
 impl From<AllocError> for Refusal {

@@ -17,13 +17,23 @@ use std::alloc::{AllocError, Global};
 
 /// Room for the words of a line that don't lie in it as they are: those in which quotes are, and those that `echo` joins. Who reads lines keeps it from
 /// line to line; what a long line took is given back at the next.
-#[derive(Drop)]
 pub struct LineRoom {
     /// The tokens of a line in which quotes are.
     pub(crate) list: TokenList,
     /// A word in which quotes are, as it is read, and then the words that are joined.
     pub(crate) text: Vec<u8>,
     alloc: Global,
+}
+
+impl Drop for LineRoom {
+    // Not derived, so that no crate above proves the drops of its parts.
+    fn drop(self) {
+        let LineRoom {
+            list: _,
+            text: _,
+            alloc: _,
+        } = self;
+    }
 }
 
 impl LineRoom {

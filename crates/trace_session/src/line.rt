@@ -45,7 +45,7 @@ pub(crate) fn outcome_of(answer: Result<Reply, Refusal>) -> Result<Option<Outcom
 {
     match answer {
         Ok(reply) => Ok(Some(Outcome::Replied(reply))),
-        Err(Refusal::Worn | Refusal::Memory) => Err(Stop::Memory),
+        Err(refusal) if matches!(refusal, Refusal::Worn | Refusal::Memory) => Err(Stop::Memory),
         Err(refusal) => Ok(Some(Outcome::Refused(refusal))),
     }
 }

@@ -182,11 +182,9 @@ fn new_book<B: SharedBook>(alloc: Global, config: Config) -> Result<(TicketLock<
     ensures device { IsErrOf result Stop.Device → ⊥ }
     ensures stopped { IsErrOf result Stop.Stopped → ⊥ }
 {
-    let book = match B::start(alloc, config) {
-        Ok(book) => book,
-        Err(Refusal::Memory) => return Err(Stop::Memory),
-        // The configuration is in range.
-        Err(_) => unreachable!(),
+    // The configuration is in range, so only memory can be refused.
+    let Ok(book) = B::start(alloc, config) else {
+        return Err(Stop::Memory);
     };
     let made = TicketLock::starting_at(alloc, 0, book)?;
     Ok(made)
