@@ -206,6 +206,7 @@ uint32_t tracectl_try_wanted(struct tracectl_console *console, struct tracectl_m
 int32_t tracectl_try_waiting(struct tracectl_console *console, const char *path, size_t path_length);
 size_t tracectl_try_reply(struct tracectl_console *console, size_t from, char *room, size_t room_length);
 size_t tracectl_try_offset(struct tracectl_console *console);
+size_t tracectl_try_explain(struct tracectl_console *console, size_t from, char *room, size_t room_length);
 
 /* How many forks led from the process that first opened a tracer to this one. */
 extern volatile uint32_t tracectl_forks;
@@ -379,6 +380,21 @@ TRACECTL_FUNCTION size_t tracectl_offset(tracectl_thread *thread) {
     offset = tracectl_try_offset(&thread->seat->console);
     tracectl_end(thread);
     return offset;
+}
+
+/* Copies a sentence that tells what is wrong with the thread's last command, as `tracectl --explain` does, from this byte on and as far as there is room, and
+ * returns how many bytes: "an event of this name is declared already" and, with the field's name (TRACECTL_BAD_ROW), "prev: the field is missing". 0 if the
+ * command was done, or memory is refused, which it takes for a moment. A field's name stands in it as it was given; nothing else is a newline, and no byte 0
+ * follows:
+ *
+ *     char why[120];
+ *     if (tracectl_line(&thread, line, strlen(line))) printf("%.*s\n", (int)tracectl_explain(&thread, 0, why, sizeof why), why); */
+TRACECTL_FUNCTION size_t tracectl_explain(tracectl_thread *thread, size_t from, char *room, size_t room_length) {
+    size_t length;
+    if (tracectl_begin(thread)) return 0;
+    length = tracectl_try_explain(&thread->seat->console, from, room, room_length);
+    tracectl_end(thread);
+    return length < room_length ? length : room_length;
 }
 
 /* How many commands were done by all threads. 0 if the call is refused. */

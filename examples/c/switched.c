@@ -11,10 +11,11 @@ static tracectl tracer = TRACECTL_CLOSED;
 static tracectl_thread thread = TRACECTL_LEFT;
 static int written; /* paths */
 
-/* Does a line, and tells it if it was refused. */
+/* Does a line, and tells why if it was refused. */
 static int line(const char *text) {
+    char why[120];
     uint32_t status = tracectl_line(&thread, text, strlen(text));
-    if (status) fprintf(stderr, "%s: refused: %s\n", text, tracectl_status_name(status));
+    if (status) fprintf(stderr, "%s: %s: %.*s\n", text, tracectl_status_name(status), (int)tracectl_explain(&thread, 0, why, sizeof why), why);
     return status == TRACECTL_DONE;
 }
 

@@ -1,5 +1,7 @@
 """histogram.py [FILE]: counts requests by how long they took, and shows the histogram as lines of text, or, where matplotlib is installed and a file is
 named, draws it into that (FILE.png, FILE.svg)."""
+from __future__ import annotations
+
 import sys
 
 from tracectl import Histogram, Tracer
@@ -7,7 +9,7 @@ from tracectl import Histogram, Tracer
 WIDTH = 40  # of the longest bar
 
 
-def durations() -> list:
+def durations() -> list[int]:
     """Made up, so that each run shows the same: most requests are fast, and a few of the slow path are not."""
     return [100 + n * n * 37 % 800 + (20_000 if n % 50 == 7 else 0) for n in range(1_000)]
 

@@ -13,7 +13,7 @@ with Tracer(pages=2, page_bytes=64) as tracer:
     try:
         tick.filter("n > and")
     except Refused as refused:
-        print("refused: %s at %d" % (refused.name, refused.offset))
+        print("refused: %s at %s" % (refused.name, refused.offset))
     statistics = tracer.statistics(cpu=0)
     print("%d kept, %d overwritten" % (statistics.entries, statistics.overrun))
     print(tracer.read("per_cpu/cpu0/stats"), end="")

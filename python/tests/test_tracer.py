@@ -44,16 +44,42 @@ class Strings(unittest.TestCase):
             self.tracer.write("events/synthetic/tick/filter", "n > and")
         refused = raised.exception
         self.assertEqual((refused.status, refused.name, refused.offset, refused.field), (9, "FilterSyntax", 4, None))
-        self.assertEqual(str(refused), "FilterSyntax at 4 (status 9)")
+        self.assertEqual(refused.explanation, "expected a number")
+        self.assertEqual(str(refused), "FilterSyntax at 4: expected a number (status 9)")
         with self.assertRaises(Refused) as raised:
             self.tracer.emit("tick", n=-1, who="")
         self.assertEqual((raised.exception.name, raised.exception.offset, raised.exception.field), ("BadRow", None, "n"))
-        self.assertEqual(str(raised.exception), "BadRow n (status 21)")
+        self.assertEqual(raised.exception.explanation, "n: its value is out of the range of its type")
+        self.assertEqual(str(raised.exception), "BadRow: n: its value is out of the range of its type (status 21)")
+
+    def test_an_explanation_is_of_the_call_that_was_refused(self):
+        def explained(call, *given, **named):
+            with self.assertRaises(Refused) as raised:
+                call(*given, **named)
+            return raised.exception.explanation
+
+        line = self.tracer.line
+        self.assertEqual(explained(line, "emit 0 1 tock n=1"), "no event of this name is declared")
+        self.assertEqual(explained(line, "emit 0 1"), "expected `emit CPU PID EVENT FIELD=VALUE ..`")
+        self.assertEqual(explained(line, "  emti 0 1"), "unknown command")
+        self.assertEqual(explained(line, "parallel"), "only a script has parallel parts")
+        self.assertEqual(explained(self.tracer.emit_values, 1, 2, "a" * 9), "who: its value is too long")
+        self.assertEqual(explained(self.tracer.emit_values, 2, 2), "no event of this name is declared")
+        self.assertEqual(explained(self.tracer.read, "nothing"), "no file has this path")
+        self.assertEqual(explained(self.tracer.take, "trace", 1), "only a pipe is read by `take`")
+        long = "f" * 300
+        self.assertEqual(explained(self.tracer.emit, "tick", {long: 1}), long + ": the event has no field of this name")
+
+    def test_a_refusal_of_the_package_alone_has_no_explanation(self):
+        with self.assertRaises(Refused) as raised:
+            Tracer(cpus=0)
+        self.assertEqual((raised.exception.explanation, str(raised.exception)), (None, "BadValue (status 4)"))
 
     def test_a_refusal_can_be_pickled(self):
-        refused = pickle.loads(pickle.dumps(Refused(21, None, "n")))
-        self.assertEqual(repr(refused), "Refused(21, None, 'n')")
+        refused = pickle.loads(pickle.dumps(Refused(21, None, "n", "n: wrong")))
+        self.assertEqual(repr(refused), "Refused(21, None, 'n', 'n: wrong')")
         self.assertEqual((refused.status, refused.name, refused.offset, refused.field), (21, "BadRow", None, "n"))
+        self.assertEqual(refused.explanation, "n: wrong")
 
     def test_closing(self):
         self.tracer.close()

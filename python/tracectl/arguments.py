@@ -10,6 +10,7 @@ from typing import AnyStr, Mapping, Union
 Text = Union[str, bytes]
 FieldValue = Union[Text, int]
 Fields = Union[Mapping[str, FieldValue], Mapping[bytes, FieldValue]]  # values by the names of fields; it may have both kinds of names
+NO_FIELDS: Mapping[str, FieldValue] = {}
 
 U32, S32, U64, NUMBER = (0, 2**32 - 1), (-(2**31), 2**31 - 1), (0, 2**64 - 1), (-(2**63), 2**64 - 1)  # the least number and the greatest
 

@@ -5,13 +5,12 @@ import re
 from collections.abc import Mapping
 from typing import TYPE_CHECKING, NamedTuple
 
-from .arguments import Fields, FieldValue, Text, decoded, string
+from .arguments import NO_FIELDS, Fields, FieldValue, Text, decoded, string
 
 if TYPE_CHECKING:
     from .tracer import Tracer
 
 FIELD = re.compile(r"^\tfield:(.+) (\w+)(\[\d+\])?;\toffset:\d+;\tsize:(\d+);\tsigned:([01]);$", re.MULTILINE)
-NO_FIELDS: Fields = {}
 ID = re.compile(r"^ID: (\d+)$", re.MULTILINE)
 
 

@@ -10,15 +10,23 @@ NAMES = {status: name for first, names in ((1, REFUSALS), (101, FAULTS), (200, H
 
 
 class Refused(Exception):
-    """A call was refused: its `status`, the `name` of that, the `offset` in bytes of what is wrong, if there is one, and of BadRow the `field`'s name."""
+    """A call was refused: its `status`, the `name` of that, the `offset` in bytes of what is wrong, if there is one, of BadRow the `field`'s name, and
+    an `explanation`, what is wrong in a sentence. A call that the tracer was not asked has none, nor has one where memory for it is refused."""
 
-    def __init__(self, status: int, offset: int | None = None, field: str | None = None) -> None:
-        super().__init__(status, offset, field)
+    def __init__(self, status: int, offset: int | None = None, field: str | None = None, explanation: str | None = None) -> None:
+        super().__init__(status, offset, field, explanation)
         self.status, self.name = status, NAMES.get(status, "Unknown")
         self.offset = offset
         self.field = field
+        self.explanation = explanation
 
     def __str__(self) -> str:
         at = "" if self.offset is None else " at %d" % self.offset
-        field = " " + self.field.encode(errors="surrogateescape").decode(errors="backslashreplace") if self.field else ""
-        return "%s%s%s (status %d)" % (self.name, at, field, self.status)
+        if self.explanation:
+            return "%s%s: %s (status %d)" % (self.name, at, printable(self.explanation), self.status)
+        return "%s%s%s (status %d)" % (self.name, at, " " + printable(self.field) if self.field else "", self.status)
+
+
+def printable(text: str) -> str:
+    """A string in which bytes that are no UTF-8 are written as such."""
+    return text.encode(errors="surrogateescape").decode(errors="backslashreplace")

@@ -7,13 +7,16 @@ from ctypes import CDLL, byref, c_int32, c_size_t, c_uint32, c_uint64, c_void_p,
 from threading import get_ident, local
 from typing import Any, AnyStr
 
-from .arguments import S32, U32, U64, Fields, FieldValue, Text, decoded, like, number, pair, string
+from .arguments import NO_FIELDS, S32, U32, U64, Fields, FieldValue, Text, decoded, like, number, pair, string
 from .event import Event, as_declared, parse_format
 from .histogram import Histogram, parse_histograms
 from .library import find_library
 from .refused import NAMES, Refused
 from .statistics import Statistics, parse_statistics
 from .structures import NO_OFFSET, Settings, Value
+
+
+ROOM = 256  # for a piece of an explanation; most are shorter
 
 
 class Seat:
@@ -93,7 +96,8 @@ class Tracer:
         status = self._call(name, *given)
         if status:
             offset = self._call("offset", result=c_size_t)
-            raise Refused(status, None if offset == NO_OFFSET else offset, decoded(self._reply()) or None)
+            field, explanation = decoded(self._reply()) or None, decoded(self._explanation()) or None
+            raise Refused(status, None if offset == NO_OFFSET else offset, field, explanation)
 
     def _ask(self, name: str, *given: Any) -> bytes:
         """Makes a call, and gives its reply."""
@@ -108,6 +112,15 @@ class Tracer:
         room = create_string_buffer(length)
         count = self._call("reply", c_size_t(0), room, c_size_t(length), result=c_size_t)
         return room.raw[:count]
+
+    def _explanation(self) -> bytes:
+        """What is wrong with this thread's last call."""
+        text, room = b"", create_string_buffer(ROOM)
+        while True:
+            count = self._call("explain", c_size_t(len(text)), room, c_size_t(ROOM), result=c_size_t)
+            text += room.raw[:count]
+            if count < ROOM:
+                return text
 
     def leave(self) -> None:
         """This thread leaves. Its next call joins again."""
@@ -143,7 +156,7 @@ class Tracer:
             if refused.name != "EventExists" or as_declared(declaration) not in self.read(b"synthetic_events").split(b"\n"):
                 raise
 
-    def emit(self, event: Text, fields: Fields = {}, /, *, cpu: int = 0, process: int = 0, **more: FieldValue) -> None:
+    def emit(self, event: Text, fields: Fields = NO_FIELDS, /, *, cpu: int = 0, process: int = 0, **more: FieldValue) -> None:
         """An event happens, on a CPU and in a process. A field is given by keyword, or in the mapping, as one named `cpu` or `process` is."""
         if not isinstance(fields, Mapping):
             raise TypeError("the fields are a mapping, not %s" % type(fields).__name__)

@@ -25,7 +25,9 @@ use Rattle.library_tracer.specs.ConsolesSeen.{ConsoleSeen, Known}
 use Rattle.library_tracer.specs.Consoles.{outcome_of, shows_waiting, HasSeen, IsAnswered, IsBusy, IsWornOut, Looks, TellsWaiting}
 use Rattle.library_tracer.specs.declared.console.Tried.{Tried}
 use Rattle.library_tracer.specs.declared.console.Tried.TheVariants.{Busy, Told}
-use Rattle.library_tracer.specs.Inner.{known_by, known_in, seen, IsSound}
+use Rattle.library_tracer.specs.Inner.{known_by, known_in, seen, words_in, IsSound}
+use Rattle.library_tracer.specs.Sentences.{answer_words}
+use Rattle.library_tracer.specs.declared.last.Last.{Last}
 use Rattle.library_tracer.specs.private.Turns.{IsSeenNow}
 use Rattle.library_tracer.specs.declared.console.Console.TheInside.{Inside}
 use Rattle.library_tracer.specs.declared.queued.Queued.{Queued}
@@ -43,7 +45,8 @@ knowing i known in_line = record {
   config = config_in i;
   has = Some known;
   is_in_line = in_line;
-  last = i.last;
+  last = i.last.outcome;
+  words = words_in i.last;
 }
 
 -- one that is idle is not in line
@@ -128,11 +131,11 @@ pub record HasAnswer (config : Config) (command : List Entry → Command) (answe
   pub made : IsMade was.view now.view (command now.view.seen) answer was.calls now.calls
 
 answered : (i : Inside) (was now : Known) (in_line : Bool) (command : List Entry → Command) (answer : Result Reply Refusal) (before mid after : ConsoleSeen)
-    → before ≡ knowing i was in_line → mid ≡ knowing i now false → after ≡ record mid { last = outcome_of answer }
+    → before ≡ knowing i was in_line → mid ≡ knowing i now false → after ≡ record mid { last = outcome_of answer; words = answer_words (command now.view.seen) answer }
     → was.view.base ≡ numbers_of (config_in i) → HasAnswer (config_in i) command answer was now → (in_line ≡ true → answer ≢ Err Worn)
     → IsAnswered command answer before after
 answered i was now in_line command answer before mid after before_is mid_is after_is base has unworn =
-    let told : ConsoleSeen → ConsoleSeen = λ c. record c { last = outcome_of answer } in
+    let told : ConsoleSeen → ConsoleSeen = λ c. record c { last = outcome_of answer; words = answer_words (command now.view.seen) answer } in
     let left : after ≡ told (knowing i now false) = after_is ∙ ap told mid_is in
     subst (λ b. IsAnswered command answer b after) (sym before_is)
     (subst (λ a. IsAnswered command answer (knowing i was in_line) a) (sym left) (record {
@@ -150,33 +153,44 @@ answered i was now in_line command answer before mid after before_is mid_is afte
       unworn = unworn;
     }))
 
-pub idle_answered : (i : Inside) (caller next : Caller) (last : Outcome) (command : List Entry → Command) (answer : Result Reply Refusal)
-    → i.idle ≡ Some caller → IsSound i → last ≡ outcome_of answer → HasAnswer (config_in i) command answer (known_by caller) (known_by next)
+-- what is kept of a call is its answer
+abbrev pub Answers : Last → Command → Result Reply Refusal → Type 0
+Answers last command answer = (last.outcome ≡ outcome_of answer) × (words_in last ≡ answer_words command answer)
+
+kept : (console : ConsoleSeen) (last : Last) (command : Command) (answer : Result Reply Refusal) → Answers last command answer
+    → record console { last = last.outcome; words = words_in last } ≡ record console { last = outcome_of answer; words = answer_words command answer }
+kept console last command answer is =
+    ap (λ (o : Outcome). record console { last = o; words = words_in last }) is.0
+    ∙ ap (λ (w : List ℕ). record console { last = outcome_of answer; words = w }) is.1
+
+pub idle_answered : (i : Inside) (caller next : Caller) (last : Last) (command : List Entry → Command) (answer : Result Reply Refusal)
+    → i.idle ≡ Some caller → IsSound i → Answers last (command (caller_view next).seen) answer
+    → HasAnswer (config_in i) command answer (known_by caller) (known_by next)
     → IsAnswered command answer (seen i) (seen (record i { idle = Some next; last = last }))
 idle_answered i caller next last command answer e sound is has =
     answered i (known_by caller) (known_by next) false command answer _ (seen (record i { idle = Some next })) _ (idle_is i caller e sound)
-    (still_idle i caller next e sound) (ap (λ (o : Outcome). record (seen (record i { idle = Some next })) { last = o }) is)
+    (still_idle i caller next e sound) (kept (seen (record i { idle = Some next })) last (command (caller_view next).seen) answer is)
     (idle_base i caller e sound) has (λ in_line. absurd (cc))
 
-pub line_answered : (i : Inside) (queued : Queued) (next : Caller) (rest : Option Queued) (last : Outcome) (command : List Entry → Command)
-    (answer : Result Reply Refusal) → i.queued ≡ Some queued → IsSound i → rest ≡ None → last ≡ outcome_of answer
+pub line_answered : (i : Inside) (queued : Queued) (next : Caller) (rest : Option Queued) (last : Last) (command : List Entry → Command)
+    (answer : Result Reply Refusal) → i.queued ≡ Some queued → IsSound i → rest ≡ None → Answers last (command (caller_view next).seen) answer
     → HasAnswer (config_in i) command answer (known_in queued) (known_by next) → answer ≢ Err Worn
     → IsAnswered command answer (seen i) (seen (record i { idle = Some next; queued = rest; last = last }))
 line_answered i queued next rest last command answer e sound none is has unworn =
     answered i (known_in queued) (known_by next) true command answer _ (seen (record i { idle = Some next; queued = None })) _ (line_is i queued e sound) refl
     (ap (λ (q : Option Queued). seen (record i { idle = Some next; queued = q; last = last })) none
-    ∙ ap (λ (o : Outcome). record (seen (record i { idle = Some next; queued = None })) { last = o }) is) (line_base i queued e sound) has (λ in_line. unworn)
+    ∙ kept (seen (record i { idle = Some next; queued = None })) last (command (caller_view next).seen) answer is) (line_base i queued e sound) has (λ in_line. unworn)
 
 -- ---- what was seen in the turn of a call
 
-pub idle_saw : {A : Type 0} (i : Inside) (next : Caller) (last : Outcome) (tells : LiveSeen → A → Type 0) (given : Option (Result Reply Refusal))
+pub idle_saw : {A : Type 0} (i : Inside) (next : Caller) (last : Last) (tells : LiveSeen → A → Type 0) (given : Option (Result Reply Refusal))
     (told : Option A) (status : ℕ) → IfSome told (λ answer. IsSome given × IsToldOf (config_in i) tells (caller_view next).seen answer)
     → IfSome told (IsSeenNow (IsToldOf (seen i).config tells) (seen (record i { idle = Some next; last = last })) (Told status))
 idle_saw i next last tells given None status saw = tt
 idle_saw i next last tells given (Some answer) status saw =
     record { now = known_by next; has = refl; shown_is = saw.1; had_turn = λ is. absurd (cc) }
 
-pub line_saw : {A : Type 0} (i : Inside) (next : Caller) (rest : Option Queued) (last : Outcome) (tells : LiveSeen → A → Type 0) (answer : A) (status : ℕ)
+pub line_saw : {A : Type 0} (i : Inside) (next : Caller) (rest : Option Queued) (last : Last) (tells : LiveSeen → A → Type 0) (answer : A) (status : ℕ)
     → IsToldOf (config_in i) tells (caller_view next).seen answer
     → IsSeenNow (IsToldOf (seen i).config tells) (seen (record i { idle = Some next; queued = rest; last = last })) (Told status) answer
 line_saw i next rest last tells answer status saw =

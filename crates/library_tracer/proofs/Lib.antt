@@ -1,5 +1,6 @@
 pub mod ConsoleLemmas
 pub mod WaitingLimits
+pub mod WordLemmas
 pub mod FieldLemmas
 pub mod ListedLemmas
 pub mod MaskLemmas

@@ -1,5 +1,5 @@
 -- The mask that is told in the turn of a call, or by a look.
-use Rattle.std.proofs.Common.{◌≡◌, ◌⊎◌, inl, inr, List, length, Option, Some, None, Result, Ok, Err, MatchResult, IfSome, IfNone, unwrap_or, refl, sym, ap, subst, ◌∙◌}
+use Rattle.std.proofs.Common.{◌≡◌, ◌⊎◌, inl, inr, ℕ, List, length, Option, Some, None, Result, Ok, Err, MatchResult, IfSome, IfNone, unwrap_or, refl, sym, ap, subst, ◌∙◌}
 use Rattle.trace_command.specs.Commands.{Command}
 use Rattle.trace_command.specs.Requests.{Request}
 use Rattle.trace_command.specs.declared.command.Config.{Config}
@@ -19,7 +19,7 @@ use Rattle.trace_script.specs.declared.line.Line.TheVariants.{Ask}
 use Rattle.trace_script.specs.declared.outcome.Outcome.{Outcome}
 use Rattle.shared_tracer.specs.SharedCallers.{IsToldOf}
 use Rattle.library_tracer.specs.ConsolesSeen.{ConsoleSeen}
-use Rattle.library_tracer.specs.Consoles.{failed, said_by, says, Asks, Comes, LacksMemory, Looks, Said, Tells}
+use Rattle.library_tracer.specs.Consoles.{failed, said_by, says, tells, Asks, Comes, LacksMemory, Looks, Said}
 use Rattle.library_tracer.specs.Masks.{IsMaskOf, Masks}
 use Rattle.library_tracer.specs.declared.console.Tried.{Tried}
 use Rattle.library_tracer.specs.declared.console.Tried.TheVariants.{Busy, Told}
@@ -64,20 +64,21 @@ abbrev ComesMasked : Said → ConsoleSeen → ConsoleSeen → Tried → Mask →
 ComesMasked said before after tried was now =
     (Comes said before after tried × Masks said after tried was now) ⊎ (LacksMemory before after tried × (now ≡ was))
 
-pub run_line : (read : Result Line LineError) (line : Result Line ScriptFault) (command : Command) (before after : ConsoleSeen) (tried : Tried) (was now : Mask)
-    → Gives (λ line. line) read line → read ≡ Ok (Ask command) → Comes (says command) before after tried → Masks (says command) after tried was now
-    → ComesMasked (said_by line) before after tried was now
-run_line read line command before after tried was now gives is comes masks =
+pub run_line : (text : List ℕ) (read : Result Line LineError) (line : Result Line ScriptFault) (command : Command) (before after : ConsoleSeen) (tried : Tried)
+    (was now : Mask) → Gives (λ line. line) read line → read ≡ Ok (Ask command) → Comes (says command) before after tried
+    → Masks (says command) after tried was now → ComesMasked (said_by text line) before after tried was now
+run_line text read line command before after tried was now gives is comes masks =
     let read_so : line ≡ Ok (Ask command) = subst (λ (r : Result Line LineError). Gives (λ line. line) r line) is gives in
-    subst (λ (l : Result Line ScriptFault). ComesMasked (said_by l) before after tried was now) (sym read_so) (inl (comes, masks))
+    subst (λ (l : Result Line ScriptFault). ComesMasked (said_by text l) before after tried was now) (sym read_so) (inl (comes, masks))
 
-pub told_line : (read : Result Line LineError) (line : Result Line ScriptFault) (outcome : Outcome) (before after : ConsoleSeen) (tried : Tried) (mask : Mask)
-    → Gives (λ line. line) read line → MatchResult read (λ line. said_by (Ok line) ≡ Tells outcome) (λ error. outcome ≡ failed error)
-    → Comes (Tells outcome) before after tried → ComesMasked (said_by line) before after tried mask mask
-told_line (Ok one) line outcome before after tried mask gives tells comes =
-    subst (λ (s : Said). ComesMasked s before after tried mask mask) (sym tells ∙ sym (ap said_by gives)) (inl (comes, refl))
-told_line (Err (errors.Fault fault)) line outcome before after tried mask gives tells comes =
-    subst (λ (l : Result Line ScriptFault). ComesMasked (said_by l) before after tried mask mask) (sym gives)
-    (inl (subst (λ (o : Outcome). Comes (Tells o) before after tried) tells comes, refl))
-told_line (Err errors.Memory) line outcome before after tried mask gives tells comes =
-    inr (subst (λ (o : Outcome). Comes (Tells o) before after tried) tells comes, refl)
+pub told_line : (text : List ℕ) (read : Result Line LineError) (line : Result Line ScriptFault) (outcome : Outcome) (before after : ConsoleSeen) (tried : Tried)
+    (mask : Mask) → Gives (λ line. line) read line
+    → MatchResult read (λ line. (text : List ℕ) → said_by text (Ok line) ≡ tells text outcome) (λ error. outcome ≡ failed error)
+    → Comes (tells text outcome) before after tried → ComesMasked (said_by text line) before after tried mask mask
+told_line text (Ok one) line outcome before after tried mask gives told comes =
+    subst (λ (s : Said). ComesMasked s before after tried mask mask) (sym (told text) ∙ sym (ap (said_by text) gives)) (inl (comes, refl))
+told_line text (Err (errors.Fault fault)) line outcome before after tried mask gives told comes =
+    subst (λ (l : Result Line ScriptFault). ComesMasked (said_by text l) before after tried mask mask) (sym gives)
+    (inl (subst (λ (o : Outcome). Comes (tells text o) before after tried) told comes, refl))
+told_line text (Err errors.Memory) line outcome before after tried mask gives told comes =
+    inr (subst (λ (o : Outcome). Comes (tells text o) before after tried) told comes, refl)

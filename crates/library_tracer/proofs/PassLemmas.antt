@@ -200,6 +200,7 @@ new_console shared caller = record {
   has = Some (known_by caller);
   is_in_line = false;
   last = Replied Done;
+  words = [];
 }
 
 has_taken : (shared : SharedTracer) (xs : List (Option Caller)) (i : ℕ) (caller : Caller) → AreItsCallers shared xs

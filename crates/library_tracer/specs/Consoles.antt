@@ -1,5 +1,5 @@
 -- What a try of a console's call comes to: said by what its caller knew before it, and knows after it.
-use Rattle.std.specs.Prelude.{◌≡◌, ◌≢◌, ◌⊎◌, ◌<◌, ◌^◌, ℕ, ℤ, Bool, true, false, List, Option, Some, None, Result, Ok, Err, IfOk, IfErr}
+use Rattle.std.specs.Prelude.{◌≡◌, ◌≢◌, ◌⊎◌, ◌<◌, ◌^◌, ℕ, ℤ, Bool, true, false, List, [], codes, Option, Some, None, Result, Ok, Err, IfOk, IfErr}
 use Rattle.ticket_lock.specs.Calls.{HasLooked, IsWorn}
 use Rattle.trace_command.specs.Commands.{Command}
 use Rattle.trace_command.specs.declared.command.CommandOf.TheVariants.{Emit}
@@ -25,6 +25,7 @@ use Rattle.trace_script.specs.declared.line.Line.{Line}
 use Rattle.trace_script.specs.declared.line.Line.TheVariants.{Blank, Ask, Parallel, Thread, End}
 use Rattle.trace_script.specs.declared.outcome.Outcome.{Outcome}
 use Rattle.trace_script.specs.declared.outcome.Outcome.TheVariants.{Replied, Refused, Fault}
+use Rattle.refusal_explanations.specs.Words.{injection_words}
 use Rattle.shared_book.specs.Asks.{GoesOn, Rises, IsDone, IsRefused, IsUndone}
 use Rattle.shared_book.specs.Bases.{numbers_of}
 use Rattle.shared_tracer.specs.AskedCommands.{numbered_emission}
@@ -33,36 +34,41 @@ use Rattle.shared_tracer.specs.declared.shared.SharedTracer.{SharedTracer}
 use Rattle.library_tracer.specs.ConsolesSeen.{ConsoleSeen, Known}
 use Rattle.library_tracer.specs.Fields.{fields_in, pairs_in}
 use Rattle.library_tracer.specs.ListedFiles.{files_after}
+use Rattle.library_tracer.specs.Sentences.{answer_words, told_words, words_of}
 use Rattle.library_tracer.specs.Statuses.{status_of}
 use Rattle.library_tracer.specs.declared.console.Tried.{Tried}
 use Rattle.library_tracer.specs.declared.console.Tried.TheVariants.{Told, Busy}
 
 -- ---- what a call asks
 
--- Nothing is asked, and this is told; or this command is asked, of a tracer with these entries.
+-- Nothing is asked, and this is told, with these words; or this command is asked, of a tracer with these entries.
 pub data Said : Type 0 where
-  Tells : Outcome → Said
+  Tells : Outcome → List ℕ → Said
   Asks : (List Entry → Command) → Said
 
 -- a command, whatever the history
 abbrev pub says : Command → Said
 says command = Asks (λ entries. command)
 
+-- nothing is asked, and this is told of a line
+abbrev pub tells : List ℕ → Outcome → Said
+tells line outcome = Tells outcome (told_words line outcome)
+
 -- a line that was read: a line of a parallel part is out of place
-abbrev pub said_by : Result Line ScriptFault → Said
-said_by (Ok Blank) = Tells (Replied Done)
-said_by (Ok (Ask command)) = says command
-said_by (Ok Parallel) = Tells (Fault BlockOutOfPlace)
-said_by (Ok Thread) = Tells (Fault BlockOutOfPlace)
-said_by (Ok End) = Tells (Fault BlockOutOfPlace)
-said_by (Err fault) = Tells (Fault fault)
+abbrev pub said_by : List ℕ → Result Line ScriptFault → Said
+said_by line (Ok Blank) = tells line (Replied Done)
+said_by line (Ok (Ask command)) = says command
+said_by line (Ok Parallel) = tells line (Fault BlockOutOfPlace)
+said_by line (Ok Thread) = tells line (Fault BlockOutOfPlace)
+said_by line (Ok End) = tells line (Fault BlockOutOfPlace)
+said_by line (Err fault) = tells line (Fault fault)
 
 abbrev pub said_line : List ℕ → Said
-said_line line = said_by (line_of line)
+said_line line = said_by line (line_of line)
 
 -- an emission whose fields are pairs, or wrong
 abbrev pub said_pairs : List ℕ → ℕ → ℤ → Option (List Pair) → Said
-said_pairs event cpu pid None = Tells (Fault WrongWords)
+said_pairs event cpu pid None = Tells (Fault WrongWords) (injection_words None)
 said_pairs event cpu pid (Some pairs) = says (Emit event cpu pid pairs)
 
 -- an emission of a string of fields
@@ -78,9 +84,13 @@ said_values event cpu pid values = Asks (values_asked event cpu pid values)
 
 -- ---- what it comes to
 
--- a console with another last outcome
-abbrev pub with_last : Outcome → ConsoleSeen → ConsoleSeen
-with_last outcome console = record console { last = outcome }
+-- a console with the last outcome of another, and its words
+abbrev pub with_last : ConsoleSeen → ConsoleSeen → ConsoleSeen
+with_last other console = record console { last = other.last; words = other.words }
+
+-- what is kept of the last call: this, with these words
+abbrev pub Keeps : Outcome → List ℕ → ConsoleSeen → Type 0
+Keeps outcome words console = (console.last ≡ outcome) × (console.words ≡ words)
 
 -- an answer as an outcome
 abbrev pub outcome_of : Result Reply Refusal → Outcome
@@ -93,7 +103,7 @@ pub record IsAnswered (command : List Entry → Command) (answer : Result Reply 
   pub was : Known
   pub now : Known
   pub had : before.has ≡ Some was
-  pub left : after ≡ record before { has = Some now; is_in_line = false; last = outcome_of answer }
+  pub left : after ≡ record before { has = Some now; is_in_line = false; last = outcome_of answer; words = answer_words (command now.view.seen) answer }
   pub base : was.view.base ≡ numbers_of before.config
   pub goes_on : GoesOn was.view now.view
   pub done : IfOk answer (IsDone was.view now.view (command now.view.seen))
@@ -116,15 +126,16 @@ pub record IsBusy (before after : ConsoleSeen) : Type 0 where
 
 -- a try of a call that says this
 abbrev pub Comes : Said → ConsoleSeen → ConsoleSeen → Tried → Type 0
-Comes (Tells outcome) before after (Told status) = (after ≡ record before { last = outcome }) × (status ≡ status_of outcome)
-Comes (Tells outcome) before after Busy = ⊥
+Comes (Tells outcome words) before after (Told status) =
+    (after ≡ record before { last = outcome; words = words_of outcome words }) × (status ≡ status_of outcome)
+Comes (Tells outcome words) before after Busy = ⊥
 Comes (Asks command) before after (Told status) =
     ((answer : Result Reply Refusal) × IsAnswered command answer before after) × (status ≡ status_of after.last)
 Comes (Asks command) before after Busy = IsBusy before after
 
 -- memory was refused before the tracer was asked
 abbrev pub LacksMemory : ConsoleSeen → ConsoleSeen → Tried → Type 0
-LacksMemory before after tried = Comes (Tells (Refused Memory)) before after tried
+LacksMemory before after tried = Comes (Tells (Refused Memory) (codes "out of memory")) before after tried
 
 -- what is told of a line that was not read
 abbrev pub failed : LineError → Outcome
@@ -164,10 +175,10 @@ Looks shows before after (Some (Err refusal)) = (refusal ≡ Worn) × IsWornOut 
 -- The list is the reply, of the files that there are after the entries found; or memory was refused, or all tickets are drawn.
 abbrev pub IsListed : ConsoleSeen → ConsoleSeen → Type 0
 IsListed before after =
-    ((text : List ℕ) × HasSeen (λ entries. text ≡ files_after before.config (past_of entries)) before (with_last before.last after)
-    × (after.last ≡ Replied (Text text)))
-    ⊎ (HasSeen (λ entries. Unit {0}) before (with_last before.last after) × (after.last ≡ Refused Memory))
-    ⊎ (IsWornOut before (with_last before.last after) × (after.last ≡ Refused Worn))
+    ((text : List ℕ) × HasSeen (λ entries. text ≡ files_after before.config (past_of entries)) before (with_last before after)
+    × Keeps (Replied (Text text)) [] after)
+    ⊎ (HasSeen (λ entries. Unit {0}) before (with_last before after) × Keeps (Refused Memory) (codes "out of memory") after)
+    ⊎ (IsWornOut before (with_last before after) × Keeps (Refused Worn) (codes "all tickets are drawn") after)
 
 abbrev pub Lists : ConsoleSeen → ConsoleSeen → Tried → Type 0
 Lists before after Busy = IsBusy before after

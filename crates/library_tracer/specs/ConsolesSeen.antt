@@ -1,5 +1,5 @@
 -- A thread's console as contracts see it.
-use Rattle.std.specs.Prelude.{Bool, List, Option}
+use Rattle.std.specs.Prelude.{ℕ, Bool, List, Option}
 use Rattle.atomic_table.specs.Seated.{TableId}
 use Rattle.ticket_lock.specs.declared.views.View.{View}
 use Rattle.trace_command.specs.declared.command.Config.{Config}
@@ -12,11 +12,12 @@ pub record Known : Type 0 where
   pub view : View Entry
   pub calls : List Call
 
--- Its tracer, by the table of the lock and by the configuration that answers; its caller, which one that has left has none of; whether it is in line; and
--- what the last call came to.
+-- Its tracer, by the table of the lock and by the configuration that answers; its caller, which one that has left has none of; whether it is in line; what
+-- the last call came to, and if it was not done, what is wrong, in words.
 pub record ConsoleSeen : Type 0 where
   pub tracer : TableId
   pub config : Config
   pub has : Option Known
   pub is_in_line : Bool
   pub last : Outcome
+  pub words : List ℕ

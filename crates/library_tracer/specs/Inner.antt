@@ -1,10 +1,12 @@
 -- What contracts see of consoles and passes, and what is true of their fields.
-use Rattle.std.specs.Prelude.{◌≡◌, Option, Some, None, IfSome, IsSome, is_some}
+use Rattle.std.specs.Prelude.{◌≡◌, ℕ, List, Option, Some, None, IfSome, IsSome, is_some}
 use Rattle.std.specs.Arc.{arc_value}
 use Rattle.shared_tracer.specs.SharedCallers.{calls_of, caller_view, config_of, line_calls, line_view, IsCallerOf, IsInLineOf}
 use Rattle.shared_tracer.specs.declared.caller.Caller.{Caller}
 use Rattle.library_tracer.specs.ConsolesSeen.{ConsoleSeen, Known}
+use Rattle.library_tracer.specs.Sentences.{words_of}
 use Rattle.library_tracer.specs.declared.console.Console.TheInside.{Inside}
+use Rattle.library_tracer.specs.declared.last.Last.{Last}
 use Rattle.library_tracer.specs.declared.queued.Queued.{Queued}
 
 -- what a caller knows, and which calls it made
@@ -21,13 +23,18 @@ known_of (Some caller) queued = Some (known_by caller)
 known_of None (Some queued) = Some (known_in queued)
 known_of None None = None
 
+-- the words that are kept, if the last call was not done
+abbrev pub words_in : Last → List ℕ
+words_in last = words_of last.outcome last.words.now
+
 abbrev pub seen : Inside → ConsoleSeen
 seen c = record {
   tracer = (arc_value c.tracer).lock.table.shared.table_id;
   config = config_of (arc_value c.tracer);
   has = known_of c.idle c.queued;
   is_in_line = is_some c.queued;
-  last = c.last;
+  last = c.last.outcome;
+  words = words_in c.last;
 }
 
 -- The caller is one of its tracer's, and idle or in line.

@@ -8,6 +8,7 @@ pub mod ListedFiles
 pub mod Masks
 pub mod PassNames
 pub mod PassesSeen
+pub mod Sentences
 pub mod Statuses
 pub mod Tiled
 pub mod private

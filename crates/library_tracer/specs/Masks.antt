@@ -25,6 +25,6 @@ pub record IsMaskSeen (console : ConsoleSeen) (mask : Mask) : Type 0 where
 -- A call that had a turn told the mask in it: that after the call. One that asked nothing, had no turn or came when all tickets were drawn left what
 -- was there.
 abbrev pub Masks : Said → ConsoleSeen → Tried → Mask → Mask → Type 0
-Masks (Tells outcome) after tried was now = now ≡ was
+Masks (Tells outcome words) after tried was now = now ≡ was
 Masks (Asks command) after Busy was now = now ≡ was
 Masks (Asks command) after (Told status) was now = IsMaskSeen after now ⊎ ((after.last ≡ Refused Worn) × (now ≡ was))

@@ -1,5 +1,5 @@
 -- The passes of a tracer as contracts see them, and what calls do with them.
-use Rattle.std.specs.Prelude.{◌≡◌, ℕ, ◌<◌, false, List, All, length, slice_set, Option, Some, None, IsSome, IfSome}
+use Rattle.std.specs.Prelude.{◌≡◌, ℕ, ◌<◌, false, List, [], All, length, slice_set, Option, Some, None, IsSome, IfSome}
 use Rattle.std.specs.List.{slice_get}
 use Rattle.atomic_table.specs.Seated.{TableId}
 use Rattle.trace_command.specs.declared.command.Config.{Config}
@@ -56,7 +56,7 @@ pub record HasTaken (before after : Option PassesSeen) (console : ConsoleSeen) :
   pub names : HasNames index known.view
   pub first : (other : ℕ) → other < index → slice_get passes.callers other ≡ Some None
   pub taken : after ≡ Some (record passes { callers = slice_set passes.callers index None })
-  pub console_is : console ≡ record { tracer = passes.tracer; config = passes.config; has = Some known; is_in_line = false; last = Replied Done }
+  pub console_is : console ≡ record { tracer = passes.tracer; config = passes.config; has = Some known; is_in_line = false; last = Replied Done; words = [] }
 
 -- the caller is one of the tracer's, with the names of a pass
 pub record CanPutBack (passes : Option PassesSeen) (caller : Caller) : Type 0 where

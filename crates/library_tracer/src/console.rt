@@ -9,7 +9,7 @@
 //!   InLine ── try, ticket is served ──> Idle, answered        InLine ── try, it is not ─────────> InLine, nothing was run
 //! ```
 
-ghost use Rattle.std.specs.Prelude.{◌≡◌, ◌⊎◌, false, true, None, Some, Ok, Err, IsSome, IsOk, IfOk, IfErr, IfSome, MatchResult, IfNone};
+ghost use Rattle.std.specs.Prelude.{◌≡◌, ◌⊎◌, ℕ, List, [], false, true, None, Some, Ok, Err, IsSome, IsOk, IfOk, IfErr, IfSome, MatchResult, IfNone};
 ghost use Rattle.std.specs.Arc.{arc_value};
 ghost use Rattle.std.specs.Option.{MatchOption};
 ghost use Rattle.trace_command.specs.declared.command.CommandOf.TheVariants as commands;
@@ -19,17 +19,20 @@ ghost use Rattle.trace_script.specs.declared.outcome.Outcome.TheVariants as outc
 ghost use Rattle.shared_tracer.specs.AskedCommands.{command_after};
 ghost use Rattle.shared_tracer.specs.SharedCallers.{config_of, IsCallerOf, IsToldOf};
 ghost use Rattle.shared_tracer.specs.declared.shared.SharedTracer.{SharedTracer as SharedSeen};
-ghost use Rattle.library_tracer.specs.Consoles.{Asks, Tells, Comes, HasLeft, IsBusy, IsOfTracer, IsWornOut, LacksMemory, Lists, Looks, TellsWaiting, failed, says, said_by, said_emission, said_line, said_values};
+ghost use Rattle.library_tracer.specs.Consoles.{Asks, Tells, Comes, HasLeft, IsBusy, IsOfTracer, IsWornOut, LacksMemory, Lists, Looks, TellsWaiting, failed, says, said_by, said_emission, said_line, said_values, tells};
 ghost use Rattle.library_tracer.specs.Inner.{known_by};
 ghost use Rattle.library_tracer.specs.Masks.{IsMaskOf, Masks};
 ghost use Rattle.library_tracer.specs.private.Turns.{HadNoTurn, IsSeenNow};
+ghost use Rattle.library_tracer.specs.Sentences.{explanation_in, told_words};
 ghost use Rattle.library_tracer.specs.Statuses.{offset_in, reply_in, status_of};
 
 use crate::fields::{lone_pair, pairs};
+use crate::last::Last;
 use crate::looks::{Files, Waiting, Wanted};
 use crate::mask::Mask;
 use crate::queued::Queued;
 use crate::status::{self, keep, tell};
+use refusal_explanations::{injection_words, line_words};
 use shared_tracer::{Asked, Caller, InLine, Look, Nothing, SharedTracer, ValuesEmission};
 use std::alloc::{AllocError, Global};
 use std::marker::Model;
@@ -40,13 +43,19 @@ use trace_format::FieldValue;
 use trace_lex::Text;
 use trace_script::{Line, LineError, LineRoom, Outcome, ScriptFault, prepare};
 
+/// What is wrong where memory is refused.
+const NO_MEMORY: &str = "out of memory";
+
+/// What is wrong where nothing is answered any more.
+const ALL_DRAWN: &str = "all tickets are drawn";
+
 /// The console of a thread: a caller of a tracer that is shared, and what its last call came to.
 pub struct Console {
     alloc: Global,
     tracer: Arc<SharedTracer, Global>,
     idle: Option<Caller>,
     queued: Option<Queued>,
-    last: Outcome,
+    last: Last,
 }
 
 impl Drop for Console {
@@ -93,6 +102,7 @@ impl Console {
           has = Some (known_by caller);
           is_in_line = false;
           last = outcomes.Replied replies.Done;
+          words = [];
         } }
     {
         Console {
@@ -100,7 +110,10 @@ impl Console {
             tracer,
             idle: Some(caller),
             queued: None,
-            last: Outcome::Replied(Reply::Done),
+            last: Last {
+                outcome: Outcome::Replied(Reply::Done),
+                words: "",
+            },
         }
     }
 
@@ -118,7 +131,7 @@ impl Console {
                 let (caller, answer, told) = self.tracer.try_ask(caller, asked, look);
                 settle(&mut self.idle, caller);
                 match answer {
-                    Some(answer) => (Tried::Told(keep(&mut self.last, answer)), told),
+                    Some(answer) => (Tried::Told(keep(&mut self.last, asked, answer)), told),
                     None => (Tried::Busy, told),
                 }
             }
@@ -164,7 +177,7 @@ impl Console {
         match self.tracer.ask_in_line(queued.into_line(), asked, look) {
             Ok((caller, answer, told)) => {
                 settle(&mut self.idle, caller);
-                (Tried::Told(keep(&mut self.last, answer)), Some(told))
+                (Tried::Told(keep(&mut self.last, asked, answer)), Some(told))
             }
             Err(line) => {
                 line_up(&mut self.queued, line);
@@ -217,12 +230,12 @@ impl Console {
         }
     }
 
-    /// Tells what a call came to that asked nothing.
-    fn told(&mut self, outcome: Outcome) -> Tried
-        ensures comes { Comes (Tells outcome) self.old self.new result }
+    /// Tells what a call came to that asked nothing, with these words.
+    fn told(&mut self, outcome: Outcome, words: &'static str) -> Tried
+        ensures comes { Comes (Tells outcome words.now) self.old self.new result }
         ensures has { IsSome self.old.has → IsSome self.new.has }
     {
-        Tried::Told(tell(&mut self.last, outcome))
+        Tried::Told(tell(&mut self.last, outcome, words))
     }
 
     /// Does an emission of a string of fields, for which a list is allocated.
@@ -233,7 +246,10 @@ impl Console {
     {
         match pairs(self.alloc, fields) {
             Ok(pairs) => self.run(Command::emit(event, cpu, pid, &pairs)),
-            Err(error) => self.told(failed(error)),
+            Err(LineError::Fault(fault)) => {
+                self.told(Outcome::Fault(fault), injection_words(None))
+            }
+            Err(LineError::Memory) => self.told(Outcome::Refused(Refusal::Memory), NO_MEMORY),
         }
     }
 }
@@ -275,7 +291,10 @@ impl Console {
         let mut pairs = Vec::new(self.alloc);
         match asked_by(prepare(&mut room, &mut pairs, line)) {
             Ok(command) => self.run_masked(command, mask),
-            Err(outcome) => self.told(outcome),
+            Err(outcome) => {
+                let words = told_words(line, &outcome);
+                self.told(outcome, words)
+            }
         }
     }
 
@@ -317,13 +336,13 @@ impl Console {
         self.ask(&Asked::Values(&emission), &Nothing).0
     }
 
-    /// Tells that a call was refused before anything was asked.
-    pub fn refuse(&mut self, refusal: Refusal) -> Tried
+    /// Tells that a call was refused before anything was asked, and what is wrong with it, in words.
+    pub fn refuse(&mut self, refusal: Refusal, words: &'static str) -> Tried
         requires { IsSome self.old.has }
-        ensures comes { Comes (Tells (outcomes.Refused refusal)) self.old self.new result }
+        ensures comes { Comes (Tells (outcomes.Refused refusal) words.now) self.old self.new result }
         ensures has { IsSome self.new.has }
     {
-        self.told(Outcome::Refused(refusal))
+        self.told(Outcome::Refused(refusal), words)
     }
 
     /// Writes a string to a file, as `echo TEXT > PATH` does, or appends it, as `echo TEXT >> PATH`, and tells which events are wanted then. One that takes
@@ -358,9 +377,9 @@ impl Console {
     {
         let alloc = self.alloc;
         match self.look(&Files { alloc }) {
-            Some(Ok(Ok(text))) => self.told(Outcome::Replied(Reply::Text(Text::from(text)))),
-            Some(Ok(Err(AllocError))) => self.told(Outcome::Refused(Refusal::Memory)),
-            Some(Err(refusal)) => self.told(Outcome::Refused(refusal)),
+            Some(Ok(Ok(text))) => self.told(Outcome::Replied(Reply::Text(Text::from(text))), ""),
+            Some(Ok(Err(AllocError))) => self.told(Outcome::Refused(Refusal::Memory), NO_MEMORY),
+            Some(Err(refusal)) => self.told(Outcome::Refused(refusal), ALL_DRAWN),
             None => Tried::Busy,
         }
     }
@@ -369,21 +388,28 @@ impl Console {
     pub fn status(&self) -> u32
         ensures { result ≡ status_of self.now.last }
     {
-        status::status_of(&self.last)
+        status::status_of(&self.last.outcome)
     }
 
     /// The bytes that the last call gave: what was read, or the name of the field whose value is wrong.
     pub fn reply(&self) -> &[u8]
         ensures { result.now ≡ reply_in self.now.last }
     {
-        status::reply_in(&self.last)
+        status::reply_in(&self.last.outcome)
     }
 
     /// Where the string of the last call is wrong, as how many bytes stand before that, if its refusal tells it.
     pub fn offset(&self) -> Option<usize>
         ensures { result ≡ offset_in self.now.last }
     {
-        status::offset_in(&self.last)
+        status::offset_in(&self.last.outcome)
+    }
+
+    /// What is wrong with the last call, in a sentence; of one that was done there is none.
+    pub fn explanation(&self) -> Result<Vec<u8>, AllocError>
+        ensures { IfOk result (λ text. text.items ≡ explanation_in self.now.last self.now.words) }
+    {
+        status::explanation_in(self.alloc, &self.last.outcome, self.last.words)
     }
 
     /// Which events are wanted, and how many commands were done by all threads. Nothing, where somebody else has a turn. This is no command: it takes no memory and keeps what the last call came to.
@@ -463,7 +489,8 @@ fn flat(seen: Option<Result<Result<bool, Refusal>, Refusal>>) -> Option<Result<b
 #[inline(always)]
 fn asked_by(read: Result<Line<'_>, LineError>) -> Result<Command<'_>, Outcome>
     ensures asks { IfOk result (λ command. read.entry ≡ Ok (lines.Ask command)) }
-    ensures tells { IfErr result (λ outcome. MatchResult read.entry (λ line. said_by (Ok line) ≡ Tells outcome) (λ error. outcome ≡ failed error)) }
+    ensures tells { IfErr result (λ outcome. MatchResult read.entry (λ line. (text : List ℕ) → said_by text (Ok line) ≡ tells text outcome)
+        (λ error. outcome ≡ failed error)) }
 {
     match read {
         Ok(Line::Ask(command)) => Ok(command),
@@ -472,6 +499,17 @@ fn asked_by(read: Result<Line<'_>, LineError>) -> Result<Command<'_>, Outcome>
             Err(Outcome::Fault(ScriptFault::BlockOutOfPlace))
         }
         Err(error) => Err(failed(error)),
+    }
+}
+
+/// What is wrong with a line that asks for nothing, in words.
+fn told_words(line: &[u8], outcome: &Outcome) -> &'static str
+    ensures { result.now ≡ told_words line.now outcome.now }
+{
+    match outcome {
+        Outcome::Replied(_) => "",
+        Outcome::Refused(_) => NO_MEMORY,
+        Outcome::Fault(fault) => line_words(line, *fault),
     }
 }
 

@@ -4,6 +4,7 @@
 mod console;
 mod fields;
 mod files;
+mod last;
 pub mod laws;
 mod looks;
 mod mask;

@@ -1,11 +1,20 @@
-//! Outcomes as numbers, and what of them is text.
+//! Outcomes as numbers, what of them is text, and what is wrong with a call in words.
 
-ghost use Rattle.std.specs.Prelude.{◌≡◌, Option, None, Some};
+ghost use Rattle.std.specs.Prelude.{◌≡◌, List, [], Option, None, Some, IfOk};
+ghost use Rattle.trace_command.specs.declared.command.Entry.{Entry};
 ghost use Rattle.trace_command.specs.declared.command.Reply.TheVariants as replies;
 ghost use Rattle.trace_script.specs.declared.outcome.Outcome.TheVariants as outcomes;
+ghost use Rattle.refusal_explanations.specs.Words.{command_words};
+ghost use Rattle.shared_tracer.specs.AskedCommands.{command_after};
 ghost use Rattle.library_tracer.specs.Consoles.{outcome_of};
+ghost use Rattle.library_tracer.specs.Inner.{words_in};
+ghost use Rattle.library_tracer.specs.Sentences.{answer_words, explanation_in, words_of};
 ghost use Rattle.library_tracer.specs.Statuses.{fault_number, offset_in, reply_in, status_of};
 
+use crate::last::Last;
+use refusal_explanations::{command_words, injection_words, sentence};
+use shared_tracer::Asked;
+use std::alloc::{AllocError, Global};
 use trace_command::{Refusal, Reply};
 use trace_script::{Outcome, ScriptFault};
 
@@ -39,38 +48,71 @@ pub(crate) fn status_of(outcome: &Outcome) -> u32
     }
 }
 
-/// Keeps an answer, and tells its status.
+/// What is wrong with what was asked and refused so.
+#[tactic(auto, using(crate::proofs::WordLemmas::values_words))]
+fn asked_words(asked: &Asked<'_>, refusal: &Refusal) -> &'static str
+    ensures { (entries : List Entry) → result.now ≡ command_words (command_after entries asked.now) refusal.now }
+{
+    match asked {
+        Asked::Command(command) => command_words(command, refusal),
+        Asked::Values(_) => injection_words(Some(refusal)),
+    }
+}
+
+/// Keeps an answer to what was asked, and tells its status.
 #[inline(always)]
-pub(crate) fn keep(last: &mut Outcome, answer: Result<Reply, Refusal>) -> u32
-    ensures kept { last.new ≡ outcome_of answer }
-    ensures status { result ≡ status_of last.new }
+pub(crate) fn keep(last: &mut Last, asked: &Asked<'_>, answer: Result<Reply, Refusal>) -> u32
+    ensures kept { last.new.outcome ≡ outcome_of answer }
+    ensures words { (entries : List Entry) → words_in last.new ≡ answer_words (command_after entries asked.now) answer }
+    ensures status { result ≡ status_of last.new.outcome }
 {
     match answer {
         Ok(Reply::Done) => keep_done(last),
-        Ok(reply) => tell(last, Outcome::Replied(reply)),
-        Err(refusal) => tell(last, Outcome::Refused(refusal)),
+        Ok(reply) => tell(last, Outcome::Replied(reply), ""),
+        Err(refusal) => {
+            let words = asked_words(asked, &refusal);
+            tell(last, Outcome::Refused(refusal), words)
+        }
     }
 }
 
 /// Keeps that a call was done. After another such call, as most are, there is nothing to write.
 #[inline(always)]
-fn keep_done(last: &mut Outcome) -> u32
-    ensures kept { last.new ≡ outcomes.Replied replies.Done }
+#[tactic(auto, using(crate::proofs::WordLemmas::no_words))]
+fn keep_done(last: &mut Last) -> u32
+    ensures kept { last.new.outcome ≡ outcomes.Replied replies.Done }
+    ensures words { words_in last.new ≡ [] }
     ensures status { result ≡ 0 }
 {
-    if !matches!(last, Outcome::Replied(Reply::Done)) {
-        *last = Outcome::Replied(Reply::Done);
+    if !matches!(last.outcome, Outcome::Replied(Reply::Done)) {
+        last.outcome = Outcome::Replied(Reply::Done);
     }
     0
 }
 
-/// Keeps what a call came to, and tells its status.
-pub(crate) fn tell(last: &mut Outcome, outcome: Outcome) -> u32
-    ensures kept { last.new ≡ outcome }
+/// Keeps what a call came to, with these words, and tells its status.
+pub(crate) fn tell(last: &mut Last, outcome: Outcome, words: &'static str) -> u32
+    ensures kept { last.new.outcome ≡ outcome }
+    ensures words { words_in last.new ≡ words_of outcome words.now }
     ensures status { result ≡ status_of outcome }
 {
-    *last = outcome;
-    status_of(last)
+    *last = Last { outcome, words };
+    status_of(&last.outcome)
+}
+
+/// The sentence of a call with this outcome, and these words. There is none of one that was done.
+pub(crate) fn explanation_in(
+    alloc: Global,
+    outcome: &Outcome,
+    words: &'static str,
+) -> Result<Vec<u8>, AllocError>
+    ensures { IfOk result (λ text. text.items ≡ explanation_in outcome.now (words_of outcome.now words.now)) }
+{
+    match outcome {
+        Outcome::Replied(_) => Ok(Vec::new(alloc)),
+        Outcome::Refused(refusal) => sentence(alloc, refusal, words),
+        Outcome::Fault(_) => Vec::from_slice(alloc, words.as_bytes()),
+    }
 }
 
 /// The bytes that an outcome has: what was read, or the name of the field whose value is wrong. Other outcomes have none.

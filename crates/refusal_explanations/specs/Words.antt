@@ -1,5 +1,5 @@
 -- What is wrong, in words: by refusals, the causes that they carry, and the bytes that follow the offset where it is wrong.
-use Rattle.std.specs.Prelude.{ℕ, Bool, true, false, not, nat_lt, ◌||◌, ◌&&◌, ◌==◌, if◌then◌else◌, List, [], ◌∷◌, drop, codes, Option, Some, None}
+use Rattle.std.specs.Prelude.{ℕ, Bool, true, false, not, nat_lt, ◌||◌, ◌&&◌, ◌==◌, if◌then◌else◌, List, [], ◌∷◌, ◌++◌, drop, codes, Option, Some, None}
 use Rattle.std.specs.List.{list_any, prefix_len}
 use Rattle.std.specs.Option.{is_some}
 use Rattle.trace_lex.specs.Blanks.{is_blank}
@@ -18,7 +18,9 @@ use Rattle.trace_trigger.specs.declared.fault.OperatorCause.{OperatorCause}
 use Rattle.trace_trigger.specs.declared.fault.OperatorCause.TheVariants as operator
 use Rattle.trace_trigger.specs.declared.fault.TextCause.{TextCause}
 use Rattle.trace_trigger.specs.declared.fault.TextCause.TheVariants as cause
+use Rattle.trace_command.specs.Commands.{Command}
 use Rattle.trace_command.specs.Paths.{File, SyntheticEvents, OfInstance, OfEvent, address_of}
+use Rattle.trace_command.specs.declared.command.CommandOf.TheVariants.{Emit, Mkdir, Rmdir, Write, Read}
 use Rattle.trace_command.specs.declared.file_name.EventFile.{EventFile}
 use Rattle.trace_command.specs.declared.file_name.EventFile.TheVariants as per_event
 use Rattle.trace_command.specs.declared.file_name.TopFile.{TopFile}
@@ -29,6 +31,7 @@ use Rattle.trace_command.specs.declared.refusal.Refusal.{Refusal}
 use Rattle.trace_command.specs.declared.refusal.Refusal.TheVariants.{NoSuchFile, NotReadable, NotWritable, BadValue, BadTrigger, NoSuchEvent, EventExists, BadDefinition, TooBig, FilterSyntax, NoSuchField, WrongOperator, HistSyntax, BadSize, TriggerExists, NoSuchTrigger, TooMany, InstanceExists, NoSuchInstance, Busy, NoSuchCpu, BadRow, HistoryFull, Memory, Worn}
 use Rattle.trace_script.specs.Tokens.{is_quote}
 use Rattle.refusal_explanations.specs.Bytes.{ends_with, is_same_byte, part_before}
+use Rattle.refusal_explanations.specs.LeftOut.{of_attributes, of_fields, of_triggers}
 use Rattle.refusal_explanations.specs.Places.{attribute_at, is_bare_hist, mark_len}
 use Rattle.refusal_explanations.specs.declared.subject.Subject.{Subject}
 use Rattle.refusal_explanations.specs.declared.subject.Subject.TheVariants as subject
@@ -46,11 +49,15 @@ abbrev pub name_words : List ℕ → List ℕ
 name_words rest =
     if ends_with 44 (part_before 59 rest) then codes "expected a field's name, and `;` in place of `,`" else codes "expected a field's name"
 
+-- a `!`, by which a kernel's event is removed
+abbrev pub event_words : List ℕ → List ℕ
+event_words rest = if begins (codes "!") rest then codes "a declared event can't be removed" else codes "expected the event's name"
+
 abbrev pub declaration_words : DeclarationCause → List ℕ → List ℕ
-declaration_words declaration.EventName rest = codes "expected the event's name"
+declaration_words declaration.EventName rest = event_words rest
 declaration_words declaration.FieldType rest = type_words rest
 declaration_words declaration.UnsignedType rest = codes "expected `int` or `long`"
-declaration_words declaration.StringField rest = codes "expected a new field's name and its length, as `name[16]`"
+declaration_words declaration.StringField rest = codes "expected a new field's name and its length from 1 to 64, as `name[16]`"
 declaration_words declaration.FieldName rest = name_words rest
 declaration_words declaration.ReservedName rest = codes "this name is reserved"
 declaration_words declaration.RepeatedName rest = codes "a field has this name already"
@@ -97,20 +104,42 @@ operator_words operator.Summed rest = codes "a string has no sum"
 
 -- ---- N12
 
-abbrev pub hist_words : HistCause → List ℕ
-hist_words hist.Unknown = codes "expected an attribute, as `keys=`"
-hist_words hist.Size = codes "expected one `size=` and its digits"
-hist_words hist.Action = codes "there is an action already"
-hist_words hist.Repeated = codes "this attribute is there already"
-hist_words (hist.Key true) = codes "expected a field, alone or with `.hex`, `.log2` or `.buckets=N`"
-hist_words (hist.Key false) = codes "expected another field, alone or with `.hex`, `.log2` or `.buckets=N`"
-hist_words (hist.Value true) = codes "expected a field"
-hist_words (hist.Value false) = codes "expected another field"
-hist_words (hist.Sort true) = codes "expected `hitcount`, a key or a value, alone or with `.ascending` or `.descending`"
-hist_words (hist.Sort false) = codes "expected another key or value, or `hitcount`, alone or with `.ascending` or `.descending`"
-hist_words hist.Name = codes "expected a table's name"
-hist_words hist.NoKeys = codes "expected `:keys=` and a field"
-hist_words hist.Condition = codes "expected `if`, a blank and a filter"
+-- an attribute, which goes up to a blank or a `:` (58), with a `=` (61) is one that has a value
+abbrev pub attribute_due : List ℕ → List ℕ
+attribute_due rest =
+    if list_any (is_same_byte 61) (part_before 58 rest) then codes "expected `keys=`, `vals=`, `sort=`, `size=` or `name=`; variables are left out"
+    else codes "expected `keys=`, `vals=`, `sort=`, `size=`, `name=`, `pause`, `continue` or `clear`"
+
+abbrev pub attribute_words : List ℕ → List ℕ
+attribute_words rest = of_attributes rest (attribute_due rest)
+
+-- a variable, or else what is told of an item
+abbrev pub item_words : List ℕ → List ℕ → List ℕ
+item_words rest other = if begins (codes "$") rest then codes "variables are left out" else other
+
+abbrev pub hist_words : HistCause → List ℕ → List ℕ
+hist_words hist.Unknown rest = attribute_words rest
+hist_words hist.Size rest = codes "expected one `size=` and its digits"
+hist_words hist.Action rest = codes "there is an action already"
+hist_words hist.Repeated rest = codes "this attribute is there already"
+hist_words (hist.Key true) rest = item_words rest (codes "expected a field, alone or with `.hex`, `.log2` or `.buckets=N`")
+hist_words (hist.Key false) rest = item_words rest (codes "expected another field, alone or with `.hex`, `.log2` or `.buckets=N`")
+hist_words (hist.Value true) rest = item_words rest (codes "expected a field, without a modifier")
+hist_words (hist.Value false) rest = item_words rest (codes "expected another field, without a modifier")
+hist_words (hist.Sort true) rest = codes "expected `hitcount`, a key or a value, alone or with `.ascending` or `.descending`"
+hist_words (hist.Sort false) rest = codes "expected another key or value, or `hitcount`, alone or with `.ascending` or `.descending`"
+hist_words hist.Name rest = codes "expected a table's name"
+hist_words hist.NoKeys rest = codes "expected `:keys=` and a field"
+hist_words hist.Condition rest = codes "expected `if`, a blank and a filter"
+
+-- ---- N10
+
+abbrev pub no_field_words : Subject → List ℕ
+no_field_words subject.AllFilters = codes "an event has no field of this name"
+no_field_words _ = codes "the event has no field of this name"
+
+abbrev pub field_words : Subject → List ℕ → List ℕ
+field_words subject rest = of_fields rest (no_field_words subject)
 
 -- ---- N21
 
@@ -141,7 +170,7 @@ limit_words limit.Openings = codes "at most 16 `!` and `(` may be open"
 abbrev pub kind_words : List ℕ → List ℕ
 kind_words body =
     if nat_lt 0 (prefix_len is_blank body) then codes "no blank may come before `hist:` or `snapshot`"
-    else (if is_bare_hist body then codes "expected `:keys=` and a field" else codes "expected `hist:` or `snapshot`")
+    else (if is_bare_hist body then codes "expected `:keys=` and a field" else of_triggers body (codes "expected `hist:` or `snapshot`"))
 
 abbrev pub body_words : TextCause → List ℕ → List ℕ
 body_words cause.Kind body = kind_words body
@@ -217,14 +246,13 @@ refusal_words subject path text EventExists = codes "an event of this name is de
 refusal_words subject path text (BadDefinition at cause) = declaration_words cause (drop at text)
 refusal_words subject path text TooBig = codes "a record of the event would be longer than a page"
 refusal_words subject path text (FilterSyntax at cause) = filter_words cause (drop at text)
-refusal_words subject.AllFilters path text (NoSuchField at) = codes "an event has no field of this name"
-refusal_words _ path text (NoSuchField at) = codes "the event has no field of this name"
+refusal_words subject path text (NoSuchField at) = field_words subject (drop at text)
 refusal_words subject path text (WrongOperator at cause) = operator_words cause (drop at text)
-refusal_words subject path text (HistSyntax at cause) = hist_words cause
+refusal_words subject path text (HistSyntax at cause) = hist_words cause (drop at text)
 refusal_words subject path text BadSize = codes "expected a size from 65 to 131072"
 refusal_words subject path text TriggerExists = exists_words text
 refusal_words subject path text NoSuchTrigger =
-    if begins (codes "!") text then codes "the event has no such trigger" else codes "expected `>>` and a trigger that the event has"
+    if begins (codes "!") text then codes "the event has no such trigger" else codes "expected `>>` and a trigger that the event has, with its name, keys, values, sort and filter"
 refusal_words subject path text (TooMany limit) = limit_words limit
 refusal_words subject path text InstanceExists = codes "there is an instance of this name already"
 refusal_words subject path text NoSuchInstance = codes "there is no instance of this name"
@@ -244,3 +272,21 @@ write_words path text refusal = refusal_words (subject_at path) path text refusa
 abbrev pub injection_words : Option Refusal → List ℕ
 injection_words None = codes "expected `NAME=VALUE ..`"
 injection_words (Some refusal) = refusal_words subject.Emission [] [] refusal
+
+-- what is wrong with a command
+abbrev pub command_words : Command → Refusal → List ℕ
+command_words (Emit event cpu pid pairs) refusal = injection_words (Some refusal)
+command_words (Mkdir path) refusal = refusal_words subject.Instance path [] refusal
+command_words (Rmdir path) refusal = refusal_words subject.Instance path [] refusal
+command_words (Write path append text) refusal = write_words path text refusal
+command_words (Read path limit) refusal = refusal_words subject.Read path [] refusal
+
+-- the name of a field before words; there is none of a value that is beyond the last field
+abbrev pub named : List ℕ → List ℕ → List ℕ
+named [] words = words
+named (b ∷ bs) words = (b ∷ bs) ++ codes ": " ++ words
+
+-- the sentence of a refusal: its words; of an emission's row after the name of the field
+abbrev pub sentence_of : Refusal → List ℕ → List ℕ
+sentence_of (BadRow bad) words = named bad.field words
+sentence_of _ words = words

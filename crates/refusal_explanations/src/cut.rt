@@ -63,6 +63,14 @@ pub(crate) fn begins(beginning: &[u8], text: &[u8]) -> bool
     text.starts_with(beginning)
 }
 
+/// What follows the last `/` of a path; all of it, if it has none.
+pub(crate) fn last_part(path: &[u8]) -> &[u8] {
+    match path.iter().rposition(|byte| *byte == b'/') {
+        Some(at) => after(at.saturating_add(1), path),
+        None => path,
+    }
+}
+
 /// Strings one after the other.
 pub(crate) fn joined(alloc: Global, parts: &[&[u8]]) -> Result<Vec<u8>, AllocError> {
     let mut text = Vec::new(alloc);

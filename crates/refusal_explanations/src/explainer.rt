@@ -5,12 +5,16 @@ ghost use Rattle.trace_command.specs.Refusals.{name_of as refusal_name};
 ghost use Rattle.trace_script.specs.Rendering.{fault_name};
 ghost use Rattle.refusal_explanations.specs.Explanations.{IsExplained, IsExplanation};
 
-use crate::fault::{fault_offset, fault_words, name_of};
+use crate::caret::starts;
+use crate::cut::{begins, last_part};
+use crate::fault::{fault_offset, name_of, quoting_words};
+use crate::fault_words::fault_words;
 use crate::layout::{ScriptLine, shown};
+use crate::left_out::{FILES, told_of};
 use crate::meant::{command_meant, line_meant};
 use crate::place::refusal_offset;
-use crate::subject::{command_of, command_subject, path_of, written_in};
-use crate::words::refusal_words;
+use crate::subject::{command_of, path_of, written_in};
+use crate::words::{command_words, sentence};
 use std::alloc::{AllocError, Global};
 use trace_command::{Command, Refusal};
 use trace_format::EventDef;
@@ -25,21 +29,20 @@ pub struct Explainer {
     last: usize,
 }
 
-/// What is wrong with a refused command; of an emission's row, after the name of its field.
-fn command_words(
-    alloc: Global,
-    command: &Command<'_>,
-    refusal: &Refusal,
-) -> Result<Vec<u8>, AllocError> {
-    let mut told = Vec::new(alloc);
-    if let Refusal::BadRow { row } = refusal {
-        told.extend_from_slice(row.get().field.as_bytes())?;
-        told.extend_from_slice(b": ".as_slice())?;
+/// What is wrong with a refused command, in one sentence: of a file that a script has not, what to use, if a mounted tracer or a kernel has it.
+fn advised_words(command: &Command<'_>, refusal: &Refusal) -> &'static str {
+    let path = path_of(command);
+    let text = written_in(command);
+    let words = command_words(command, refusal);
+    match (refusal, command) {
+        (Refusal::NoSuchFile, Command::Read { .. } | Command::Write { .. }) => {
+            told_of(&FILES, last_part(path), words)
+        }
+        (Refusal::NoSuchTrigger, Command::Write { append: true, .. }) if !begins(b"!", text) => {
+            "the event has no trigger with this name, keys, values, sort and filter"
+        }
+        _ => words,
     }
-    let subject = command_subject(command);
-    let words = refusal_words(subject, path_of(command), written_in(command), refusal);
-    told.extend_from_slice(words.as_bytes())?;
-    Ok(told)
 }
 
 impl Explainer {
@@ -75,8 +78,10 @@ impl Explainer {
     {
         let is_next = line.number.saturating_sub(1) == self.last;
         let name = name_of(self.alloc, line.text)?;
-        let caret = fault_offset(self.alloc, &name, line.text, fault)?;
-        let words = fault_words(is_next, &name, fault).as_bytes();
+        let begun = starts(self.alloc, line.text)?;
+        let caret = fault_offset(self.alloc, &name, line.text, &begun, fault)?;
+        let plain = fault_words(is_next, &name, fault);
+        let words = quoting_words(&name, line.text, &begun, fault, plain).as_bytes();
         let meant = line_meant(&name, fault).as_bytes();
         let text = shown(self.alloc, line, caret, fault.name(), words, meant)?;
         Ok(text)
@@ -93,7 +98,7 @@ impl Explainer {
             (refusal_name refusal.now) text.items) }
     {
         let caret = refusal_offset(self.alloc, line.text, command, refusal)?;
-        let words = command_words(self.alloc, command, refusal)?;
+        let words = sentence(self.alloc, refusal, advised_words(command, refusal))?;
         let meant = command_meant(self.alloc, &self.events, command, refusal)?;
         let text = shown(self.alloc, line, caret, refusal.name(), &words, &meant)?;
         Ok(text)

@@ -1,6 +1,6 @@
-//! What is wrong with a line that is no command: in words, and where.
+//! Where a line that is no command is wrong, and its first word.
 
-use crate::caret::{Stand, ends_at, has_offset, is_bare, next_stand, open_quote, starts};
+use crate::caret::{Stand, ends_at, has_offset, is_bare, next_stand, open_quote};
 use crate::cut::{after, joined, up_to};
 use std::alloc::{AllocError, Global};
 use trace_lex::{blanks_len, rest_of, trim_end};
@@ -22,50 +22,40 @@ pub(crate) fn name_of(alloc: Global, line: &[u8]) -> Result<Vec<u8>, AllocError>
     Ok(word)
 }
 
-// ---- words
-
-/// How a line of this name is written.
-fn usage_words(name: &[u8]) -> &'static str {
-    match name {
-        b"emit" => "expected `emit CPU PID EVENT FIELD=VALUE ..`",
-        b"echo" => "expected `echo WORD .. > PATH`, or `>>`",
-        b"cat" => "expected `cat PATH`",
-        b"take" => "expected `take N PATH`",
-        b"mkdir" => "expected `mkdir PATH`",
-        b"rmdir" => "expected `rmdir PATH`",
-        _ => "expected nothing more",
-    }
-}
-
-fn block_words(is_next: bool, name: &[u8]) -> &'static str {
-    match name {
-        b"thread" | b"end" => "no parallel part is open here",
-        b"parallel" if is_next => "no `end` follows",
-        b"parallel" => "expected an `end` after each `parallel`, before the next one",
-        _ => "expected `thread` before the first command of a part",
-    }
-}
-
-/// What is wrong with a line that is no command, and begins with a word of this name; and whether the line before it was heard: no line of a part is
-/// heard before the part is done, so none is open then.
-pub(crate) fn fault_words(is_next: bool, name: &[u8], fault: ScriptFault) -> &'static str {
-    match fault {
-        ScriptFault::LineTooLong => "the line has over 4,096 bytes",
-        ScriptFault::BadByte => "this byte is neither a tab nor one from 0x20 to 0x7e",
-        ScriptFault::UnclosedQuote => "this quote is not closed",
-        ScriptFault::UnknownCommand => "unknown command",
-        ScriptFault::WrongWords => usage_words(name),
-        ScriptFault::BadNumber => "expected a number in its range",
-        ScriptFault::BlockOutOfPlace => block_words(is_next, name),
-        ScriptFault::TooManyThreads => "a parallel part has at most eight threads",
-    }
-}
-
 // ---- where
 
 /// Whether a `>` begins there.
 fn is_arrow(line: &[u8], at: usize) -> bool {
     matches!(after(at, line), [b'>', ..])
+}
+
+/// Whether the words of a line, which begin there, go on with a `>` after a redirection and its path: most likely one that was to be written.
+fn has_later_arrow(line: &[u8], starts: &[usize]) -> bool {
+    let first = starts.iter().position(|at| is_arrow(line, *at));
+    let after_first = first.unwrap_or(starts.len()).saturating_add(1);
+    match starts.get(after_first..) {
+        Some([path, rest @ ..]) if !is_arrow(line, *path) => {
+            rest.iter().any(|at| is_arrow(line, *at))
+        }
+        _ => false,
+    }
+}
+
+/// What is told of a line of this name, whose words begin there, and which has this fault: that a `>` is to be quoted, or else these words.
+pub(crate) fn quoting_words(
+    name: &[u8],
+    line: &[u8],
+    starts: &[usize],
+    fault: ScriptFault,
+    words: &'static str,
+) -> &'static str {
+    let is_wrong = matches!(fault, ScriptFault::WrongWords);
+    match name {
+        b"echo" if is_wrong && has_later_arrow(line, starts) => {
+            "quote what is written, as `echo 'n > 5' > PATH`: a `>` outside quotes is a redirection"
+        }
+        _ => words,
+    }
 }
 
 /// Where the words of an `echo` are wrong from its redirection on, of one or of two `>`: what follows its path, or is none.
@@ -120,27 +110,27 @@ fn number_place(
     }
 }
 
-/// Where a line whose first word is this name is at fault.
+/// Where a line is at fault, whose words begin there, the first with this name.
 pub(crate) fn fault_offset(
     alloc: Global,
     name: &[u8],
     line: &[u8],
+    starts: &[usize],
     fault: ScriptFault,
 ) -> Result<Option<usize>, AllocError> {
     if let ScriptFault::LineTooLong = fault {
         return Ok(None);
     }
-    let starts = starts(alloc, line)?;
     Ok(match fault {
         ScriptFault::BadByte => line
             .iter()
             .position(|byte| !matches!(*byte, b'\t' | b' '..=b'~')),
         ScriptFault::UnclosedQuote => open_quote(line),
         ScriptFault::WrongWords => {
-            let place = words_place(name, line, &starts);
+            let place = words_place(name, line, starts);
             Some(place.unwrap_or(trim_end(line).len()))
         }
-        ScriptFault::BadNumber => number_place(alloc, name, line, &starts)?,
+        ScriptFault::BadNumber => number_place(alloc, name, line, starts)?,
         _ => starts.first().copied(),
     })
 }

@@ -1,6 +1,7 @@
 //! What was meant, if something that is near is there.
 
 use crate::cut::{after, begins, part_before, up_to};
+use crate::left_out::told_of;
 use crate::near::{first_near, is_near, near_path};
 use crate::place::mark_len;
 use crate::subject::{Subject, command_subject, event_of, path_of, written_in};
@@ -14,17 +15,55 @@ use trace_trigger::HistCause;
 
 // ---- what is always there
 
-/// The type of fields that is near, without `int` and `long`, which `uint` and `ulong` are near to. Some types that fields don't have are near, too.
+/// Other languages' names of types, and the type that has the same values; none, if none has, though one is near.
+const TYPES: [(&[u8], &str); 36] = [
+    (b"uint64_t", "u64"),
+    (b"uint32_t", "u32"),
+    (b"uint16_t", "u16"),
+    (b"uint8_t", "u8"),
+    (b"int64_t", "s64"),
+    (b"int32_t", "s32"),
+    (b"int16_t", "s16"),
+    (b"int8_t", "s8"),
+    (b"__u64", "u64"),
+    (b"__u32", "u32"),
+    (b"__u16", "u16"),
+    (b"__u8", "u8"),
+    (b"__s64", "s64"),
+    (b"__s32", "s32"),
+    (b"__s16", "s16"),
+    (b"__s8", "s8"),
+    (b"i64", "s64"),
+    (b"i32", "s32"),
+    (b"i16", "s16"),
+    (b"i8", "s8"),
+    (b"size_t", "u64"),
+    (b"ssize_t", "s64"),
+    (b"usize", "u64"),
+    (b"isize", "s64"),
+    (b"ulong", "unsigned long"),
+    (b"uint", "unsigned int"),
+    (b"ushort", "u16"),
+    (b"short", "s16"),
+    (b"uchar", "u8"),
+    (b"bool", "u8"),
+    (b"uid_t", "u32"),
+    (b"gid_t", "u32"),
+    (b"signed", ""),
+    (b"f64", ""),
+    (b"f32", ""),
+    (b"f16", ""),
+];
+
+/// The type of fields that has another name elsewhere, or else one that is near, without `int` and `long`.
 fn type_meant(given: &[u8]) -> &'static str {
-    match given {
-        b"signed" | b"uchar" | b"uid_t" | b"gid_t" | [b'f', ..] => "",
-        _ => first_near(
-            given,
-            &[
-                "s64", "s32", "s16", "u64", "u32", "u16", "char", "pid_t", "unsigned",
-            ],
-        ),
-    }
+    let near = first_near(
+        given,
+        &[
+            "s64", "s32", "s16", "u64", "u32", "u16", "char", "pid_t", "unsigned",
+        ],
+    );
+    told_of(&TYPES, given, near)
 }
 
 /// The type that was meant in a declaration, if one is due where these bytes follow.
@@ -52,11 +91,64 @@ fn trigger_meant(text: &[u8]) -> &'static str {
     }
 }
 
+/// Modifiers of a key by other names.
+const MODIFIERS: [(&[u8], &str); 7] = [
+    (b"log", "log2"),
+    (b"lg2", "log2"),
+    (b"log10", "log2"),
+    (b"x", "hex"),
+    (b"buckets", "buckets=N"),
+    (b"bucket", "buckets=N"),
+    (b"bins", "buckets=N"),
+];
+
+/// Directions of a sort name by other names.
+const DIRECTIONS: [(&[u8], &str); 8] = [
+    (b"desc", "descending"),
+    (b"dsc", "descending"),
+    (b"down", "descending"),
+    (b"reverse", "descending"),
+    (b"descend", "descending"),
+    (b"asc", "ascending"),
+    (b"up", "ascending"),
+    (b"ascend", "ascending"),
+];
+
+/// What follows the name of an item and its `.`, up to the next item or to its value; nothing, if it is its value that is wrong.
+fn modifier_of(rest: &[u8]) -> &[u8] {
+    let item = part_before(b',', part_before(b':', rest));
+    let modifier = after(len_before(b'.', item).saturating_add(1), item);
+    if begins(b"buckets=", modifier) {
+        b""
+    } else {
+        part_before(b'=', modifier)
+    }
+}
+
+/// The modifier or the direction that was meant in an item of a list.
+fn item_meant(cause: HistCause, rest: &[u8]) -> &'static str {
+    let given = modifier_of(rest);
+    match cause {
+        HistCause::Key { .. } => { told_of(&MODIFIERS, given, first_near(given, &["hex", "log2"])) }
+        _ => told_of(
+            &DIRECTIONS,
+            given,
+            first_near(given, &["descending", "ascending"]),
+        ),
+    }
+}
+
+/// The attribute, or what of its item, that was meant in a hist trigger where these bytes are wrong.
+fn hist_meant(cause: HistCause, rest: &[u8]) -> &'static str {
+    match cause {
+        HistCause::Unknown => attribute_meant(rest),
+        HistCause::Key { .. } | HistCause::Sort { .. } => item_meant(cause, rest),
+        _ => "",
+    }
+}
+
 /// The attribute that was meant in a hist trigger, where these bytes begin none.
-fn attribute_meant(cause: HistCause, rest: &[u8]) -> &'static str {
-    let HistCause::Unknown = cause else {
-        return "";
-    };
+fn attribute_meant(rest: &[u8]) -> &'static str {
     let part = part_before(b':', rest);
     first_near(
         up_to(len_before(b'=', part).saturating_add(1), part),
@@ -110,13 +202,22 @@ fn field_meant<'a>(events: &'a [EventDef], event: &[u8], name: &[u8]) -> &'a [u8
     near.map(|field| field.name.as_bytes()).unwrap_or(&[])
 }
 
+/// Fields that each event has, by other names.
+const OPERANDS: [(&[u8], &str); 4] = [
+    (b"pid", "common_pid"),
+    (b"PID", "common_pid"),
+    (b"cpu", "common_cpu"),
+    (b"CPU", "common_cpu"),
+];
+
 /// A field of the event, or else one that each event has, by what begins with its name.
 fn operand_meant<'a>(events: &'a [EventDef], event: &[u8], rest: &[u8]) -> &'a [u8] {
     let len = rest.iter().take_while(|byte| is_name_byte(**byte)).count();
     let name = up_to(len, rest);
     let field = field_meant(events, event, name);
     if field.is_empty() {
-        first_near(name, &["common_pid", "common_cpu"]).as_bytes()
+        let near = first_near(name, &["common_pid", "common_cpu"]);
+        told_of(&OPERANDS, name, near).as_bytes()
     } else {
         field
     }
@@ -144,7 +245,7 @@ pub(crate) fn command_meant(
         Refusal::BadDefinition { at, cause } => {
             declaration_meant(*cause, after(*at, text)).as_bytes()
         }
-        Refusal::HistSyntax { at, cause } => attribute_meant(*cause, after(*at, text)).as_bytes(),
+        Refusal::HistSyntax { at, cause } => hist_meant(*cause, after(*at, text)).as_bytes(),
         Refusal::NoSuchField { at } => operand_meant(events, event, after(*at, text)),
         Refusal::BadRow { row } if matches!(row.get().cause, RowCause::Unknown) => {
             field_meant(events, event, row.get().field.as_bytes())

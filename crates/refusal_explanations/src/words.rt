@@ -1,18 +1,21 @@
 //! What is wrong, in words: one table from refusals, and the causes that they carry. What follows the offset, or the file that is written, chooses only
 //! among words for the same cause.
 
-ghost use Rattle.std.specs.Prelude.{◌≡◌, option_copied};
+ghost use Rattle.std.specs.Prelude.{◌≡◌, IfOk, option_copied};
 ghost use Rattle.refusal_explanations.specs.Words as words;
 
 use crate::caret::is_quote;
 use crate::cut::{after, begins, ends_with, first_word, part_before};
+use crate::hist::hist_words;
+use crate::left_out::{FIELDS, TRIGGERS, name_at, told_of};
 use crate::place::{attribute_at, is_bare_hist, mark_len};
 use crate::subject::{Subject, written_subject};
-use trace_command::{Limit, Refusal};
+use std::alloc::{AllocError, Global};
+use trace_command::{Command, Limit, Refusal};
 use trace_filter::{FilterCause, is_sign};
 use trace_format::{DeclarationCause, RowCause};
 use trace_lex::blanks_len;
-use trace_trigger::{HistCause, OperatorCause, TextCause};
+use trace_trigger::{OperatorCause, TextCause};
 
 /// A name is due, and these bytes follow.
 fn name_words(rest: &[u8]) -> &'static str
@@ -30,6 +33,7 @@ fn declaration_words(cause: DeclarationCause, rest: &[u8]) -> &'static str
     ensures { result.now ≡ words.declaration_words cause rest.now }
 {
     match cause {
+        DeclarationCause::EventName if begins(b"!", rest) => "a declared event can't be removed",
         DeclarationCause::EventName => "expected the event's name",
         DeclarationCause::FieldType if begins(b"char[", rest) => {
             "expected the length after the field's name, as `char name[16]`"
@@ -37,7 +41,7 @@ fn declaration_words(cause: DeclarationCause, rest: &[u8]) -> &'static str
         DeclarationCause::FieldType => "expected a type, as `u64` or `char`",
         DeclarationCause::UnsignedType => "expected `int` or `long`",
         DeclarationCause::StringField => {
-            "expected a new field's name and its length, as `name[16]`"
+            "expected a new field's name and its length from 1 to 64, as `name[16]`"
         }
         DeclarationCause::FieldName => name_words(rest),
         DeclarationCause::ReservedName => "this name is reserved",
@@ -102,33 +106,20 @@ fn operator_words(cause: OperatorCause, rest: &[u8]) -> &'static str
     }
 }
 
-/// What is wrong with a hist trigger.
-fn hist_words(cause: HistCause) -> &'static str
-    ensures { result.now ≡ words.hist_words cause }
+fn no_field_words(subject: Subject) -> &'static str
+    ensures { result.now ≡ words.no_field_words subject }
 {
-    match cause {
-        HistCause::Unknown => "expected an attribute, as `keys=`",
-        HistCause::Size => "expected one `size=` and its digits",
-        HistCause::Action => "there is an action already",
-        HistCause::Repeated => "this attribute is there already",
-        HistCause::Key { is_first: true } => {
-            "expected a field, alone or with `.hex`, `.log2` or `.buckets=N`"
-        }
-        HistCause::Key { is_first: false } => {
-            "expected another field, alone or with `.hex`, `.log2` or `.buckets=N`"
-        }
-        HistCause::Value { is_first: true } => "expected a field",
-        HistCause::Value { is_first: false } => "expected another field",
-        HistCause::Sort { is_first: true } => {
-            "expected `hitcount`, a key or a value, alone or with `.ascending` or `.descending`"
-        }
-        HistCause::Sort { is_first: false } => {
-            "expected another key or value, or `hitcount`, alone or with `.ascending` or `.descending`"
-        }
-        HistCause::Name => "expected a table's name",
-        HistCause::NoKeys => "expected `:keys=` and a field",
-        HistCause::Condition => "expected `if`, a blank and a filter",
+    match subject {
+        Subject::AllFilters => "an event has no field of this name",
+        _ => "the event has no field of this name",
     }
+}
+
+/// What is wrong where a name is no field's.
+fn field_words(subject: Subject, rest: &[u8]) -> &'static str
+    ensures { result.now ≡ words.field_words subject rest.now }
+{
+    told_of(&FIELDS, name_at(rest), no_field_words(subject))
 }
 
 /// What is wrong with a row at a name.
@@ -171,7 +162,7 @@ fn kind_words(body: &[u8]) -> &'static str
     } else if is_bare_hist(body) {
         "expected `:keys=` and a field"
     } else {
-        "expected `hist:` or `snapshot`"
+        told_of(&TRIGGERS, name_at(body), "expected `hist:` or `snapshot`")
     }
 }
 
@@ -262,14 +253,14 @@ pub(crate) fn refusal_words(
         (Refusal::BadDefinition { at, cause }, _) => declaration_words(*cause, after(*at, text)),
         (Refusal::TooBig, _) => "a record of the event would be longer than a page",
         (Refusal::FilterSyntax { at, cause }, _) => filter_words(*cause, after(*at, text)),
-        (Refusal::NoSuchField { .. }, Subject::AllFilters) => "an event has no field of this name",
-        (Refusal::NoSuchField { .. }, _) => "the event has no field of this name",
+        (Refusal::NoSuchField { at }, _) => field_words(subject, after(*at, text)),
         (Refusal::WrongOperator { at, cause }, _) => operator_words(*cause, after(*at, text)),
-        (Refusal::HistSyntax { cause, .. }, _) => hist_words(*cause),
+        (Refusal::HistSyntax { at, cause }, _) => hist_words(*cause, after(*at, text)),
         (Refusal::BadSize, _) => "expected a size from 65 to 131072",
         (Refusal::TriggerExists, _) => exists_words(text),
         (Refusal::NoSuchTrigger, _) if begins(b"!", text) => "the event has no such trigger",
-        (Refusal::NoSuchTrigger, _) => "expected `>>` and a trigger that the event has",
+        (Refusal::NoSuchTrigger, _) =>
+            "expected `>>` and a trigger that the event has, with its name, keys, values, sort and filter",
         (Refusal::TooMany { limit }, _) => limit_words(*limit),
         (Refusal::InstanceExists, _) => "there is an instance of this name already",
         (Refusal::NoSuchInstance, _) => "there is no instance of this name",
@@ -299,5 +290,43 @@ pub fn injection_words(refusal: Option<&Refusal>) -> &'static str
     match refusal {
         None => "expected `NAME=VALUE ..`",
         Some(refusal) => refusal_words(Subject::Emission, b"", b"", refusal),
+    }
+}
+
+/// What is wrong with a refused command.
+pub fn command_words(command: &Command<'_>, refusal: &Refusal) -> &'static str
+    ensures { result.now ≡ words.command_words command.now refusal.now }
+{
+    match command {
+        Command::Emit { .. } => injection_words(Some(refusal)),
+        Command::Mkdir(path) | Command::Rmdir(path) => {
+            refusal_words(Subject::Instance, path.as_bytes(), b"", refusal)
+        }
+        Command::Write { path, text, .. } => {
+            write_words(path.as_bytes(), text.as_bytes(), refusal)
+        }
+        Command::Read { path, .. } => refusal_words(Subject::Read, path.as_bytes(), b"", refusal),
+    }
+}
+
+/// Words after the name of a field, if there is one.
+fn named(alloc: Global, name: &[u8], told: &str) -> Result<Vec<u8>, AllocError>
+    ensures { IfOk result (λ text. text.items ≡ words.named name.now told.now) }
+{
+    let mut text = Vec::from_slice(alloc, name)?;
+    if !name.is_empty() {
+        text.extend_from_slice(b": ".as_slice())?;
+    }
+    text.extend_from_slice(told.as_bytes())?;
+    Ok(text)
+}
+
+/// The sentence of a refusal: its words, of an emission's row after the name of the field.
+pub fn sentence(alloc: Global, refusal: &Refusal, told: &str) -> Result<Vec<u8>, AllocError>
+    ensures { IfOk result (λ text. text.items ≡ words.sentence_of refusal.now told.now) }
+{
+    match refusal {
+        Refusal::BadRow { row } => named(alloc, row.get().field.as_bytes(), told),
+        _ => Vec::from_slice(alloc, told.as_bytes()),
     }
 }

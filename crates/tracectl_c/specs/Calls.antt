@@ -1,5 +1,5 @@
 -- What one try of a call leaves of a handle, and its status.
-use Rattle.std.specs.Prelude.{◌≡◌, ◌⊎◌, ◌^◌, ◌-◌, ◌==◌, if◌then◌else◌, max, min, not, take, drop, ◌++◌, ℕ, ℤ, pos, neg_ℤ, Bool, true, false, List, [], length, Option, Some, None, Result, Ok, Err}
+use Rattle.std.specs.Prelude.{◌≡◌, ◌⊎◌, ◌^◌, ◌-◌, ◌==◌, if◌then◌else◌, max, min, not, take, drop, ◌++◌, ℕ, ℤ, pos, neg_ℤ, Bool, true, false, List, [], length, codes, Option, Some, None, Result, Ok, Err}
 use Rattle.trace_command.specs.Refusals.{number_of}
 use Rattle.trace_command.specs.declared.command.CommandOf.TheVariants.{Write}
 use Rattle.trace_command.specs.declared.command.Config.{Config}
@@ -12,6 +12,7 @@ use Rattle.library_tracer.specs.Consoles.{Comes, HasLeft, IsBusy, IsWornOut, Lac
 use Rattle.library_tracer.specs.ConsolesSeen.{ConsoleSeen, Known}
 use Rattle.library_tracer.specs.Masks.{IsMaskOf, Masks}
 use Rattle.library_tracer.specs.PassesSeen.{HasBack, HasTaken, NoneIsThere, PassesSeen}
+use Rattle.library_tracer.specs.Sentences.{explanation_in}
 use Rattle.library_tracer.specs.Statuses.{offset_in, reply_in}
 use Rattle.library_tracer.specs.declared.console.Tried.{Tried}
 use Rattle.library_tracer.specs.declared.console.Tried.TheVariants.{Told, Busy}
@@ -74,7 +75,7 @@ MasksOrLacksMemory said before after tried was now =
 
 -- an emission of the values that are given; one of an unknown kind is refused, and nothing is asked
 abbrev pub said_given : ℕ → ℕ → ℤ → Option (List FieldValue) → Said
-said_given event cpu process None = Tells (Refused BadValue)
+said_given event cpu process None = Tells (Refused BadValue) (codes "a value is of none of the three kinds")
 said_given event cpu process (Some values) = said_values event cpu process values
 
 -- a write, or unless the number is 0 an append
@@ -167,3 +168,12 @@ or_greatest (Some offset) = offset
 abbrev pub offset_read : Option ConsoleSeen → ℕ
 offset_read None = 2 ^ 64 - 1
 offset_read (Some console) = or_greatest (offset_in console.last)
+
+-- the sentence of what is wrong
+abbrev pub explanation_read : Option ConsoleSeen → List ℕ
+explanation_read None = []
+explanation_read (Some console) = explanation_in console.last console.words
+
+-- The text is copied as far as there is room, and its length told. Or memory was refused: the room stays, and 0 is told.
+abbrev pub Copies : List ℕ → List ℕ → List ℕ → ℕ → Type 0
+Copies text was now count = ((count ≡ length text) × (now ≡ filled text was)) ⊎ ((count ≡ 0) × (now ≡ was))

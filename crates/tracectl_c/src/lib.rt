@@ -8,8 +8,9 @@ ghost use Rattle.trace_command.specs.declared.command.CommandOf.TheVariants as c
 ghost use Rattle.tracer.specs.Lives.{most_done};
 ghost use Rattle.shared_tracer.specs.RaisedLimits.{with_limit};
 ghost use Rattle.library_tracer.specs.Consoles.{Comes, Lists, says, said_emission, said_line};
+ghost use Rattle.library_tracer.specs.Sentences.{explanation_in};
 ghost use Rattle.library_tracer.specs.PassesSeen.{AreNew, HasClosed, HasTaken, IsOfPasses, PassesSeen};
-ghost use Rattle.tracectl_c.specs.Calls.{ComesMasked, IsLinedUp, Joins, Leaves, MasksOrLacksMemory, OrLacksMemory, Tries, TriesMasked, TriesWaiting, TriesWanted, config_of, limit_if, limit_of, offset_read, reply_read, filled, said_given, said_write, status_tried, waiting_number};
+ghost use Rattle.tracectl_c.specs.Calls.{ComesMasked, Copies, IsLinedUp, Joins, Leaves, MasksOrLacksMemory, OrLacksMemory, Tries, TriesMasked, TriesWaiting, TriesWanted, config_of, explanation_read, limit_if, limit_of, offset_read, reply_read, filled, said_given, said_write, status_tried, waiting_number};
 ghost use Rattle.tracectl_c.specs.GivenValues.{values_in};
 ghost use Rattle.tracectl_c.specs.Handles.{console_of, passes_of};
 
@@ -57,6 +58,12 @@ const NONE_TO_LOOK_AT: i32 = -203;
 
 /// What it tells while somebody else has a turn.
 const BUSY_TO_LOOK: i32 = -202;
+
+/// What is wrong with a value that is neither a number nor bytes.
+const NO_KIND: &str = "a value is of none of the three kinds";
+
+/// What is wrong where memory is refused.
+const NO_MEMORY: &str = "out of memory";
 
 /// What a tracer is made with. A limit of 0 is none.
 #[repr(C)]
@@ -308,7 +315,7 @@ fn emit_one(console: &mut Console, event: u32, cpu: u32, process: i32, value: &V
 {
     match value_in(value) {
         Some(value) => console.emit_values(event, cpu, process, slice::from_ref(&value)),
-        None => console.refuse(Refusal::BadValue),
+        None => console.refuse(Refusal::BadValue, NO_KIND),
     }
 }
 
@@ -329,8 +336,8 @@ fn emit_list(
 {
     match values_in(alloc, values) {
         Ok(Some(values)) => console.emit_values(event, cpu, process, &values),
-        Ok(None) => console.refuse(Refusal::BadValue),
-        Err(AllocError) => console.refuse(Refusal::Memory),
+        Ok(None) => console.refuse(Refusal::BadValue, NO_KIND),
+        Err(AllocError) => console.refuse(Refusal::Memory, NO_MEMORY),
     }
 }
 
@@ -488,6 +495,38 @@ pub extern "C" fn tracectl_try_offset(alloc: Global, thread: &mut ThreadHandle) 
     let offset = console.offset().unwrap_or(usize::MAX);
     thread.keep(console);
     offset
+}
+
+/// Copies what is wrong with the last call of a console, from this byte on and as far as there is room.
+fn copy_explanation(console: &Console, from: usize, room: &mut [u8]) -> usize
+    ensures { Copies (drop from (explanation_in console.now.last console.now.words)) room.old room.new result }
+{
+    let Ok(text) = console.explanation() else {
+        return 0;
+    };
+    let rest = rest_of(&text, from);
+    copy_front(rest, room);
+    rest.len()
+}
+
+/// Copies what is wrong with the thread's last call, a sentence, from this byte on and as far as there is room, and tells how many bytes there are from there
+/// on. There are none where the call was done, memory is refused or the thread has not joined.
+#[unsafe(no_mangle)]
+pub extern "C" fn tracectl_try_explain(
+    alloc: Global,
+    thread: &mut ThreadHandle,
+    from: usize,
+    room: &mut [u8],
+) -> usize
+    ensures copied { Copies (drop from (explanation_read (console_of thread.old))) room.old room.new result }
+    ensures same { console_of thread.new ≡ console_of thread.old }
+{
+    let Some(console) = thread.take(alloc) else {
+        return 0;
+    };
+    let count = copy_explanation(&console, from, room);
+    thread.keep(console);
+    count
 }
 
 /// Tells which events are wanted, and how many commands were done by all threads. Where the status isn't 0, nothing is told.

@@ -1,5 +1,6 @@
 use Rattle.std.proofs.Common.{refl, sym, ◌∙◌}
 use Rattle.shared_tracer.specs.AskedCommands.{command_after}
+use Rattle.shared_tracer.specs.SharedCallers.{caller_view}
 use Rattle.library_tracer.proofs.ConsoleLemmas.{idle_answered, idle_busy, idle_saw, saw_nothing, was_worn}
 use Rattle.library_tracer.proofs.console.Console.ask.Goals as goal
 
@@ -21,7 +22,7 @@ returns-in-Some-answer-clause-comes g c =
         c.in-Some-answer.answer,
         rw (← c.self.view_is, c.settle.ensures) (idle_answered c.self.inside c.in-Some.caller c.try_ask-caller.result.0 c.keep.new.last
             (λ entries. command_after entries c.args.asked.now) c.in-Some-answer.answer
-            (sym c.replace.ensures.value ∙ c.in-Some.is) c.self.invariant c.keep.ensures.kept (record {
+            (sym c.replace.ensures.value ∙ c.in-Some.is) c.self.invariant (c.keep.ensures.kept, c.keep.ensures.words (caller_view c.try_ask-caller.result.0).seen) (record {
               goes_on = rw is at says.goes_on;
               done = rw is at says.done;
               refused = rw is at says.refused;

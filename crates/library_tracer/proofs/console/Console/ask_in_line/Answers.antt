@@ -1,6 +1,6 @@
 use Rattle.std.proofs.Common.{sym, ap, ◌∙◌}
 use Rattle.shared_tracer.specs.AskedCommands.{command_after}
-use Rattle.shared_tracer.specs.SharedCallers.{line_calls, line_view}
+use Rattle.shared_tracer.specs.SharedCallers.{caller_view, line_calls, line_view}
 use Rattle.library_tracer.proofs.ConsoleLemmas.{line_answered, line_busy, line_saw}
 use Rattle.library_tracer.proofs.console.Console.ask_in_line.Goals as goal
 
@@ -18,7 +18,7 @@ returns-in-Ok-clause-comes g c =
         c.in-Ok.answer,
         rw (← c.self.view_is, c.settle.ensures) (line_answered c.self.inside c.in-Some.queued c.in-Ok.caller c.replace.new.dest c.keep.new.last
             (λ entries. command_after entries c.args.asked.now) c.in-Ok.answer
-            (sym c.replace.ensures.value ∙ c.in-Some.is) c.self.invariant c.replace.ensures.after c.keep.ensures.kept (record {
+            (sym c.replace.ensures.value ∙ c.in-Some.is) c.self.invariant c.replace.ensures.after (c.keep.ensures.kept, c.keep.ensures.words (caller_view c.in-Ok.caller).seen) (record {
               goes_on = rw of at says.goes_on;
               done = rw of at says.done;
               refused = rw of at says.refused;
