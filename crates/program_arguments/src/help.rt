@@ -38,9 +38,9 @@ Example:
     emit 0 7 tick n=5
 
 Building:
-  ./tracectl first compiles the program, in about a minute, if it is missing or older than its sources. Nothing of it is proved then, as a
-  line on standard error says. ./tracectl --prove proves it: the first time in 30 minutes to an hour. Both need rt, the command of the
-  Rattle kit.
+  --version tells whether the program is proved. An installed one stays as it is. In the repository ./tracectl first compiles it, in about a
+  minute, if it is missing or older than its sources. Nothing of it is proved then, as a line on standard error says. ./tracectl --prove
+  proves it: the first time in 25 to 55 minutes. Both need rt, the command of the Rattle kit. ./install then installs the proved one.
 
 Exit status:
   0  every command succeeded
@@ -48,4 +48,4 @@ Exit status:
   2  the command line is wrong, a number is out of range, or the script has a fault
   3  out of memory, or a thread could not be started
   4  reading or writing failed, or SCRIPT can't be opened
-  5  ./tracectl could not compile or prove the program";
+  5  the program could not be compiled or proved, which only the repository's ./tracectl does";
