@@ -96,7 +96,7 @@ at-top scene owner file address there is =
 -- ---- calls
 
 -- the answer of the tracer
-answered-call : (past : List Request) (old : MountSeen) (live : LiveSeen) (request : Request) (answer : Result Answer Refusal) → live.config ≡ old.live.config
+pub answered-call : (past : List Request) (old : MountSeen) (live : LiveSeen) (request : Request) (answer : Result Answer Refusal) → live.config ≡ old.live.config
     → IsCall past live request answer → IsAnswered (terms_of old) past request answer
 answered-call past old live request answer config call = record {
   reply = subst (λ (g : Config). OrMemory answer (live_answer g past request)) config call.reply;

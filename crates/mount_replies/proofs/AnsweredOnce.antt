@@ -13,9 +13,10 @@ use Rattle.file_list.specs.declared.file.FileKind.TheVariants as kinds
 use Rattle.mount_tree.specs.declared.node.Node.{Node}
 use Rattle.error_log.specs.Logs.{log_text}
 use Rattle.mount_stub_files.specs.ToolTexts.{tool_text}
+use Rattle.mount_replies.specs.Calls.{Called, Exchanged, IsTurned, Turn}
 use Rattle.mount_replies.specs.Mounted.{AreServed, Does, IsExchanged, Right, TellsOwed, Unframed, Wrong}
 use Rattle.mount_replies.specs.Owed.{Owed, ReplyAt, WakeupAt, owed, step_of_parked}
-use Rattle.mount_replies.specs.ParkedLaws.{ReadsAreAnsweredOnce, answered_once, asked_once, number_answered, number_asked, number_told, numbers_of, read_number, reads_answered, reads_asked, times}
+use Rattle.mount_replies.specs.ParkedLaws.{ReadsAreAnsweredOnce, answered_in, answered_once, asked_in, asked_once, number_answered, number_asked, number_told, numbers_of, read_number, reads_answered, reads_asked, times}
 use Rattle.mount_replies.specs.Pipes.{ends, is_dry, is_used_up}
 use Rattle.mount_replies.specs.Served.{given_counted, given_text, given_tool, is_cached, is_nonblocking, makes_text, read_dry, read_file, read_kind, read_log, read_new, read_pipe, read_shown, read_text, read_tool, step_of, taken_records, text_counted, unless_counted}
 use Rattle.mount_replies.specs.Services.{OpenSeen, Service, Terms, file_at, interrupted_if, node_of, read_of_pipe, scene_of, without_read}
@@ -231,20 +232,24 @@ once : (g : Terms) (before : Service) (asked bytes : List ℕ) (after : Service)
 once g before [] bytes after u told = told-times g before (owed g before) bytes after u told
 once g before (byte ∷ asked) bytes after u (quiet, served) = served-times g before (byte ∷ asked) bytes after u served
 
+in-turn : (g : Terms) (before : Service) (turn : Turn) (after : Service) (u : ℕ) (one : IsTurned g before turn after)
+    → times u (numbers_of before.parked) + times u (asked_in g before turn after one)
+    ≡ times u (answered_in g before turn after one) + times u (numbers_of after.parked)
+in-turn g before (Exchanged asked bytes) after u one = once g before asked bytes after u one
+in-turn g before (Called request answer) after u one = rw (ap (λ (s : Service). s.parked) one.1) (omega arith)
+
 pub reads_are_answered_once : ReadsAreAnsweredOnce
-reads_are_answered_once g before [] [] after same u = rw (ap (λ (s : Service). s.parked) same) (omega arith)
-reads_are_answered_once g before [] (bytes ∷ replies) after none u = absurd none
-reads_are_answered_once g before (asked ∷ requests) [] after none u = absurd none
-reads_are_answered_once g before (asked ∷ requests) (bytes ∷ replies) after (next, one, more) u =
-    let first : times u (numbers_of before.parked) + times u (asked_once g before asked bytes next one)
-    ≡ times u (answered_once g before asked bytes next one) + times u (numbers_of next.parked) = once g before asked bytes next u one in
-    let rest : times u (numbers_of next.parked) + times u (reads_asked g next requests replies after more)
-    ≡ times u (reads_answered g next requests replies after more) + times u (numbers_of after.parked) =
-    reads_are_answered_once g next requests replies after more u in
+reads_are_answered_once g before [] after same u = rw (ap (λ (s : Service). s.parked) same) (omega arith)
+reads_are_answered_once g before (turn ∷ turns) after (next, one, more) u =
+    let first : times u (numbers_of before.parked) + times u (asked_in g before turn next one)
+    ≡ times u (answered_in g before turn next one) + times u (numbers_of next.parked) = in-turn g before turn next u one in
+    let rest : times u (numbers_of next.parked) + times u (reads_asked g next turns after more)
+    ≡ times u (reads_answered g next turns after more) + times u (numbers_of after.parked) =
+    reads_are_answered_once g next turns after more u in
     omega (
       arith,
       first,
       rest,
-      times-append u (asked_once g before asked bytes next one) (reads_asked g next requests replies after more),
-      times-append u (answered_once g before asked bytes next one) (reads_answered g next requests replies after more),
+      times-append u (asked_in g before turn next one) (reads_asked g next turns after more),
+      times-append u (answered_in g before turn next one) (reads_answered g next turns after more),
     )

@@ -40,12 +40,14 @@ use Rattle.mount_tree.specs.declared.node.Owner.{Owner}
 use Rattle.mount_tree.specs.declared.node.Owner.TheVariants.{Top}
 use Rattle.mount_tree.specs.declared.scene.Event.{Event}
 use Rattle.mount_replies.proofs.AskedSteps.{IsOfEach, IsOfThere, parked-is, step-is}
-use Rattle.mount_replies.proofs.DoneLemmas.{exchange-done}
+use Rattle.mount_replies.proofs.DoneLemmas.{turn-done}
 use Rattle.mount_replies.proofs.PartLaws.{does-adds}
 use Rattle.mount_replies.proofs.RunLemmas.{Adds}
-use Rattle.mount_replies.specs.Mounted.{AreServed, Does, IsExchanged, IsNamed, Right, Serves, TellsOwed, Unframed, Wrong, bytes_of_reply}
+use Rattle.mount_replies.proofs.TurnLemmas.{call-does, call_step, turns-keep}
+use Rattle.mount_replies.specs.Calls.{Called, Exchanged, IsTurned, TakesTurns, Turn}
+use Rattle.mount_replies.specs.Mounted.{AreServed, Does, IsExchanged, IsNamed, Right, TellsOwed, Unframed, Wrong, bytes_of_reply}
 use Rattle.mount_replies.specs.Owed.{Owed, ReplyAt, WakeupAt, owed, step_of_parked}
-use Rattle.mount_replies.specs.PastLaws.{SizesAreLengths, TellsLength, WasDone, is_shown}
+use Rattle.mount_replies.specs.PastLaws.{SizesAreLengths, TellsLength, WasDone, is_shown, just_mounted}
 use Rattle.mount_replies.specs.Served.{step_of}
 use Rattle.mount_replies.specs.Services.{Service, Terms, count_of, is_of_node, latest_texts, most_counted, most_texts, scene_of, with_count, without_oldest, without_read}
 use Rattle.mount_replies.specs.Sizes.{Telling, count_text, counted_now, get_attributes, set_attributes, size_by_kind, size_of_text, tell_entry, tell_size, text_now, text_of_kind}
@@ -301,14 +303,18 @@ exchange-counted : (g : Terms) (before : Service) (asked bytes : List ℕ) (afte
 exchange-counted g before [] bytes after ranges was all is = owed-counted g before (owed g before) bytes after all is
 exchange-counted g before (byte ∷ asked) bytes after ranges was all is = served-counted g before (byte ∷ asked) bytes after ranges was all is.1
 
-all-counted : (g : Terms) (before : Service) (requests messages : List (List ℕ)) (after : Service) → IsInRange g.config → WasDone g before.past
-    → HasCounted g before → Serves g before requests messages after → HasCounted g after
-all-counted g before [] [] after ranges was all is = subst (HasCounted g) (sym is) all
-all-counted g before [] (bytes ∷ messages) after ranges was all is = absurd is
-all-counted g before (asked ∷ requests) [] after ranges was all is = absurd is
-all-counted g before (asked ∷ requests) (bytes ∷ messages) after ranges was all is =
-    all-counted g is.0 requests messages after ranges (exchange-done g before asked bytes is.0 was is.1)
-    (exchange-counted g before asked bytes is.0 ranges was all is.1) is.2
+-- a call counts nothing
+turn-counted : (g : Terms) (before : Service) (turn : Turn) (after : Service) → IsInRange g.config → WasDone g before.past → HasCounted g before
+    → IsTurned g before turn after → HasCounted g after
+turn-counted g before (Exchanged asked bytes) after ranges was all is = exchange-counted g before asked bytes after ranges was all is
+turn-counted g before (Called request answer) after ranges was all is =
+    same-counted g before (call_step g before request) (Some replies.Done) after all (call-does g before request answer after is) (ap counted_of is.1)
+
+all-counted : (g : Terms) (turns : List Turn) (after : Service) → IsInRange g.config → TakesTurns g just_mounted turns after → HasCounted g after
+all-counted g turns after ranges is =
+    (turns-keep g (λ (s : Service). WasDone g s.past × HasCounted g s)
+    (λ before turn next both one. (turn-done g before turn next both.0 one, turn-counted g before turn next ranges both.0 both.1 one)) just_mounted turns after
+    (record { done = tt; few = omega arith }, All-nil (IsCounted g [])) is).1
 
 -- ---- sizes that are told
 
@@ -372,7 +378,7 @@ set-same : (g : Terms) (s : Service) (target : Option Node) (valid size : ℕ) �
 set-same g s target valid size sets = rw sets refl
 
 pub sizes_are_lengths : SizesAreLengths
-sizes_are_lengths g requests messages before after request bytes owner file ranges served is shown there = (
+sizes_are_lengths g turns before after request bytes owner file ranges served is shown there = (
   λ asks named. attributes-told (attributes-step named) (rw asks at is.does),
   λ valid asked asks sets named. attributes-told (set-same g before is.node valid asked sets ∙ attributes-step named) (rw asks at is.does),
   λ name folder asks named found.
@@ -383,7 +389,7 @@ sizes_are_lengths g requests messages before after request bytes owner file rang
 )
   where
     all : HasCounted g before
-    all = all-counted g _ requests messages before ranges (record { done = tt; few = omega arith }) (All-nil (IsCounted g [])) served
+    all = all-counted g turns before ranges served
 
     attributes-step : IsNamed request.node (Some (nodes.File owner file))
         → get_attributes g before is.node ≡ tell_size g before (λ size. replies.Attributes (attributes_of g (nodes.File owner file) size)) (nodes.File owner file)

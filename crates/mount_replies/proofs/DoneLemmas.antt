@@ -1,6 +1,7 @@
 -- What a mounted tracer did was done.
 use Rattle.std.proofs.Common.{◌≡◌, inl, inr, ℕ, ◌<◌, Bool, true, false, nat_lt, List, [], ◌∷◌, length, Option, Some, None, Result, Ok, Err, refl, sym, ap, subst, arith, ltb-true, append-nil}
 use Rattle.fuse_wire.specs.declared.reply.Reply.{Reply}
+use Rattle.fuse_wire.specs.declared.reply.Reply.TheVariants as replies
 use Rattle.trace_command.specs.Requests.{Request}
 use Rattle.trace_command.specs.declared.command.Config.{Config}
 use Rattle.trace_command.specs.declared.command.Reply.{Reply as Answer}
@@ -15,9 +16,11 @@ use Rattle.tracer.specs.Lives.{limited_answer, live_answer, most_done}
 use Rattle.mount_replies.proofs.AnswerLemmas.{may-noting}
 use Rattle.mount_replies.proofs.NewEvents.{declared-new}
 use Rattle.mount_replies.proofs.RunLemmas.{any-lines, lines-keep}
-use Rattle.mount_replies.specs.Mounted.{AreServed, Does, IsExchanged, MayAnswer, Right, Serves, TellsOwed, Unframed, Wrong, past_after}
+use Rattle.mount_replies.proofs.TurnLemmas.{call-does, call_step, turns-keep}
+use Rattle.mount_replies.specs.Calls.{Called, Exchanged, IsTurned, Turn}
+use Rattle.mount_replies.specs.Mounted.{AreServed, Does, IsExchanged, MayAnswer, Right, TellsOwed, Unframed, Wrong, past_after}
 use Rattle.mount_replies.specs.Owed.{Owed, ReplyAt, WakeupAt, owed}
-use Rattle.mount_replies.specs.PastLaws.{PastsAreDone, WasDone}
+use Rattle.mount_replies.specs.PastLaws.{PastsAreDone, WasDone, just_mounted}
 use Rattle.mount_replies.specs.Services.{Service, Terms}
 use Rattle.mount_replies.specs.Steps.{Asks, AsksLines, AsksNoting, Counts, Interrupts, Parks, Plain, Step, Takes, Tells}
 
@@ -86,16 +89,14 @@ pub exchange-done : (g : Terms) (before : Service) (asked bytes : List ℕ) (aft
 exchange-done g before [] bytes after was is = owed-done g before (owed g before) bytes after was is
 exchange-done g before (byte ∷ asked) bytes after was is = served-done g before (byte ∷ asked) bytes after was is.1
 
-pub all-done : (g : Terms) (before : Service) (requests messages : List (List ℕ)) (after : Service) → WasDone g before.past
-    → Serves g before requests messages after → WasDone g after.past
-all-done g before [] [] after was is = subst (λ (s : Service). WasDone g s.past) (sym is) was
-all-done g before [] (bytes ∷ messages) after was is = absurd is
-all-done g before (asked ∷ requests) [] after was is = absurd is
-all-done g before (asked ∷ requests) (bytes ∷ messages) after was is =
-    all-done g is.0 requests messages after (exchange-done g before asked bytes is.0 was is.1) is.2
+pub turn-done : (g : Terms) (before : Service) (turn : Turn) (after : Service) → WasDone g before.past → IsTurned g before turn after → WasDone g after.past
+turn-done g before (Exchanged asked bytes) after was is = exchange-done g before asked bytes after was is
+turn-done g before (Called request answer) after was is =
+    does-done g before (call_step g before request) (Some replies.Done) after was (call-does g before request answer after is)
 
 pub pasts_are_done : PastsAreDone
-pasts_are_done g requests messages after is = all-done g _ requests messages after (record { done = tt; few = omega arith }) is
+pasts_are_done g turns after is =
+    turns-keep g (λ (s : Service). WasDone g s.past) (turn-done g) just_mounted turns after (record { done = tt; few = omega arith }) is
 
 -- ---- events
 

@@ -9,8 +9,9 @@ use Rattle.std.proofs.lemmas.List.Folds.{find-append}
 use Rattle.std.proofs.lemmas.List.Splits.{join_with_byte-slice_split}
 use Rattle.std.proofs.lemmas.Slice.Eq.{bytes_eq-Decides}
 use Rattle.fuse_wire.specs.declared.reply.Reply.{Reply}
+use Rattle.fuse_wire.specs.declared.reply.Reply.TheVariants as replies
 use Rattle.trace_command.specs.Paths.{below_mount_point, instance_in, instance_of, mount_point, parts}
-use Rattle.trace_command.specs.Requests.{RemoveInstance, Request, request_of}
+use Rattle.trace_command.specs.Requests.{Emission, MakeInstance, ReadFile, RemoveInstance, Request, WriteFile, request_of}
 use Rattle.trace_command.specs.declared.command.CommandOf.TheVariants as commands
 use Rattle.trace_command.specs.declared.command.Reply.{Reply as Answer}
 use Rattle.trace_command.specs.declared.refusal.Refusal.{Refusal}
@@ -30,11 +31,13 @@ use Rattle.mount_tree.specs.declared.node.Owner.{Owner}
 use Rattle.mount_tree.specs.declared.node.Owner.TheVariants.{Top, Made}
 use Rattle.mount_tree.specs.declared.scene.Instance.{Instance}
 use Rattle.mount_replies.proofs.AskedSteps.{IsOfEach, IsOfThere, NotesThere, parked-is, step-is}
-use Rattle.mount_replies.proofs.DoneLemmas.{exchange-done}
+use Rattle.mount_replies.proofs.DoneLemmas.{turn-done}
 use Rattle.mount_replies.proofs.RunLemmas.{lines-keep}
-use Rattle.mount_replies.specs.Mounted.{AreServed, Does, IsExchanged, Right, Serves, TellsOwed, Unframed, Wrong, past_after}
+use Rattle.mount_replies.proofs.TurnLemmas.{call-does, call_step, turns-keep}
+use Rattle.mount_replies.specs.Calls.{Called, Exchanged, IsTurned, Turn}
+use Rattle.mount_replies.specs.Mounted.{AreServed, Does, IsExchanged, Right, TellsOwed, Unframed, Wrong, past_after}
 use Rattle.mount_replies.specs.Owed.{Owed, ReplyAt, WakeupAt, owed, step_of_parked}
-use Rattle.mount_replies.specs.PastLaws.{ErrorsAreOfInstances, WasDone}
+use Rattle.mount_replies.specs.PastLaws.{ErrorsAreOfInstances, WasDone, just_mounted}
 use Rattle.mount_replies.specs.Served.{forgotten, step_of}
 use Rattle.mount_replies.specs.Services.{Service, Terms, without_read}
 use Rattle.mount_replies.specs.Steps.{Asks, AsksLines, AsksNoting, Counts, Forgets, Interrupts, Keeps, Notes, Noting, Parks, Plain, Step, Takes, Tells, errors_after}
@@ -279,14 +282,24 @@ exchange-owned : (g : Terms) (before : Service) (asked bytes : List ℕ) (after 
 exchange-owned g before [] bytes after was all is = owed-owned g before (owed g before) bytes after was all is
 exchange-owned g before (byte ∷ asked) bytes after was all is = served-owned g before (byte ∷ asked) bytes after was all is.1
 
-all-owned : (g : Terms) (before : Service) (requests messages : List (List ℕ)) (after : Service) → WasDone g before.past → Owned g before
-    → Serves g before requests messages after → Owned g after
-all-owned g before [] [] after was all is = subst (Owned g) (sym is) all
-all-owned g before [] (bytes ∷ messages) after was all is = absurd is
-all-owned g before (asked ∷ requests) [] after was all is = absurd is
-all-owned g before (asked ∷ requests) (bytes ∷ messages) after was all is =
-    all-owned g is.0 requests messages after (exchange-done g before asked bytes is.0 was is.1) (exchange-owned g before asked bytes is.0 was all is.1) is.2
+-- a call removes an instance, or takes none away and notes nothing
+call-leaves : (g : Terms) (s : Service) (request : Request) → IsOfThere LeavesAll any_count (scene_after g.config.cpus s.past) (call_step g s request)
+call-leaves g s (Emission event cpu pid pairs) = inl (refl, λ answer. tt)
+call-leaves g s (MakeInstance name) = inl (refl, λ answer. tt)
+call-leaves g s (RemoveInstance None) = inl (refl, λ answer. tt)
+call-leaves g s (RemoveInstance (Some name)) = inr (record { name = name; is = refl; notes = refl })
+call-leaves g s (WriteFile instance file append text) = inl (refl, λ answer. tt)
+call-leaves g s (ReadFile instance file limit) = inl (refl, λ answer. tt)
+
+turn-owned : (g : Terms) (before : Service) (turn : Turn) (after : Service) → WasDone g before.past → Owned g before → IsTurned g before turn after
+    → Owned g after
+turn-owned g before (Exchanged asked bytes) after was all is = exchange-owned g before asked bytes after was all is
+turn-owned g before (Called request answer) after was all is =
+    does-owned g before (call_step g before request) (Some replies.Done) after was (call-leaves g before request) all
+    (call-does g before request answer after is)
 
 pub errors_are_of_instances : ErrorsAreOfInstances
-errors_are_of_instances g requests messages after is =
-    all-owned g _ requests messages after (record { done = tt; few = omega arith }) (All-nil (λ (e : ErrorSeen). IsOwned g [] e.owner)) is
+errors_are_of_instances g turns after is =
+    (turns-keep g (λ (s : Service). WasDone g s.past × Owned g s)
+    (λ before turn next both one. (turn-done g before turn next both.0 one, turn-owned g before turn next both.0 both.1 one)) just_mounted turns after
+    (record { done = tt; few = omega arith }, All-nil (λ (e : ErrorSeen). IsOwned g [] e.owner)) is).1

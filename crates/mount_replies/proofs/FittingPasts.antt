@@ -1,7 +1,7 @@
 -- The numbers of what a mounted tracer did fit their types.
 use Rattle.std.proofs.Common.{inl, inr, ℕ, ◌/◌, ◌%◌, ◌^◌, ◌<◌, ◌≤◌, max, min, List, [], ◌∷◌, Option, Some, None, Result, Ok, Err, sym, subst, arith}
 use Rattle.std.specs.List.{All}
-use Rattle.std.proofs.lemmas.List.Elements.{All-cons, All-nil}
+use Rattle.std.proofs.lemmas.List.Elements.{All-cons, All-head, All-nil, All-tail}
 use Rattle.fuse_wire.specs.declared.reply.Reply.{Reply}
 use Rattle.trace_command.specs.Configs.{IsInRange}
 use Rattle.trace_command.specs.Requests.{FitsItsTypes, Request, request_of}
@@ -11,7 +11,8 @@ use Rattle.trace_command.specs.declared.refusal.Refusal.{Refusal}
 use Rattle.mount_tree.specs.ScenesAfter.{scene_after}
 use Rattle.mount_replies.proofs.AskedSteps.{IsOfEach, IsOfThere, parked-is, step-is}
 use Rattle.mount_replies.proofs.RunLemmas.{lines-keep}
-use Rattle.mount_replies.specs.Mounted.{AreServed, Does, IsExchanged, Right, Serves, TellsOwed, Unframed, Wrong, past_after}
+use Rattle.mount_replies.specs.Calls.{CallFits, Called, Exchanged, IsTurned, TakesTurns, Turn}
+use Rattle.mount_replies.specs.Mounted.{AreServed, Does, IsExchanged, Right, TellsOwed, Unframed, Wrong, past_after}
 use Rattle.mount_replies.specs.Owed.{Owed, ReplyAt, WakeupAt, owed, step_of_parked}
 use Rattle.mount_replies.specs.PastLaws.{PastsFitTheirTypes, just_mounted}
 use Rattle.mount_replies.specs.Served.{step_of}
@@ -89,12 +90,15 @@ module _ (g : Terms) (range : IsInRange g.config) where
   exchange-fits before [] bytes after all is = owed-fits before (owed g before) bytes after all is
   exchange-fits before (byte ∷ asked) bytes after all is = served-fits before (byte ∷ asked) bytes after all is.1
 
-  all-fit : (before : Service) (requests messages : List (List ℕ)) (after : Service) → Fit before.past → Serves g before requests messages after → Fit after.past
-  all-fit before [] [] after all is = subst (λ (s : Service). Fit s.past) (sym is) all
-  all-fit before [] (bytes ∷ messages) after all is = absurd is
-  all-fit before (asked ∷ requests) [] after all is = absurd is
-  all-fit before (asked ∷ requests) (bytes ∷ messages) after all is =
-      all-fit is.0 requests messages after (exchange-fits before asked bytes is.0 all is.1) is.2
+  turn-fits : (before : Service) (turn : Turn) (after : Service) → CallFits turn → Fit before.past → IsTurned g before turn after → Fit after.past
+  turn-fits before (Exchanged asked bytes) after fits all is = exchange-fits before asked bytes after all is
+  turn-fits before (Called request answer) after fits all is =
+      subst (λ (s : Service). Fit s.past) (sym is.1) (one-fits before.past request answer fits all)
+
+  all-fit : (before : Service) (turns : List Turn) (after : Service) → All CallFits turns → Fit before.past → TakesTurns g before turns after → Fit after.past
+  all-fit before [] after fit all is = subst (λ (s : Service). Fit s.past) (sym is) all
+  all-fit before (turn ∷ turns) after fit all is =
+      all-fit is.0 turns after (All-tail CallFits turn turns fit) (turn-fits before turn is.0 (All-head CallFits turn turns fit) all is.1) is.2
 
 pub pasts_fit_their_types : PastsFitTheirTypes
-pasts_fit_their_types g requests messages after range is = all-fit g range just_mounted requests messages after (All-nil FitsItsTypes) is
+pasts_fit_their_types g turns after range fit is = all-fit g range just_mounted turns after fit (All-nil FitsItsTypes) is

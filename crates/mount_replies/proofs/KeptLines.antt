@@ -33,7 +33,9 @@ use Rattle.mount_replies.proofs.FileLemmas.{none-more, none-set}
 use Rattle.mount_replies.proofs.KeptTexts.{either}
 use Rattle.mount_replies.specs.FileWrites.{event_of_file, flush_file, flush_line, has_rest, inject, release, release_line, switched, write_file, write_kind, write_other, write_tool}
 use Rattle.mount_replies.specs.Lines.{flushed, goes_on, has_newline, injected, injected_at_once, is_memory, is_newline, last_piece, pieces_of, released, stream_after, written}
-use Rattle.mount_replies.specs.Mounted.{AreServed, Does, IsExchanged, Right, Serves, TellsOwed, Unframed, Wrong}
+use Rattle.mount_replies.proofs.TurnLemmas.{turns-keep}
+use Rattle.mount_replies.specs.Calls.{Called, Exchanged, IsTurned, Turn}
+use Rattle.mount_replies.specs.Mounted.{AreServed, Does, IsExchanged, Right, TellsOwed, Unframed, Wrong}
 use Rattle.mount_replies.specs.Owed.{Owed, ReplyAt, WakeupAt, owed, step_of_parked}
 use Rattle.mount_replies.specs.PastLaws.{just_mounted}
 use Rattle.mount_replies.specs.Pipes.{ends, is_dry, is_used_up, would_wait}
@@ -466,14 +468,11 @@ exchange-none : (g : Terms) (before : Service) (asked bytes : List ℕ) (after :
 exchange-none g before [] bytes after none told = told-none g before (owed g before) bytes after none told
 exchange-none g before (byte ∷ asked) bytes after none (quiet, served) = asked-none g before (byte ∷ asked) bytes after none served
 
-all-none : (g : Terms) (before : Service) (requests messages : List (List ℕ)) (after : Service) → NoneKeepsMore before.files → Serves g before requests messages after
+turn-none : (g : Terms) (before : Service) (turn : Turn) (after : Service) → NoneKeepsMore before.files → IsTurned g before turn after
     → NoneKeepsMore after.files
-all-none g before [] [] after none is = subst (λ (s : Service). NoneKeepsMore s.files) (sym is) none
-all-none g before [] (bytes ∷ messages) after none is = absurd is
-all-none g before (asked ∷ requests) [] after none is = absurd is
-all-none g before (asked ∷ requests) (bytes ∷ messages) after none (next, one, more) =
-    all-none g next requests messages after (exchange-none g before asked bytes next none one) more
+turn-none g before (Exchanged asked bytes) after none is = exchange-none g before asked bytes after none is
+turn-none g before (Called request answer) after none is = subst (λ (s : Service). NoneKeepsMore s.files) (sym is.1) none
 
 pub open_files_keep_lines : OpenFilesKeepLines
-open_files_keep_lines g requests messages after is handle file opened =
-    kept-line after.files handle file (all-none g just_mounted requests messages after refl is) opened
+open_files_keep_lines g turns after is handle file opened =
+    kept-line after.files handle file (turns-keep g (λ (s : Service). NoneKeepsMore s.files) (turn-none g) just_mounted turns after refl is) opened

@@ -13,8 +13,10 @@ pub mod ServeLemmas
 pub mod OwedLemmas
 pub mod PartLaws
 pub mod NewEvents
+pub mod TurnLemmas
 pub mod DoneLemmas
 pub mod AddressLemmas
+pub mod CallLemmas
 pub mod SwitchLemmas
 pub mod ShownLemmas
 pub mod TimesLemmas

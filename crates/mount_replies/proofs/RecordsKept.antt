@@ -1,5 +1,5 @@
 -- No record is lost, or told twice.
-use Rattle.std.proofs.Common.{◌≡◌, inl, inr, ℕ, ◌==◌, ◌&&◌, Bool, true, false, if◌then◌else◌, List, [], ◌∷◌, ◌++◌, length, drop, min, Option, Some, None, unwrap_or, Result, Ok, Err, refl, sym, ap, subst, ◌∙◌, arith}
+use Rattle.std.proofs.Common.{◌≡◌, inl, inr, ℕ, ◌==◌, ◌&&◌, Bool, true, false, if◌then◌else◌, List, [], ◌∷◌, ◌++◌, length, drop, min, Option, Some, None, unwrap_or, Result, Ok, Err, refl, sym, ap, subst, ◌∙◌, append-nil, arith}
 use Rattle.std.proofs.lemmas.Bool.{eqb-true, false≢true}
 use Rattle.std.proofs.lemmas.List.{take-append-drop}
 use Rattle.std.specs.Option.{option_and_then}
@@ -15,9 +15,10 @@ use Rattle.file_list.specs.declared.file.FileKind.{FileKind}
 use Rattle.file_list.specs.declared.file.FileKind.TheVariants as kinds
 use Rattle.mount_tree.specs.declared.node.Node.{Node}
 use Rattle.mount_stub_files.specs.ToolTexts.{tool_text}
+use Rattle.mount_replies.specs.Calls.{Called, Exchanged}
 use Rattle.mount_replies.specs.Mounted.{AreServed, Does, Right, TellsOwed, Unframed, Wrong}
 use Rattle.mount_replies.specs.Owed.{Owed, ReplyAt, WakeupAt, owed, step_of_parked}
-use Rattle.mount_replies.specs.ParkedLaws.{NoRecordIsLostOrToldTwice, given_asked, given_by, given_told, is_read_of, taken_asked, taken_by, taken_told}
+use Rattle.mount_replies.specs.ParkedLaws.{NoRecordIsLostOrToldTwice, given_asked, given_by, given_told, is_read_of, kept_for, taken_asked, taken_by, taken_told}
 use Rattle.mount_replies.specs.Pipes.{ends, is_dry, is_used_up}
 use Rattle.mount_replies.specs.Served.{given_counted, given_records, given_text, given_tool, goes_on_in, is_cached, is_nonblocking, makes_text, part_of, read_dry, read_file, read_kind, read_log, read_new, read_pipe, read_shown, read_text, read_tool, step_of, taken_records, text_counted, unless_counted, with_going_on}
 use Rattle.mount_replies.specs.Services.{OpenSeen, Service, Terms, after_reading, armed, file_at, is_read_out, most_data, node_of, read_of_pipe, scene_of, text_at, with_dry_read, with_reading, with_records, without_read, without_wakeup}
@@ -367,6 +368,9 @@ asked-even handle g before asked bytes after (Unframed none told same) old new w
     nothing-even handle before.files after.files (ap (λ (s : Service). text_at handle s.files) same)
 
 pub no_record_is_lost_or_told_twice : NoRecordIsLostOrToldTwice
-no_record_is_lost_or_told_twice g before [] bytes after told handle old new was pipe is = told-even handle g before (owed g before) bytes after told old new was pipe is
-no_record_is_lost_or_told_twice g before (byte ∷ asked) bytes after (quiet, served) handle old new was pipe is =
+no_record_is_lost_or_told_twice g before (Exchanged [] bytes) after told handle old new was pipe is =
+    told-even handle g before (owed g before) bytes after told old new was pipe is
+no_record_is_lost_or_told_twice g before (Exchanged (byte ∷ asked) bytes) after (quiet, served) handle old new was pipe is =
     asked-even handle g before (byte ∷ asked) bytes after served old new was pipe is
+no_record_is_lost_or_told_twice g before (Called request answer) after one handle old new was pipe is =
+    append-nil (kept_for handle before) ∙ ap (λ (s : Service). kept_for handle s) (sym one.1)

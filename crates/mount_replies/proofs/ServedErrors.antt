@@ -10,11 +10,12 @@ use Rattle.error_log.specs.Logs.{cleared, errors_of, is_of, log_text, noted}
 use Rattle.file_list.specs.declared.file.FileKind.TheVariants as kinds
 use Rattle.mount_tree.specs.declared.node.Owner.{Owner}
 use Rattle.mount_replies.proofs.ToolReads.{log-step, shows-now, there-step}
-use Rattle.mount_replies.specs.Mounted.{AreServed, Does, IsExchanged, Right, Serves, TellsOwed, Unframed, Wrong}
+use Rattle.mount_replies.specs.Calls.{Called, Exchanged, IsTurned, TakesTurns, Turn}
+use Rattle.mount_replies.specs.Mounted.{AreServed, Does, IsExchanged, Right, TellsOwed, Unframed, Wrong}
 use Rattle.mount_replies.specs.Owed.{Owed, ReplyAt, WakeupAt, owed, step_of_parked}
 use Rattle.mount_replies.specs.PastLaws.{ShowsNow, just_mounted}
 use Rattle.mount_replies.specs.Served.{is_cached, read_file, step_of}
-use Rattle.mount_replies.specs.ServedErrors.{LastEightAreKept, LogReadsShowTheLastEight, change_of, changes_in, noting_asked, noting_by, noting_of, noting_told}
+use Rattle.mount_replies.specs.ServedErrors.{LastEightAreKept, LogReadsShowTheLastEight, change_of, changes_in, noting_asked, noting_by, noting_in, noting_of, noting_told}
 use Rattle.mount_replies.specs.Services.{Service, Terms, file_at, read_of_pipe, without_read}
 use Rattle.mount_replies.specs.Steps.{Asks, AsksLines, AsksNoting, Counts, Forgets, Interrupts, Keeps, Notes, Noting, Parks, Plain, Step, Takes, Tells, errors_after}
 
@@ -55,7 +56,7 @@ by-exchange : (g : Terms) (before : Service) (asked bytes : List ℕ) (after : S
 by-exchange g before [] bytes after told = by-telling g before (owed g before) bytes after told
 by-exchange g before (byte ∷ asked) bytes after (quiet, served) = by-request g before (byte ∷ asked) bytes after served
 
--- ---- all that was served
+-- ---- all turns
 
 one-more : (noting : Noting) (changes : List Change) (errors : List ErrorSeen) → errors ≡ logs_after changes
     → errors_after noting errors ≡ logs_after (change_of noting ++ changes)
@@ -63,21 +64,24 @@ one-more Keeps changes errors is = is
 one-more (Notes error) changes errors is = ap (noted error) is
 one-more (Forgets owner) changes errors is = ap (cleared owner) is
 
-all-more : (g : Terms) (before : Service) (requests messages : List (List ℕ)) (after : Service) (served : Serves g before requests messages after)
-    (changes : List Change) → before.errors ≡ logs_after changes → after.errors ≡ logs_after (changes_in g before requests messages after served ++ changes)
-all-more g before [] [] after served changes is = ap (λ (s : Service). s.errors) served ∙ is
-all-more g before [] (bytes ∷ messages) after served changes is = absurd served
-all-more g before (asked ∷ requests) [] after served changes is = absurd served
-all-more g before (asked ∷ requests) (bytes ∷ messages) after (next, one, more) changes is =
-    let noting = noting_of g before asked bytes next one in
-    all-more g next requests messages after more (change_of noting ++ changes)
-    (by-exchange g before asked bytes next one ∙ one-more noting changes before.errors is)
-    ∙ ap logs_after (sym (append_assoc (changes_in g next requests messages after more) (change_of noting) changes))
+by-turn : (g : Terms) (before : Service) (turn : Turn) (after : Service) (one : IsTurned g before turn after)
+    → after.errors ≡ errors_after (noting_in g before turn after one) before.errors
+by-turn g before (Exchanged asked bytes) after one = by-exchange g before asked bytes after one
+by-turn g before (Called request answer) after one = ap (λ (s : Service). s.errors) one.1
+
+all-more : (g : Terms) (before : Service) (turns : List Turn) (after : Service) (taken : TakesTurns g before turns after)
+    (changes : List Change) → before.errors ≡ logs_after changes → after.errors ≡ logs_after (changes_in g before turns after taken ++ changes)
+all-more g before [] after taken changes is = ap (λ (s : Service). s.errors) taken ∙ is
+all-more g before (turn ∷ turns) after (next, one, more) changes is =
+    let noting = noting_in g before turn next one in
+    all-more g next turns after more (change_of noting ++ changes)
+    (by-turn g before turn next one ∙ one-more noting changes before.errors is)
+    ∙ ap logs_after (sym (append_assoc (changes_in g next turns after more) (change_of noting) changes))
 
 pub last_eight_are_kept : LastEightAreKept
-last_eight_are_kept g requests messages after served owner =
-    let changes = changes_in g just_mounted requests messages after served in
-    ap (errors_of owner) (all-more g just_mounted requests messages after served [] refl ∙ ap logs_after (append-nil changes))
+last_eight_are_kept g turns after taken owner =
+    let changes = changes_in g just_mounted turns after taken in
+    ap (errors_of owner) (all-more g just_mounted turns after taken [] refl ∙ ap logs_after (append-nil changes))
     ∙ keeps_last_eight owner changes
 
 -- ---- what is shown
@@ -93,9 +97,9 @@ own-errors owner (error ∷ errors) = by (is_of owner error) (own-errors owner e
     by false rest = rest
 
 pub log_reads_show_the_last_eight : LogReadsShowTheLastEight
-log_reads_show_the_last_eight g requests messages before after request bytes handle size read_flags flags file served is asks direct opened kind there =
+log_reads_show_the_last_eight g turns before after request bytes handle size read_flags flags file served is asks direct opened kind there =
     let read = read_of_pipe request.unique handle size in
-    let shows = own-errors file.owner before.errors ∙ ap (flat_map error_text) (last_eight_are_kept g requests messages before served file.owner) in
+    let shows = own-errors file.owner before.errors ∙ ap (flat_map error_text) (last_eight_are_kept g turns before served file.owner) in
     subst (λ (text : List ℕ). ShowsNow before request.unique handle size text bytes after) shows
     (shows-now g before after request.unique handle size (log_text file.owner before.errors) bytes is.reply
     (read_file g before read 0 (is_cached read_flags) flags (file_at handle before.files)) is.told

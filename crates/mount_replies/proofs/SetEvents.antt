@@ -97,12 +97,12 @@ switch-step g s handle lock_owner pid size bytes own switch on opened kind there
     ∙ ap (λ (w : ToolWrite). write_tool g s handle own bytes w) comes
 
 pub set_events_are_shown : SetEventsAreShown
-set_events_are_shown g requests messages before after request bytes handle offset lock_owner own file event on size ranges served is asks opened kind there found comes =
+set_events_are_shown g turns before after request bytes handle offset lock_owner own file event on size ranges served is asks opened kind there found comes =
     by (subst (λ (s : Step). Does g before s is.reply after)
     (switch-step g before handle lock_owner request.pid size own file (OfEvent event.index per_event.Enable) on opened kind there comes) (rw asks at is.does))
   where
     sound : IsSound (scene_of g before)
-    sound = served_scenes_are_sound g requests messages before ranges served
+    sound = served_scenes_are_sound g turns before ranges served
 
     own-there : owner_is_there (scene_of g before) file.owner ≡ true
     own-there = (and_parts (owner_is_there (scene_of g before) file.owner) (file_is_there (scene_of g before) file.owner file.file) there).0

@@ -187,15 +187,15 @@ anew g before after unique handle size file meant reply bytes ranges was opened 
     })))
 
 pub reads_show_the_past : ReadsShowThePast
-reads_show_the_past g requests messages before after request bytes handle size read_flags flags file meant ranges served is asks direct opened text there means =
-    let was = pasts_are_done g requests messages before served in
+reads_show_the_past g turns before after request bytes handle size read_flags flags file meant ranges served is asks direct opened text there means =
+    let was = pasts_are_done g turns before served in
     let step = file-reads g before (read_of_pipe request.unique handle size) 0 (is_cached read_flags) flags file (file_at handle before.files) opened direct text there in
     anew g before after request.unique handle size file meant is.reply bytes ranges was opened text there means is.told
     (subst (λ (s : Step). Does g before s is.reply after) step (rw asks at is.does))
 
 pub stats_show_the_past : StatsShowThePast
-stats_show_the_past g requests messages before after request bytes handle size read_flags flags cpu file ranges served is asks direct opened stats there =
-    reads_show_the_past g requests messages before after request bytes handle size read_flags flags file (paths.OfCpu cpu per_cpu.Stats) ranges served is asks
+stats_show_the_past g turns before after request bytes handle size read_flags flags cpu file ranges served is asks direct opened stats there =
+    reads_show_the_past g turns before after request bytes handle size read_flags flags file (paths.OfCpu cpu per_cpu.Stats) ranges served is asks
     direct opened (ap (λ (f : File). is_text (kind_of_file f)) stats) there (ap (file_meant (scene_of g before)) stats)
 
 -- ---- writes
@@ -274,8 +274,8 @@ as-lines g before after unique handle file own lines reply bytes same told (ran,
 }
 
 pub writes_are_commands : WritesAreCommands
-writes_are_commands g requests messages before after request bytes handle offset lock_owner own file meant ranges served is asks opened kind there means =
-    let was = pasts_are_done g requests messages before served in
+writes_are_commands g turns before after request bytes handle offset lock_owner own file meant ranges served is asks opened kind there means =
+    let was = pasts_are_done g turns before served in
     let step = file-writes g before handle lock_owner request.pid own file (file_at handle before.files) opened kind there in
     as-lines g before after request.unique handle file own _ is.reply bytes
     (same-lines (line_command (scene_of g before) (node_of file) file.file) (line_written (instance_of g before file) meant file.file)

@@ -22,8 +22,8 @@ use Rattle.mount_replies.specs.declared.parked.Parked.{Parked}
 -- ---- scenes
 
 pub served_scenes_are_sound : ServedScenesAreSound
-served_scenes_are_sound g requests messages after ranges served =
-    let was = pasts_are_done g requests messages after served in
+served_scenes_are_sound g turns after ranges served =
+    let was = pasts_are_done g turns after served in
     scene-sound g.config after.past ranges.few_cpus was.done (events-are g.config after.past was.done)
 
 -- ---- a file that is there

@@ -38,6 +38,7 @@ use Rattle.file_list.specs.declared.file.File.TheVariants.{ErrorLog, Inject, OfE
 use Rattle.mount_tree.specs.declared.node.Node.TheVariants as nodes
 use Rattle.mount_tree.specs.declared.node.Owner.TheVariants.{Top}
 use Rattle.mount_replies.proofs.ServedTurns.{AreAskedBy, come, is_asked, message_bytes, turns_are_served}
+use Rattle.mount_replies.specs.CallExamples.{CallsWakeReaders}
 use Rattle.mount_replies.specs.ComputedSteps.{Asked, Turn, Waited, messages}
 use Rattle.mount_replies.specs.MountExamples.{SessionsAreServed, for_reading, for_writing, terms}
 use Rattle.mount_replies.specs.Mounted.{Serves}
@@ -146,6 +147,7 @@ are_asked = (
 
 pub record AreComputed : Type 0 where
   pub sessions : SessionsAreServed
+  pub calls : CallsWakeReaders
   pub come : come terms just_mounted turns ≡ true
   pub told : map message_bytes (messages terms just_mounted turns) ≡ map (λ (one : ByteExchange). one.told) session
 
@@ -161,6 +163,12 @@ are_computed = record {
   sessions = record {
     events = refl;
     pipes = refl;
+  };
+  calls = record {
+    quiet = refl;
+    answer = refl;
+    owes = refl;
+    tells = refl;
   };
   come = refl;
   told = refl;

@@ -10,6 +10,7 @@ pub mod FileWrites
 pub mod Served
 pub mod Owed
 pub mod Mounted
+pub mod Calls
 pub mod MountLaws
 pub mod ParkedLaws
 pub mod PastLaws
@@ -17,5 +18,6 @@ pub mod ServedErrors
 pub mod SetEvents
 pub mod ComputedSteps
 pub mod MountExamples
+pub mod CallExamples
 pub mod SessionBytes
 pub mod private

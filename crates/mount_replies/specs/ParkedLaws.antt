@@ -13,7 +13,8 @@ use Rattle.mount_tree.specs.Children.{is_there}
 use Rattle.file_list.specs.FileKinds.{kind_of_file}
 use Rattle.mount_tree.specs.NodePaths.{file_meant, owner_name}
 use Rattle.file_list.specs.declared.file.FileKind.TheVariants as kinds
-use Rattle.mount_replies.specs.Mounted.{AreServed, Does, IsExchanged, IsReplied, IsServed, Right, Serves, TellsOwed, Unframed, Wrong}
+use Rattle.mount_replies.specs.Calls.{Called, Exchanged, IsTurned, TakesTurns, Turn}
+use Rattle.mount_replies.specs.Mounted.{AreServed, Does, IsExchanged, IsReplied, IsServed, Right, TellsOwed, Unframed, Wrong}
 use Rattle.mount_replies.specs.Owed.{Owed, ReplyAt, WakeupAt, is_due, owed, step_of_parked}
 use Rattle.mount_replies.specs.Pipes.{ends, is_dry, is_used_up}
 use Rattle.mount_replies.specs.Served.{given_records, step_of}
@@ -56,21 +57,24 @@ abbrev pub answered_once : (g : Terms) (before : Service) (asked bytes : List �
 answered_once g before [] bytes after told = number_told g before (owed g before) bytes after told
 answered_once g before (byte ∷ asked) bytes after (quiet, served) = number_answered g before (byte ∷ asked) bytes after served
 
+-- in a turn; a call asks and answers no READ
+abbrev pub asked_in : (g : Terms) (before : Service) (turn : Turn) (after : Service) → IsTurned g before turn after → List ℕ
+asked_in g before (Exchanged asked bytes) after one = asked_once g before asked bytes after one
+asked_in g before (Called request answer) after one = []
+
+abbrev pub answered_in : (g : Terms) (before : Service) (turn : Turn) (after : Service) → IsTurned g before turn after → List ℕ
+answered_in g before (Exchanged asked bytes) after one = answered_once g before asked bytes after one
+answered_in g before (Called request answer) after one = []
+
 -- the numbers of all READs that were asked
-abbrev pub reads_asked : (g : Terms) (before : Service) (requests replies : List (List ℕ)) (after : Service) → Serves g before requests replies after → List ℕ
-reads_asked g before [] [] after same = []
-reads_asked g before (asked ∷ requests) (bytes ∷ replies) after (next, one, more) =
-    asked_once g before asked bytes next one ++ reads_asked g next requests replies after more
-reads_asked g before [] (bytes ∷ replies) after none = []
-reads_asked g before (asked ∷ requests) [] after none = []
+abbrev pub reads_asked : (g : Terms) (before : Service) (turns : List Turn) (after : Service) → TakesTurns g before turns after → List ℕ
+reads_asked g before [] after same = []
+reads_asked g before (turn ∷ turns) after (next, one, more) = asked_in g before turn next one ++ reads_asked g next turns after more
 
 -- and of all that were answered
-abbrev pub reads_answered : (g : Terms) (before : Service) (requests replies : List (List ℕ)) (after : Service) → Serves g before requests replies after → List ℕ
-reads_answered g before [] [] after same = []
-reads_answered g before (asked ∷ requests) (bytes ∷ replies) after (next, one, more) =
-    answered_once g before asked bytes next one ++ reads_answered g next requests replies after more
-reads_answered g before [] (bytes ∷ replies) after none = []
-reads_answered g before (asked ∷ requests) [] after none = []
+abbrev pub reads_answered : (g : Terms) (before : Service) (turns : List Turn) (after : Service) → TakesTurns g before turns after → List ℕ
+reads_answered g before [] after same = []
+reads_answered g before (turn ∷ turns) after (next, one, more) = answered_in g before turn next one ++ reads_answered g next turns after more
 
 -- how often a number is there
 abbrev pub times : ℕ → List ℕ → ℕ
@@ -83,9 +87,9 @@ numbers_of reads = map (λ (read : Parked). read.unique) reads
 -- the reads that waited and those that were asked are those that were answered and those that wait still
 abbrev pub ReadsAreAnsweredOnce : Type 0
 ReadsAreAnsweredOnce =
-    (g : Terms) (before : Service) (requests replies : List (List ℕ)) (after : Service) (served : Serves g before requests replies after) (unique : ℕ)
-    → times unique (numbers_of before.parked) + times unique (reads_asked g before requests replies after served)
-    ≡ times unique (reads_answered g before requests replies after served) + times unique (numbers_of after.parked)
+    (g : Terms) (before : Service) (turns : List Turn) (after : Service) (taken : TakesTurns g before turns after) (unique : ℕ)
+    → times unique (numbers_of before.parked) + times unique (reads_asked g before turns after taken)
+    ≡ times unique (reads_answered g before turns after taken) + times unique (numbers_of after.parked)
 
 -- ---- no record is lost, or told twice
 
@@ -153,14 +157,22 @@ abbrev pub given_to : (handle : ℕ) (g : Terms) (before : Service) (asked bytes
 given_to handle g before [] bytes after told = given_told handle g before (owed g before) bytes after told
 given_to handle g before (byte ∷ asked) bytes after (quiet, served) = given_asked handle g before (byte ∷ asked) bytes after served
 
--- Of a pipe that is open before an exchange and after it: what was kept, and then what was taken, is what was given, and then what is kept. An exchange
--- that is no read of the pipe's handle takes and gives nothing, so it leaves what is kept as it was. What is kept when the file is closed is lost.
+-- in a turn; a call takes nothing for a handle, whatever it reads
+abbrev pub taken_in : (handle : ℕ) (g : Terms) (before : Service) (turn : Turn) (after : Service) → IsTurned g before turn after → List ℕ
+taken_in handle g before (Exchanged asked bytes) after one = taken_for handle g before asked bytes after one
+taken_in handle g before (Called request answer) after one = []
+
+abbrev pub given_in : (handle : ℕ) (g : Terms) (before : Service) (turn : Turn) (after : Service) → IsTurned g before turn after → List ℕ
+given_in handle g before (Exchanged asked bytes) after one = given_to handle g before asked bytes after one
+given_in handle g before (Called request answer) after one = []
+
+-- Of a pipe that is open before a turn and after it: what was kept, and then what was taken, is what was given, and then what is kept. A turn that is no
+-- read of the pipe's handle takes and gives nothing, so it leaves what is kept as it was. What is kept when the file is closed is lost.
 abbrev pub NoRecordIsLostOrToldTwice : Type 0
 NoRecordIsLostOrToldTwice =
-    (g : Terms) (before : Service) (asked bytes : List ℕ) (after : Service) (exchanged : IsExchanged g before asked bytes after) (handle : ℕ) (old new : OpenSeen)
+    (g : Terms) (before : Service) (turn : Turn) (after : Service) (one : IsTurned g before turn after) (handle : ℕ) (old new : OpenSeen)
     → file_at handle before.files ≡ Some old → kind_of_file old.file ≡ kinds.Pipe → file_at handle after.files ≡ Some new
-    → kept_for handle before ++ taken_for handle g before asked bytes after exchanged
-    ≡ given_to handle g before asked bytes after exchanged ++ kept_for handle after
+    → kept_for handle before ++ taken_in handle g before turn after one ≡ given_in handle g before turn after one ++ kept_for handle after
 
 -- a parked read that was interrupted gets EINTR, and takes nothing; its poll, if it has one, is to be told again
 abbrev pub InterruptedReadsTakeNothing : Type 0

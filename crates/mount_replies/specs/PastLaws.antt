@@ -29,10 +29,11 @@ use Rattle.mount_tree.specs.declared.node.Owner.{Owner}
 use Rattle.file_list.specs.declared.file.FileKind.{FileKind}
 use Rattle.file_list.specs.declared.file.FileKind.TheVariants as kinds
 use Rattle.mount_stub_files.specs.ToolTexts.{tool_text}
+use Rattle.mount_replies.specs.Calls.{CallFits, TakesTurns, Turn}
 use Rattle.mount_replies.specs.Errnos.{errno_of}
 use Rattle.mount_replies.specs.FileWrites.{begun_now}
 use Rattle.mount_replies.specs.Lines.{command_text, lines_of, noted_command, noted_if_first, written}
-use Rattle.mount_replies.specs.Mounted.{IsNamed, IsServed, MayRun, Serves, bytes_of_reply}
+use Rattle.mount_replies.specs.Mounted.{IsNamed, IsServed, MayRun, bytes_of_reply}
 use Rattle.mount_replies.specs.Served.{is_cached, part_of, with_going_on}
 use Rattle.mount_replies.specs.Services.{OpenSeen, Service, Terms, file_at, is_read_out, node_of, scene_of, text_at, with_reading}
 use Rattle.mount_replies.specs.Sizes.{Telling, text_now}
@@ -51,15 +52,16 @@ pub record WasDone (g : Terms) (past : List Request) : Type 0 where
   pub done : AreDone g.config past
   pub few : length past ≤ most_done
 
--- whatever a mounted tracer served, its past is a list of such commands, so that what history_laws says of requests that were done holds of it
+-- Whatever a mounted tracer served, and whatever the program called meanwhile, its past is a list of such commands, so that what history_laws says of
+-- requests that were done holds of it. (`ServingIsTakingTurns`: so it is of all that is served where the program calls nothing.)
 abbrev pub PastsAreDone : Type 0
-PastsAreDone = (g : Terms) (requests messages : List (List ℕ)) (after : Service) → Serves g just_mounted requests messages after → WasDone g after.past
+PastsAreDone = (g : Terms) (turns : List Turn) (after : Service) → TakesTurns g just_mounted turns after → WasDone g after.past
 
--- and with a configuration in range the numbers of each of them fit their types, whatever the bytes of the requests were: an emission's CPU and process have
--- 32 bits, and what a read takes at most 64
+-- and with a configuration in range the numbers of each of them fit their types if those of the calls do, whatever the bytes of the requests were: an
+-- emission's CPU and process have 32 bits, and what a read takes at most 64
 abbrev pub PastsFitTheirTypes : Type 0
 PastsFitTheirTypes =
-    (g : Terms) (requests messages : List (List ℕ)) (after : Service) → IsInRange g.config → Serves g just_mounted requests messages after
+    (g : Terms) (turns : List Turn) (after : Service) → IsInRange g.config → All CallFits turns → TakesTurns g just_mounted turns after
     → All FitsItsTypes after.past
 
 -- ---- reads
@@ -113,8 +115,8 @@ pub data ReadsAnew (g : Terms) (before : Service) (command : Request) (unique ha
 -- A READ at offset 0, whatever was served before it: the text is what the file shows after the commands that were done by then.
 abbrev pub ReadsShowThePast : Type 0
 ReadsShowThePast =
-    (g : Terms) (requests messages : List (List ℕ)) (before after : Service) (request : Asked) (bytes : List ℕ) (handle size read_flags flags : ℕ) (file : OpenSeen) (meant : paths.File)
-    → IsInRange g.config → Serves g just_mounted requests messages before → IsServed g before request bytes after
+    (g : Terms) (turns : List Turn) (before after : Service) (request : Asked) (bytes : List ℕ) (handle size read_flags flags : ℕ) (file : OpenSeen) (meant : paths.File)
+    → IsInRange g.config → TakesTurns g just_mounted turns before → IsServed g before request bytes after
     → request.operation ≡ operations.Read handle 0 size read_flags flags → is_cached read_flags ≡ false → file_at handle before.files ≡ Some file → is_text (kind_of_file file.file) ≡ true
     → is_there (scene_of g before) (node_of file) ≡ true → file_meant (scene_of g before) file.file ≡ Some meant
     → ReadsAnew g before (read_whole (instance_of g before file) meant) request.unique handle size (text_of g.config (instance_of g before file) before.past meant) bytes
@@ -124,8 +126,8 @@ ReadsShowThePast =
 -- keeps, what it overwrote, dropped and gave, and the clock.
 abbrev pub StatsShowThePast : Type 0
 StatsShowThePast =
-    (g : Terms) (requests messages : List (List ℕ)) (before after : Service) (request : Asked) (bytes : List ℕ) (handle size read_flags flags cpu : ℕ) (file : OpenSeen)
-    → IsInRange g.config → Serves g just_mounted requests messages before → IsServed g before request bytes after
+    (g : Terms) (turns : List Turn) (before after : Service) (request : Asked) (bytes : List ℕ) (handle size read_flags flags cpu : ℕ) (file : OpenSeen)
+    → IsInRange g.config → TakesTurns g just_mounted turns before → IsServed g before request bytes after
     → request.operation ≡ operations.Read handle 0 size read_flags flags → is_cached read_flags ≡ false → file_at handle before.files ≡ Some file → file.file ≡ files.OfCpu cpu per_cpu.Stats
     → is_there (scene_of g before) (node_of file) ≡ true
     → ReadsAnew g before (read_whole (instance_of g before file) (paths.OfCpu cpu per_cpu.Stats)) request.unique handle size
@@ -200,8 +202,8 @@ pub record WritesLines (g : Terms) (before : Service) (file : OpenSeen) (lines :
 -- the declarations or to a trigger one for each line: by `>` if the file was opened to be emptied and nothing was written to it yet, else by `>>`.
 abbrev pub WritesAreCommands : Type 0
 WritesAreCommands =
-    (g : Terms) (requests messages : List (List ℕ)) (before after : Service) (request : Asked) (bytes : List ℕ) (handle offset lock_owner : ℕ) (own : List ℕ) (file : OpenSeen) (meant : paths.File)
-    → IsInRange g.config → Serves g just_mounted requests messages before → IsServed g before request bytes after
+    (g : Terms) (turns : List Turn) (before after : Service) (request : Asked) (bytes : List ℕ) (handle offset lock_owner : ℕ) (own : List ℕ) (file : OpenSeen) (meant : paths.File)
+    → IsInRange g.config → TakesTurns g just_mounted turns before → IsServed g before request bytes after
     → request.operation ≡ operations.Write handle offset lock_owner own → file_at handle before.files ≡ Some file → is_file (kind_of_file file.file) ≡ true
     → is_there (scene_of g before) (node_of file) ≡ true → file_meant (scene_of g before) file.file ≡ Some meant
     → WritesLines g before file (lines_of (line_written (instance_of g before file) meant file.file) file.file (not file.starts_over) own) request.unique handle (length own)
@@ -228,7 +230,7 @@ IsOfOneThere g s error = owner_is_there (scene_of g s) error.owner ≡ true
 -- whatever was served, only of instances that are there errors are kept
 abbrev pub ErrorsAreOfInstances : Type 0
 ErrorsAreOfInstances =
-    (g : Terms) (requests messages : List (List ℕ)) (after : Service) → Serves g just_mounted requests messages after
+    (g : Terms) (turns : List Turn) (after : Service) → TakesTurns g just_mounted turns after
     → All (IsOfOneThere g after) after.errors
 
 -- ---- folders
@@ -237,7 +239,7 @@ ErrorsAreOfInstances =
 -- mount_tree), whatever was served.
 abbrev pub ServedScenesAreSound : Type 0
 ServedScenesAreSound =
-    (g : Terms) (requests messages : List (List ℕ)) (after : Service) → IsInRange g.config → Serves g just_mounted requests messages after
+    (g : Terms) (turns : List Turn) (after : Service) → IsInRange g.config → TakesTurns g just_mounted turns after
     → IsSound (scene_of g after)
 
 -- ---- sizes
@@ -250,8 +252,8 @@ TellsLength g s telling owner file unique bytes =
 -- A size that is told of a file, whatever was served, is the length of what it shows then.
 abbrev pub SizesAreLengths : Type 0
 SizesAreLengths =
-    (g : Terms) (requests messages : List (List ℕ)) (before after : Service) (request : Asked) (bytes : List ℕ) (owner : Owner) (file : File)
-    → IsInRange g.config → Serves g just_mounted requests messages before → IsServed g before request bytes after → is_shown (kind_of_file file) ≡ true
+    (g : Terms) (turns : List Turn) (before after : Service) (request : Asked) (bytes : List ℕ) (owner : Owner) (file : File)
+    → IsInRange g.config → TakesTurns g just_mounted turns before → IsServed g before request bytes after → is_shown (kind_of_file file) ≡ true
     → is_there (scene_of g before) (nodes.File owner file) ≡ true
     → (request.operation ≡ operations.GetAttr → IsNamed request.node (Some (nodes.File owner file))
     → TellsLength g before (λ size. replies.Attributes (attributes_of g (nodes.File owner file) size)) owner file request.unique bytes)

@@ -35,7 +35,8 @@ use Rattle.mount_stub_files.specs.declared.write.ToolWrite.TheVariants as writes
 use Rattle.mount_replies.specs.Errnos.{errno_of}
 use Rattle.mount_replies.specs.FileWrites.{begun_now, switch_text}
 use Rattle.mount_replies.specs.Lines.{asked_by_line, command_text, errno_of_fault, has_newline, is_newline, most_kept, refusal_in, written_lines}
-use Rattle.mount_replies.specs.Mounted.{AreServed, Does, IsExchanged, IsNamed, IsServed, Right, Serves, TellsOwed, Unframed, Wrong}
+use Rattle.mount_replies.specs.Calls.{Called, Exchanged, IsTurned, TakesTurns, Turn, noting_called}
+use Rattle.mount_replies.specs.Mounted.{AreServed, Does, IsExchanged, IsNamed, IsServed, Right, TellsOwed, Unframed, Wrong}
 use Rattle.mount_replies.specs.Owed.{Owed, ReplyAt, WakeupAt, owed, step_of_parked}
 use Rattle.mount_replies.specs.PastLaws.{ShowsNow, just_mounted}
 use Rattle.mount_replies.specs.Served.{AsksToWrite, emptying_of, is_cached, step_of}
@@ -85,24 +86,26 @@ change_of Keeps = []
 change_of (Notes error) = Noted error ∷ []
 change_of (Forgets owner) = Cleared owner ∷ []
 
--- all that was served, the latest change first
-abbrev pub changes_in : (g : Terms) (before : Service) (requests messages : List (List ℕ)) (after : Service) → Serves g before requests messages after → List Change
-changes_in g before [] [] after same = []
-changes_in g before (asked ∷ requests) (bytes ∷ messages) after (next, one, more) =
-    changes_in g next requests messages after more ++ change_of (noting_of g before asked bytes next one)
-changes_in g before [] (bytes ∷ messages) after none = []
-changes_in g before (asked ∷ requests) [] after none = []
+-- in a turn
+abbrev pub noting_in : (g : Terms) (before : Service) (turn : Turn) (after : Service) → IsTurned g before turn after → Noting
+noting_in g before (Exchanged asked bytes) after one = noting_of g before asked bytes after one
+noting_in g before (Called request answer) after one = noting_called (scene_of g before) request answer
+
+-- in all turns, the latest change first
+abbrev pub changes_in : (g : Terms) (before : Service) (turns : List Turn) (after : Service) → TakesTurns g before turns after → List Change
+changes_in g before [] after same = []
+changes_in g before (turn ∷ turns) after (next, one, more) = changes_in g next turns after more ++ change_of (noting_in g before turn next one)
 
 -- the writes of an instance that were refused since its errors were forgotten, oldest first
-abbrev pub refused_in : (g : Terms) (requests messages : List (List ℕ)) (after : Service) → Serves g just_mounted requests messages after → Owner → List ErrorSeen
-refused_in g requests messages after served owner = noted_since owner (changes_in g just_mounted requests messages after served)
+abbrev pub refused_in : (g : Terms) (turns : List Turn) (after : Service) → TakesTurns g just_mounted turns after → Owner → List ErrorSeen
+refused_in g turns after served owner = noted_since owner (changes_in g just_mounted turns after served)
 
 -- ---- the last eight are kept
 
 abbrev pub LastEightAreKept : Type 0
 LastEightAreKept =
-    (g : Terms) (requests messages : List (List ℕ)) (after : Service) (served : Serves g just_mounted requests messages after) (owner : Owner)
-    → errors_of owner after.errors ≡ last_eight (refused_in g requests messages after served owner)
+    (g : Terms) (turns : List Turn) (after : Service) (served : TakesTurns g just_mounted turns after) (owner : Owner)
+    → errors_of owner after.errors ≡ last_eight (refused_in g turns after served owner)
 
 -- ---- what is noted
 
@@ -245,7 +248,7 @@ NotedWritesWereRefused =
 
 -- whatever was served, each open file keeps a line, so that what is noted of `inject` is the first line that was not done
 abbrev pub OpenFilesKeepLines : Type 0
-OpenFilesKeepLines = (g : Terms) (requests messages : List (List ℕ)) (after : Service) → Serves g just_mounted requests messages after → KeepLines after
+OpenFilesKeepLines = (g : Terms) (turns : List Turn) (after : Service) → TakesTurns g just_mounted turns after → KeepLines after
 
 -- ---- all that are refused are noted
 
@@ -272,8 +275,8 @@ RefusedWritesAreNoted =
 -- A READ of an `error_log` at offset 0, whatever was served before it: it shows the last eight, one after another.
 abbrev pub LogReadsShowTheLastEight : Type 0
 LogReadsShowTheLastEight =
-    (g : Terms) (requests messages : List (List ℕ)) (before after : Service) (request : Asked) (bytes : List ℕ) (handle size read_flags flags : ℕ) (file : OpenSeen)
-    → (served : Serves g just_mounted requests messages before) → IsServed g before request bytes after
+    (g : Terms) (turns : List Turn) (before after : Service) (request : Asked) (bytes : List ℕ) (handle size read_flags flags : ℕ) (file : OpenSeen)
+    → (served : TakesTurns g just_mounted turns before) → IsServed g before request bytes after
     → request.operation ≡ operations.Read handle 0 size read_flags flags → is_cached read_flags ≡ false → file_at handle before.files ≡ Some file
     → kind_of_file file.file ≡ kinds.ErrorLog → is_there (scene_of g before) (node_of file) ≡ true
-    → ShowsNow before request.unique handle size (flat_map error_text (last_eight (refused_in g requests messages before served file.owner))) bytes after
+    → ShowsNow before request.unique handle size (flat_map error_text (last_eight (refused_in g turns before served file.owner))) bytes after

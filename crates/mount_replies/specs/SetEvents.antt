@@ -19,7 +19,8 @@ use Rattle.mount_stub_files.specs.ToolTexts.{enabled_line, event_line, tool_text
 use Rattle.mount_stub_files.specs.ToolWrites.{tool_write}
 use Rattle.mount_stub_files.specs.declared.write.ToolWrite.TheVariants.{Switch}
 use Rattle.mount_replies.specs.FileWrites.{switch_text}
-use Rattle.mount_replies.specs.Mounted.{IsServed, Serves}
+use Rattle.mount_replies.specs.Calls.{TakesTurns, Turn}
+use Rattle.mount_replies.specs.Mounted.{IsServed}
 use Rattle.mount_replies.specs.PastLaws.{IsReason, instance_of, just_mounted, write_once}
 use Rattle.mount_replies.specs.Services.{OpenSeen, Service, Terms, file_at, node_of, scene_of}
 
@@ -46,9 +47,9 @@ pub record LeavesEvents (g : Terms) (before : Service) (file : OpenSeen) (event 
 -- A WRITE to `set_event` whose first word is to switch an event that is there, as `echo tick >> set_event`, whatever was served before it.
 abbrev pub SetEventsAreShown : Type 0
 SetEventsAreShown =
-    (g : Terms) (requests messages : List (List ℕ)) (before after : Service) (request : Asked) (bytes : List ℕ) (handle offset lock_owner : ℕ) (own : List ℕ)
+    (g : Terms) (turns : List Turn) (before after : Service) (request : Asked) (bytes : List ℕ) (handle offset lock_owner : ℕ) (own : List ℕ)
     (file : OpenSeen) (event : Event) (on : Bool) (size : ℕ)
-    → IsInRange g.config → Serves g just_mounted requests messages before → IsServed g before request bytes after
+    → IsInRange g.config → TakesTurns g just_mounted turns before → IsServed g before request bytes after
     → request.operation ≡ operations.Write handle offset lock_owner own → file_at handle before.files ≡ Some file → file.file ≡ Tool tools.SetEvent
     → is_there (scene_of g before) (node_of file) ≡ true → event_at event.index (scene_of g before).events ≡ Some event
     → tool_write g.config (scene_of g before) file.owner file.file own ≡ Switch (OfEvent event.index per_event.Enable) on size

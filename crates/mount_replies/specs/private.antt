@@ -9,3 +9,4 @@ pub mod Notings
 pub mod Targets
 pub mod Tellings
 pub mod TextReads
+pub mod Commandings

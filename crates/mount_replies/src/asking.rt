@@ -1,8 +1,8 @@
 //! Commands that a mounted tracer asks of its tracer.
 //!
 //! A file is read and written by its address; a path is made only to note a refusal. The folders and files have to be those that the commands done give: a
-//! command that may add to them is first noted in the scene, which takes memory, and the note is taken back if the command is refused; one that removes
-//! an instance takes none, and the scene follows it.
+//! command that may add to them is noted in the scene before it is done, which takes memory, and the note is taken back if it is refused (`following.rt`;
+//! a declaration is noted before its refusals are looked for). One that removes an instance takes no memory, and the scene follows it.
 
 ghost use Rattle.std.specs.Prelude.{◌≡◌, ◌∷◌, ◌++◌, [], Bool, false, true, IfOk, None, OnErr, OnOk, List, Some};
 ghost use Rattle.std.specs.Result.{result_ok};
@@ -16,10 +16,12 @@ ghost use Rattle.mount_tree.specs.declared.node.Node.TheVariants as nodes;
 ghost use Rattle.mount_replies.specs.Lines.{noted_answer};
 ghost use Rattle.mount_replies.specs.Mounted.{AsksBy, HasLedTo, IsAsked, IsQuiet};
 ghost use Rattle.mount_replies.specs.Steps.{read_of, write_of};
+ghost use Rattle.mount_replies.specs.private.Commandings.{CommandsBy};
 ghost use Rattle.mount_replies.specs.private.LineRuns.{StaysThere};
 ghost use Rattle.mount_replies.specs.private.Notings.{AsksNoted};
 
 use crate::errno::errno_of_refused;
+use crate::following::{let_go, note_instance};
 use crate::mount::Mount;
 use crate::noting::note_answer;
 use fuse_wire::Errno;
@@ -29,6 +31,7 @@ use trace_command::{Command, Refusal, Reply};
 use trace_format::EventDef;
 use trace_lex::Text;
 use trace_script::declared;
+use tracer::MOST_DONE;
 
 impl Mount {
     /// The path of a file.
@@ -194,15 +197,15 @@ impl Mount {
 
     /// Makes the instance of this name.
     pub(crate) fn ask_mkdir(&mut self, name: &[u8]) -> Result<Reply, Refusal>
-        ensures { AsksBy self.old self.new (MakeInstance (Some name.now)) result }
+        ensures asked { AsksBy self.old self.new (MakeInstance (Some name.now)) result }
+        ensures commanded { CommandsBy self.old self.new (MakeInstance (Some name.now)) result }
     {
-        if !self.scene.can_make() {
+        let prepared = self.live.prepare_making(MOST_DONE, name)?;
+        let Ok(()) = note_instance(&mut self.scene, name) else {
+            let_go(prepared);
             return Err(Refusal::Memory);
-        }
-        if self.scene.add_instance(name).is_err() {
-            return Err(Refusal::Memory);
-        }
-        match self.live.make_instance(name) {
+        };
+        match self.live.carry_out(prepared) {
             Ok(reply) => Ok(reply),
             Err(refusal) => {
                 self.scene.take_back_instance();
@@ -213,7 +216,8 @@ impl Mount {
 
     /// Removes the instance of this name.
     pub(crate) fn ask_rmdir(&mut self, name: &[u8]) -> Result<Reply, Refusal>
-        ensures { AsksBy self.old self.new (RemoveInstance (Some name.now)) result }
+        ensures asked { AsksBy self.old self.new (RemoveInstance (Some name.now)) result }
+        ensures commanded { CommandsBy self.old self.new (RemoveInstance (Some name.now)) result }
     {
         let reply = self.live.remove_instance(name)?;
         self.scene.remove_instance(name);

@@ -127,6 +127,7 @@ impl OpenFiles {
     }
 
     /// Whether a poll of some file may have to be told.
+    #[inline(always)]
     pub fn may_wake(&self) -> bool
         ensures { result ≡ false → list_any has_wakeup self.now ≡ false }
     {

@@ -1,5 +1,7 @@
 //! What reads of a file give, and what a step does. The functions do nothing: their contracts are theorems.
 
+ghost use Rattle.mount_replies.specs.CallExamples.{CallsWakeReaders};
+ghost use Rattle.mount_replies.specs.Calls.{ServingIsTakingTurns};
 ghost use Rattle.mount_replies.specs.ComputedSteps.{StepsAreComputed};
 ghost use Rattle.mount_replies.specs.MountExamples.{SessionsAreServed};
 ghost use Rattle.mount_replies.specs.MountLaws.{CutsDontMatter, LinesEndAtNewlines, NothingLeftIsAll, OthersFlushNothing, ReadsGoOn, StepsDoCommands, StreamsLoseNothing};
@@ -29,7 +31,13 @@ pub fn streams_are_lines()
     ensures others { OthersFlushNothing }
 {}
 
-/// Each read is answered once: of whatever was served, the reads that waited and those that were asked are those that were answered and those that wait
+/// Requests are served exactly where turns are taken in which the program calls nothing. So what the theorems below say of all turns, whatever is served and
+/// whatever the program calls meanwhile, they say of all that is served.
+pub fn serving_is_taking_turns()
+    ensures { ServingIsTakingTurns }
+{}
+
+/// Each read is answered once: whatever turns were taken, the reads that waited and those that were asked are those that were answered and those that wait
 /// still.
 pub fn reads_are_answered_once()
     ensures { ReadsAreAnsweredOnce }
@@ -37,7 +45,7 @@ pub fn reads_are_answered_once()
 
 /// Of a pipe that stays open nothing that was taken for its reads is lost or given twice. What is kept for them when it is closed is lost.
 ///
-/// `records`: what was kept and what an exchange took for it is, in order, what the exchange gave of it and what is kept then. A read
+/// `records`: what was kept and what a turn took for it is, in order, what the turn gave of it and what is kept then. A read
 /// that was interrupted, or that lost its file, takes nothing; what is told asks one command at most; and what a
 /// command took for a read is its reply and what its open file keeps.
 pub fn waiting_loses_nothing()
@@ -66,12 +74,12 @@ pub fn oldest_is_answered_first()
     ensures { OldestIsAnsweredFirst }
 {}
 
-/// Whatever was served, the commands that the tracer did were done, one after another, so that what history_laws says of such requests holds of them.
+/// Whatever was served and called, the commands that the tracer did were done, one after another, so that what history_laws says of such requests holds of them.
 pub fn pasts_are_done()
     ensures { PastsAreDone }
 {}
 
-/// With a configuration in range their numbers fit their types, whatever bytes were served.
+/// With a configuration in range their numbers fit their types, whatever bytes were served, if those of the calls do.
 pub fn pasts_fit_their_types()
     ensures { PastsFitTheirTypes }
 {}
@@ -132,9 +140,11 @@ pub fn sizes_are_lengths()
 {}
 
 /// What is computed of a step where no memory is refused is what it does. By that a shell's session gets these messages: a write that is refused and one
-/// that isn't, what they leave in the files, and a reader that waits. Such a session is served by these bytes (`bytes`).
+/// that isn't, what they leave in the files, and a reader that waits. Where the program emits meanwhile, what it reads is owed then (`calls`). Such a session
+/// is served by these bytes (`bytes`).
 pub fn examples_are_computed()
     ensures steps { StepsAreComputed }
     ensures sessions { SessionsAreServed }
+    ensures calls { CallsWakeReaders }
     ensures bytes { SessionIsServed }
 {}

@@ -2,11 +2,13 @@
 #![tactic(auto)]
 
 mod asking;
+mod calls;
 mod commands;
 mod counted;
 mod errno;
 mod fault;
 mod files;
+mod following;
 mod injection;
 pub mod laws;
 mod listing;

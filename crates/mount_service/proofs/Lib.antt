@@ -3,3 +3,7 @@ pub mod KnownBytes
 pub mod RecordLemmas
 pub mod RowLemmas
 pub mod ReaderLemmas
+pub mod SameRuns
+pub mod ShortRuns
+pub mod FrankSteps
+pub mod SameServices

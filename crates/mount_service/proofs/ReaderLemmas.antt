@@ -26,7 +26,9 @@ use Rattle.mount_tree.proofs.SoundLemmas.{scene-sound}
 use Rattle.mount_replies.specs.Mounted.{AreServed, Does, IsExchanged, Right, TellsOwed, Unframed, Wrong}
 use Rattle.mount_replies.specs.Owed.{Owed, ReplyAt, WakeupAt, owed, step_of_parked}
 use Rattle.mount_replies.specs.ParkedLaws.{is_read_of, taken_asked, taken_by, taken_for, taken_told}
-use Rattle.mount_replies.specs.PastLaws.{PastsAreDone, WasDone, instance_of}
+use Rattle.mount_replies.proofs.TurnLemmas.{serves-turns}
+use Rattle.mount_replies.specs.Calls.{turns_of}
+use Rattle.mount_replies.specs.PastLaws.{PastsAreDone, WasDone, instance_of, just_mounted}
 use Rattle.mount_replies.specs.Pipes.{ends, is_dry, is_used_up}
 use Rattle.mount_replies.specs.Served.{is_cached, is_nonblocking, read_dry, read_file, read_kind, read_pipe_directly, read_there, records_for, step_of}
 use Rattle.mount_replies.specs.Services.{OpenSeen, Service, Terms, file_at, node_of, read_of_pipe, scene_of, without_read}
@@ -39,7 +41,7 @@ use Rattle.mount_service.specs.ReaderLaws.{ExchangesTakeForOne, IsTakenByRead, N
 
 pub no_record_is_taken_twice : NothingIsReadTwice → PastsAreDone → NoRecordIsTakenTwice
 no_record_is_taken_twice once pasts g requests messages after instance cpu time served =
-    let few : length after.past ≤ 2 ^ 60 = (pasts g requests messages after served).few in
+    let few : length after.past ≤ 2 ^ 60 = (pasts g (turns_of requests messages) after (serves-turns g just_mounted requests messages after served)).few in
     once g.config after.past instance cpu time (omega (arith, few))
 
 -- ---- a read of a pipe asks nothing, or for some of its records
@@ -221,7 +223,7 @@ taken_is_of_one_read pasts g requests messages before asked bytes after exchange
 
     by : NoneOrTaken g before after file text → (text ≡ []) ⊎ IsTakenByRead g before after file text
     by (inl none) = inl none
-    by (inr taken) = inr (by-read g before after file text ranges (pasts g requests messages before served) pipe taken)
+    by (inr taken) = inr (by-read g before after file text ranges (pasts g (turns_of requests messages) before (serves-turns g just_mounted requests messages before served)) pipe taken)
 
 -- ---- for one handle alone
 

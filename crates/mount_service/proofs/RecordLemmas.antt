@@ -14,12 +14,14 @@ use Rattle.file_list.specs.declared.file.File.{File}
 use Rattle.file_list.specs.declared.file.File.TheVariants as files
 use Rattle.mount_tree.specs.declared.node.Node.TheVariants as nodes
 use Rattle.mount_service.specs.RecordLaws.{ServicesAreAccountedFor, StatsTellAllRecords, live_stats}
-use Rattle.mount_replies.specs.PastLaws.{PastsAreDone, ReadsAnew, StatsShowThePast, instance_of, read_whole}
+use Rattle.mount_replies.proofs.TurnLemmas.{serves-turns}
+use Rattle.mount_replies.specs.Calls.{turns_of}
+use Rattle.mount_replies.specs.PastLaws.{PastsAreDone, ReadsAnew, StatsShowThePast, instance_of, just_mounted, read_whole}
 use Rattle.mount_replies.specs.Services.{OpenSeen, Service, Terms, node_of, scene_of}
 
 pub accounted_for : RingsCountEmissions → RingsAreAccountedFor → EmissionsAreAccountedFor → EmissionsAreShownOrCounted → PastsAreDone → ServicesAreAccountedFor
 accounted_for counts accounts all shown pasts g requests messages after served = record {
-  done = (pasts g requests messages after served).done;
+  done = (pasts g (turns_of requests messages) after (serves-turns g just_mounted requests messages after served)).done;
   rings = λ instance side cpu within. record {
     records = counts g.config after.past instance side cpu within;
     handed_out = accounts g.config after.past instance side cpu within;
@@ -50,7 +52,8 @@ pub tell_all : RingsCountEmissions → ShownCountsAccountForEmissions → StatsS
 tell_all counts shown stats g requests messages before after request bytes handle size read_flags flags cpu file ranges served is asks direct opened is_stats there = (
   live_stats g (instance_of g before file) cpu before.past,
   subst (λ (text : List ℕ). ReadsAnew g before (read_whole (instance_of g before file) (paths.OfCpu cpu per_cpu.Stats)) request.unique handle size text bytes after) (stats-are g before file cpu)
-      (stats g requests messages before after request bytes handle size read_flags flags cpu file ranges served is asks direct opened is_stats there),
+      (stats g (turns_of requests messages) before after request bytes handle size read_flags flags cpu file ranges
+      (serves-turns g just_mounted requests messages before served) is asks direct opened is_stats there),
   (
     counts g.config before.past (instance_of g before file) (live_side (instance_of g before file) before.past) cpu (cpu-there g before file cpu is_stats there),
     shown g.config before.past (instance_of g before file) cpu (cpu-there g before file cpu is_stats there),

@@ -3,6 +3,7 @@
 ghost use Rattle.mount_service.specs.ReaderLaws.{ExchangesTakeForOne, NoRecordIsTakenTwice, TakenIsOfOneRead};
 ghost use Rattle.mount_service.specs.RecordLaws.{ServicesAreAccountedFor, StatsTellAllRecords};
 ghost use Rattle.mount_service.specs.RecordRows.{ServedRecordsShowEmissions, ServedRecordsShowTheirRows};
+ghost use Rattle.mount_service.specs.SameReplies.{RecordingsReplay, ServicesAreOneUntilTheyPart, ServicesAskedTheSame};
 ghost use Rattle.mount_service.specs.TracerLaws.{CallsAreServed, KnownBytesAreServed};
 
 /// If what the reads of a device gave are whole requests, a service that found the end, or that the device is gone, served exactly these, and its writes
@@ -53,3 +54,13 @@ pub fn no_record_goes_to_two_readers()
     history_laws::laws::nothing_is_read_twice();
     mount_replies::laws::pasts_are_done();
 }
+
+/// Two services under the same terms are one for as long as they are asked the same and neither tells of refused memory, by ENOMEM or by a write that is
+/// told as done in part: they give the same replies and tell what they owe at the same places (`until`). If they were asked the same requests, told all
+/// that they owed, and told of no refused memory, all was the same, and they are one service still (`same`). So the requests that a device's reads gave
+/// can be recorded and asked again: on whatever device, the writes take the same bytes (`replays`).
+pub fn services_asked_the_same_are_one()
+    ensures until { ServicesAreOneUntilTheyPart }
+    ensures same { ServicesAskedTheSame }
+    ensures replays { RecordingsReplay }
+{}

@@ -1,0 +1,6 @@
+pub mod HistoryLemmas
+pub mod ExchangeLemmas
+pub mod CalledTurns
+pub mod MountSteps
+pub mod TurnLemmas
+pub mod CallerLemmas

@@ -1,0 +1,66 @@
+use Rattle.std.proofs.Common.{◌≡◌, List, [], ◌∷◌, ◌++◌, ◌∙◌, refl, subst}
+use Rattle.trace_command.specs.Requests.{Request}
+use Rattle.mount_replies.specs.Mounted.{service_of, terms_of}
+use Rattle.shared_mount.specs.MountEntries.{DidExchange, done_in}
+use Rattle.shared_mount.specs.LiveMountSeen.{LiveMountSeen}
+use Rattle.shared_mount.specs.MountHistories.{IsNext}
+use Rattle.shared_mount.specs.declared.exchange.Exchange.{Exchange}
+use Rattle.shared_mount.proofs.MountSteps.{Stands, exchange-done, exchange-left, exchange-stands, served-exchanged}
+use Rattle.shared_mount.proofs.live_mount.LiveMount.answer.Goals as goal
+
+pub invariant_of-self : goal.invariant_of-self
+invariant_of-self c =
+    let e : Exchange = record {
+      past = c.of.result;
+      before = c.of-before.result;
+      after = c.of-2.result;
+      asked = c.bytes_of.result;
+      bytes = c.bytes_of-2.result;
+    } in
+    let past : e.past.value.items ≡ c.self.inside.past.items = rw c.of.ensures refl in
+    let s : Stands c.with_exchange-self-inside.result.items c.answer.new.self =
+    exchange-stands e c.self.inside.past.items c.self.inside.mount c.answer.new.self c.args.ticket c.args.by c.with_exchange-self-inside.result.items
+    past c.of-before.ensures c.of-2.ensures (record { mounted = c.self.invariant.mounted; led = c.self.invariant.led })
+    c.with_exchange-self-inside.ensures in
+    record { mounted = s.mounted; led = s.led }
+
+pub with_exchange-self-inside-requires : goal.with_exchange-self-inside-requires
+with_exchange-self-inside-requires c =
+    let e : Exchange = record {
+      past = c.of.result;
+      before = c.of-before.result;
+      after = c.of-2.result;
+      asked = c.bytes_of.result;
+      bytes = c.bytes_of-2.result;
+    } in
+    let entries = c.self.inside.past.items in
+    let old = c.self.inside.mount in
+    let new = c.answer.new.self in
+    let bytes = c.answer.new.reply.items in
+    let past : e.past.value.items ≡ entries = rw c.of.ensures refl in
+    let is = c.answer.ensures.served (done_in entries) c.self.invariant.mounted in
+    exchange-done e entries old new c.args.asked.now bytes past c.of-before.ensures c.of-2.ensures c.bytes_of.ensures
+    (c.bytes_of-2.ensures ∙ c.deref.ensures.value) is.after is.mounted is.terms
+    (served-exchanged (terms_of old) (service_of (done_in entries) old) c.args.asked.now bytes (service_of is.after new) c.requires.some is.nothing_owed is.served)
+
+pub returns-clause-left : goal.returns-clause-left
+returns-clause-left c =
+    let e : Exchange = record {
+      past = c.of.result;
+      before = c.of-before.result;
+      after = c.of-2.result;
+      asked = c.bytes_of.result;
+      bytes = c.bytes_of-2.result;
+    } in
+    let entries = c.self.inside.past.items in
+    let bytes = c.answer.new.reply.items in
+    let left = c.with_exchange-self-inside.result.items in
+    let past : e.past.value.items ≡ entries = rw c.of.ensures refl in
+    subst
+    (λ (s : LiveMountSeen). (commands : List Request)
+    × (left ≡ s.entries ++ record { ticket = c.args.ticket; by = c.args.by; deed = DidExchange c.args.asked.now bytes commands } ∷ [])
+    × IsNext s.terms s.entries (DidExchange c.args.asked.now bytes commands) c.answer.new.self.owes)
+    c.self.view_is
+    (exchange-left e entries c.self.inside.mount c.answer.new.self c.args.asked.now bytes c.args.ticket c.args.by left past c.of-before.ensures c.of-2.ensures
+    c.bytes_of.ensures (c.bytes_of-2.ensures ∙ c.deref.ensures.value) (record { mounted = c.self.invariant.mounted; led = c.self.invariant.led })
+    c.with_exchange-self-inside.ensures)

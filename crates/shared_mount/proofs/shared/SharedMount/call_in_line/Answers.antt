@@ -1,0 +1,42 @@
+use Rattle.std.proofs.Common.{sym}
+use Rattle.ticket_lock.specs.Calls.{held_view, held_ticket, held_value}
+use Rattle.shared_mount.specs.AskedRequests.{request_after}
+use Rattle.shared_mount.specs.MountCallers.{Asks, caller_view, calls, line_view, terms_of}
+use Rattle.shared_mount.specs.private.MountTurns.{TakenIn}
+use Rattle.shared_mount.proofs.CallerLemmas.{asks_turned}
+use Rattle.shared_mount.proofs.shared.SharedMount.call_in_line.Goals as goal
+
+pub returns-in-Ok-clause-of : goal.returns-in-Ok-clause-of
+returns-in-Ok-clause-of g c =
+    let v = line_view c.args.line in
+    let asks : Asks c.args.self.now v = c.requires.asks in
+    let held = c.in-Ok.held in
+    let t = c.in-Ok.ensures in
+    let k = terms_of c.args.self.now in
+    let taken : TakenIn v (held_view held) (held_ticket held) (held_value held) k =
+    record { turn = record { drawn = t.drawn; finds = t.finds; entries_are = t.entries; base = t.base }; same = sym asks.base } in
+    let w = caller_view c.call_in_turn.result.0 in
+    record { of = c.call_in_turn.ensures.of; asks = asks_turned c.args.self.now v w (calls (λ found. request_after found c.args.asked.now) c.call_in_turn.result.1) c.call_in_turn.result.3 asks (c.call_in_turn.ensures.takes v k taken) }
+
+pub returns-in-Ok-clause-called : goal.returns-in-Ok-clause-called
+returns-in-Ok-clause-called g c =
+    let v = line_view c.args.line in
+    let asks : Asks c.args.self.now v = c.requires.asks in
+    let held = c.in-Ok.held in
+    let t = c.in-Ok.ensures in
+    let k = terms_of c.args.self.now in
+    let taken : TakenIn v (held_view held) (held_ticket held) (held_value held) k =
+    record { turn = record { drawn = t.drawn; finds = t.finds; entries_are = t.entries; base = t.base }; same = sym asks.base } in
+    let w = caller_view c.call_in_turn.result.0 in
+    c.call_in_turn.ensures.takes v k taken
+
+pub returns-in-Ok-clause-looked : goal.returns-in-Ok-clause-looked
+returns-in-Ok-clause-looked g c =
+    let v = line_view c.args.line in
+    let asks : Asks c.args.self.now v = c.requires.asks in
+    let held = c.in-Ok.held in
+    let t = c.in-Ok.ensures in
+    let k = terms_of c.args.self.now in
+    let taken : TakenIn v (held_view held) (held_ticket held) (held_value held) k =
+    record { turn = record { drawn = t.drawn; finds = t.finds; entries_are = t.entries; base = t.base }; same = sym asks.base } in
+    c.call_in_turn.ensures.looked v k taken

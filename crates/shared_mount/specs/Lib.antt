@@ -1,0 +1,7 @@
+pub mod MountEntries
+pub mod AskedRequests
+pub mod MountHistories
+pub mod LiveMountSeen
+pub mod LiveMounts
+pub mod MountCallers
+pub mod private

@@ -1,0 +1,181 @@
+//! A mounted tracer whose history is for clauses only.
+
+ghost use Rattle.std.specs.Prelude.{◌≡◌, ◌≢◌, ◌≤◌, true, false, List, [], ◌∷◌, ◌++◌, vec_capacity, IfOk, IfErr, OnOk};
+ghost use Rattle.trace_command.specs.Configs.{IsInRange};
+ghost use Rattle.trace_command.specs.Requests.{FitsItsTypes, Request, request_of};
+ghost use Rattle.trace_command.specs.declared.refusal.Refusal.TheVariants as refusal;
+ghost use Rattle.tracer.specs.Lives.{IsLive};
+ghost use Rattle.mount_replies.specs.Calls.{IsCommanded};
+ghost use Rattle.mount_replies.specs.Mounted.{IsMounted, most_reply};
+ghost use Rattle.shared_mount.specs.AskedRequests.{request_after};
+ghost use Rattle.shared_mount.specs.LiveMountSeen.{numbers_of};
+ghost use Rattle.shared_mount.specs.MountEntries.{DidCall, DidExchange, EntrySeen, caller_of, done_in, ticket_of};
+ghost use Rattle.shared_mount.specs.MountHistories.{IsNext, IsOwing, WereTaken};
+
+use crate::asked::Asked;
+use crate::entry::Entry;
+use crate::exchange::Exchange;
+use crate::history::{bytes_of, nothing_done, with_call, with_exchange};
+use ghost_list::GhostList;
+use mount_replies::{Mount, Owners};
+use std::alloc::Global;
+use std::marker::Model;
+use std::snapshot::Snapshot;
+use ticket_lock::Logged;
+use trace_command::{Config, Refusal, Reply};
+use tracer::Tracer;
+
+/// A mounted tracer and the history of all turns, of which it keeps nothing in memory.
+pub struct LiveMount {
+    mount: Mount,
+    past: GhostList<Entry>,
+}
+
+impl Drop for LiveMount {
+    // Not derived, so that no crate above proves the drops of its parts.
+    fn drop(self) {
+        let LiveMount { mount: _, past: _ } = self;
+    }
+}
+
+impl Model for LiveMount {
+    ghost use Rattle.shared_mount.specs.LiveMountSeen.{LiveMountSeen};
+
+    ghost Value = { LiveMountSeen };
+
+    ghost use Rattle.shared_mount.specs.LiveMounts.{seen, IsSound};
+
+    ghost view = { seen };
+
+    ghost invariant = { IsSound };
+}
+
+// Has the mounted tracer run what is asked.
+#[inline(always)]
+fn run(mount: &mut Mount, asked: &Asked<'_>) -> Result<Reply, Refusal>
+    ensures { (entries : List EntrySeen) → IsMounted (done_in entries) mount.old
+        → IsCommanded (done_in entries) mount.old mount.new (request_after entries asked.now) result }
+{
+    match asked {
+        Asked::Command(command) => mount.call(command),
+        Asked::Values(emission) => mount.call_values(emission),
+    }
+}
+
+impl LiveMount {
+    /// A tracer that was just mounted, with no history. Its files are these people's. Refused with `BadValue` exactly if a number of the configuration is
+    /// out of range, otherwise only with `Memory`.
+    pub fn new(alloc: Global, config: Config, owners: Owners) -> Result<LiveMount, Refusal>
+        ensures made { IfOk result (λ mount. mount ≡ record {
+          terms = record { config = config; uid = owners.uid; gid = owners.gid; mode = owners.mode };
+          entries = [];
+          owes = false;
+        }) }
+        ensures in_range { OnOk result (IsInRange config) }
+        ensures out_of_range { ¬ IsInRange config → IfErr result (λ r. r ≡ refusal.BadValue) }
+        ensures refused { IfErr result (λ r. r ≢ refusal.Memory → (r ≡ refusal.BadValue) × ¬ IsInRange config) }
+    {
+        let mount = Mount::new(alloc, config, owners)?;
+        Ok(LiveMount {
+            mount,
+            past: nothing_done(),
+        })
+    }
+
+    /// Runs what a call asks, or refuses it. The call and its answer become the history's next entry, under this ticket and caller's number.
+    #[inline(always)]
+    pub fn call(&mut self, ticket: u64, by: u32, asked: &Asked<'_>) -> Result<Reply, Refusal>
+        ensures left { self.new.entries ≡ self.old.entries ++ record {
+          ticket = ticket;
+          by = by;
+          deed = DidCall (request_after self.old.entries asked.now) result;
+        } ∷ [] }
+        ensures next { IsNext self.old.terms self.old.entries (DidCall (request_after self.old.entries asked.now) result) self.new.owes }
+        ensures terms { self.new.terms ≡ self.old.terms }
+    {
+        let answer = run(&mut self.mount, asked);
+        self.past = with_call(&self.past, ticket, by, asked, &answer);
+        answer
+    }
+
+    /// Serves a request, where nothing is owed: `reply`, which is empty and has the room, gets the bytes of its reply, none if it has none or waits. The
+    /// request, its reply and the commands that it did become the history's next entry.
+    pub fn answer(&mut self, ticket: u64, by: u32, asked: &[u8], reply: &mut Vec<u8>)
+        requires room { most_reply ≤ vec_capacity reply.old }
+        requires empty { reply.old.items ≡ [] }
+        requires some { asked.now ≢ [] }
+        requires nothing_owed { self.old.owes ≡ false }
+        ensures left { (commands : List Request)
+            × (self.new.entries ≡ self.old.entries ++ record { ticket = ticket; by = by; deed = DidExchange asked.now reply.new.items commands } ∷ [])
+            × IsNext self.old.terms self.old.entries (DidExchange asked.now reply.new.items commands) self.new.owes }
+        ensures terms { self.new.terms ≡ self.old.terms }
+        ensures capacity { vec_capacity reply.old ≤ vec_capacity reply.new }
+    {
+        let before = Snapshot::of(&self.mount);
+        self.mount.answer(asked, reply);
+        let exchange = Exchange {
+            past: Snapshot::of(&self.past),
+            before,
+            after: Snapshot::of(&self.mount),
+            asked: bytes_of(asked),
+            bytes: bytes_of(reply),
+        };
+        self.past = with_exchange(&exchange, ticket, by);
+    }
+
+    /// Tells something that is owed: `reply`, which is empty and has the room, gets the bytes. They and the commands that were done for them become the
+    /// history's next entry.
+    pub fn tell_owed(&mut self, ticket: u64, by: u32, reply: &mut Vec<u8>)
+        requires room { most_reply ≤ vec_capacity reply.old }
+        requires empty { reply.old.items ≡ [] }
+        requires owes { self.old.owes ≡ true }
+        ensures left { (commands : List Request)
+            × (self.new.entries ≡ self.old.entries ++ record { ticket = ticket; by = by; deed = DidExchange [] reply.new.items commands } ∷ [])
+            × IsNext self.old.terms self.old.entries (DidExchange [] reply.new.items commands) self.new.owes }
+        ensures terms { self.new.terms ≡ self.old.terms }
+        ensures capacity { vec_capacity reply.old ≤ vec_capacity reply.new }
+    {
+        let before = Snapshot::of(&self.mount);
+        self.mount.tell_owed(reply);
+        let exchange = Exchange {
+            past: Snapshot::of(&self.past),
+            before,
+            after: Snapshot::of(&self.mount),
+            asked: bytes_of(&[]),
+            bytes: bytes_of(reply),
+        };
+        self.past = with_exchange(&exchange, ticket, by);
+    }
+
+    /// Whether something has to be told before the next request is served.
+    #[inline(always)]
+    pub fn owes(&self) -> bool
+        ensures is { result ≡ self.now.owes }
+        ensures owing { IsOwing self.now.terms self.now.entries self.now.owes }
+    {
+        self.mount.owes()
+    }
+
+    /// The tracer, which has the state that the commands of all turns led to.
+    #[inline(always)]
+    pub fn tracer(&self) -> &Tracer
+        ensures lives { IsLive result.now.config (done_in self.now.entries) result.now }
+        ensures config { result.now.config ≡ self.now.terms.config }
+        ensures taken { WereTaken self.now.terms self.now.entries }
+    {
+        self.mount.tracer()
+    }
+}
+
+/// A lock sees a live mount's history, and as its base, which no turn changes, what it was mounted with.
+impl Logged for LiveMount {
+    type Entry = Entry;
+
+    ghost entries = { λ mount. mount.entries };
+
+    ghost base = { λ mount. numbers_of mount.terms };
+
+    ghost ticket = { ticket_of };
+
+    ghost by = { caller_of };
+}
