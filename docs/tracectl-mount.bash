@@ -7,10 +7,14 @@ _tracectl_mount() {
     return
   fi
   case $before in
-    --cpus | --pages | --page-bytes | --mode | --uid | --gid) return ;;
+    --cpus | --pages | --page-bytes | --mode | --uid | --gid | --until) return ;;
+    --replay | --record)
+      mapfile -t COMPREPLY < <(compgen -f -- "$word")
+      return
+      ;;
   esac
   if [[ $word = -* ]]; then
-    mapfile -t COMPREPLY < <(compgen -W '--over --cpus --pages --page-bytes --allow-other --mode --uid --gid -f -h --help -V --version' -- "$word")
+    mapfile -t COMPREPLY < <(compgen -W '--over --replay --cpus --pages --page-bytes --allow-other --mode --uid --gid --record --until --any-version -f -h --help -V --version' -- "$word")
   else
     mapfile -t COMPREPLY < <(compgen -d -- "$word")
   fi

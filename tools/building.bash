@@ -4,7 +4,7 @@
 { [ -d "${TMPDIR:-/tmp}" ] && [ -w "${TMPDIR:-/tmp}" ]; } || export TMPDIR=/tmp
 
 readonly OTHER_KIT=3 LINES_OF_LOG=20
-readonly TIME_OF_PROOF="30 minutes to an hour"
+readonly TIME_OF_PROOF="25 to 55 minutes"
 readonly KIBIBYTES_NEEDED=$((4 * 1024 * 1024)) # free memory that compiling and proving take at most
 readonly shown=./$tool                         # how help shows the starter
 

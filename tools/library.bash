@@ -1,5 +1,13 @@
 # What examples/c/build and ./install share: the library for C, static and shared. Sourced after programs.bash.
 
+# need_makers [MORE]: stops if there is not what makes a library: the C compiler, whose name `compiler` is, `ar`, and the kit, which has the heap.
+need_makers() {
+  local needed
+  for needed in "$compiler" ar rt; do
+    command -v "$needed" > /dev/null || stop "$needed is needed for the library and was not found${1-}"
+  done
+}
+
 # Puts into `archive` the proved part of the library: crates/tracectl_c/out/libtracectl_c.a, which `rt lib` in crates/tracectl_c proves and makes. Where
 # there is none or it is older than its sources, that is libtracectl_c-unproved.a beside it, which is compiled first if need be. `is_proved` says which.
 choose_archive() {
