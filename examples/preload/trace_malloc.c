@@ -1,0 +1,342 @@
+/* A library for LD_PRELOAD that traces who allocates, in a program that nobody compiled for it: its malloc, calloc, realloc, posix_memalign, aligned_alloc,
+ * memalign and free are those below, which call the next ones of these names, mostly the C library's, and emit
+ *
+ *     malloc u64 call_site; u64 bytes_req; u64 ptr; u64 old     an allocation: where it was called, the bytes asked for, the block (0 if there is none),
+ *                                                               and the one that realloc was given
+ *     free u64 call_site; u64 ptr                               before the block is free
+ *
+ * examples/preload/trace-malloc starts a program with it. Its settings come by the environment:
+ *
+ *     TRACE_MALLOC_LINES     lines that are done first, by default one that counts each caller's bytes
+ *     TRACE_MALLOC_REPORT    the file that a report is written to when the program exits, after all its destructors, or ends by _exit
+ *     TRACE_MALLOC_SHOWN     the tracer's file that the report shows, by default the histogram of malloc
+ *
+ * Before main it takes these and itself out of the environment, so what the program starts runs without it. In a child, after a fork, nothing is traced.
+ * Only where the traced process itself goes on as another program, by an exec, they are put back: that is traced from its beginning, as the programs are
+ * that scripts exec.
+ *
+ * A call is traced unless it is made within the tracer, by a thread whose thread-specific data is being destroyed, or by more threads than a tracer has
+ * passes; those of the last two kinds are counted. What the tracer itself needs comes from mmap. */
+#define _GNU_SOURCE
+#include <dlfcn.h>
+#include <errno.h>
+#include <fcntl.h>
+#include <pthread.h>
+#include <stdarg.h>
+#include <stdint.h>
+#include <stdio.h>
+#include <stdlib.h>
+#include <string.h>
+#include <unistd.h>
+#include "trace_malloc.h"
+#include "tracectl.h"
+
+#define OF_THREAD static __thread __attribute__((tls_model("initial-exec"))) /* which allocates nothing */
+
+/* ---- What calls go on to. ---- */
+
+static struct {
+    void *(*malloc)(size_t);
+    void *(*calloc)(size_t, size_t);
+    void *(*realloc)(void *, size_t);
+    void (*free)(void *);
+    int (*posix_memalign)(void **, size_t, size_t);
+    void *(*aligned_alloc)(size_t, size_t);
+    void *(*memalign)(size_t, size_t);
+} next;
+
+/* Until those are known: dlsym may allocate. Nothing of it is given back. */
+enum { HEAD = 16 }; /* before a block, with its size */
+static _Alignas(16) char early[16384];
+static size_t early_used;
+
+static void *early_block(size_t bytes) {
+    size_t from, whole = (bytes + HEAD + 15) & ~(size_t)15;
+    if (bytes > sizeof early) return NULL;
+    from = __atomic_fetch_add(&early_used, whole, __ATOMIC_RELAXED);
+    if (from + whole > sizeof early) return NULL;
+    *(size_t *)(early + from) = bytes;
+    return early + from + HEAD;
+}
+
+static int is_early(const void *place) {
+    return (const char *)place >= early && (const char *)place < early + sizeof early;
+}
+
+static int find_next(void) {
+    *(void **)&next.malloc = dlsym(RTLD_NEXT, "malloc");
+    *(void **)&next.realloc = dlsym(RTLD_NEXT, "realloc");
+    *(void **)&next.posix_memalign = dlsym(RTLD_NEXT, "posix_memalign");
+    *(void **)&next.aligned_alloc = dlsym(RTLD_NEXT, "aligned_alloc");
+    *(void **)&next.memalign = dlsym(RTLD_NEXT, "memalign");
+    *(void **)&next.free = dlsym(RTLD_NEXT, "free");
+    *(void **)&next.calloc = dlsym(RTLD_NEXT, "calloc");
+    return next.malloc && next.calloc && next.realloc && next.free && next.posix_memalign && next.aligned_alloc && next.memalign;
+}
+
+/* ---- The tracer. ---- */
+
+enum { MALLOC = 1, FREE = 2 }; /* events, in the order in which they are declared */
+enum { NOT_BEGUN, BEGINNING, ON, OFF };
+
+static const char *const DECLARED[] = {
+    "echo 'malloc u64 call_site; u64 bytes_req; u64 ptr; u64 old' >> synthetic_events",
+    "echo 'free u64 call_site; u64 ptr' >> synthetic_events",
+};
+static const char BY_DEFAULT[] = "echo 'hist:keys=call_site.hex:vals=bytes_req:sort=bytes_req.descending' > events/synthetic/malloc/trigger";
+static const char SHOWN_BY_DEFAULT[] = "events/synthetic/malloc/hist";
+
+static int state;
+static tracectl tracer = TRACECTL_CLOSED;
+static pthread_key_t key; /* of threads that have joined */
+static struct {
+    _Alignas(64) uint64_t mallocs, frees, untraced;
+} counts;
+
+OF_THREAD tracectl_thread handle;
+OF_THREAD int inside; /* a call within another one is the tracer's own */
+OF_THREAD int has_ended;
+
+static void tell(const char *format, ...) {
+    char line[5000];
+    va_list values;
+    va_start(values, format);
+    int length = vsnprintf(line, sizeof line, format, values);
+    va_end(values);
+    if (length > 0 && write(STDERR_FILENO, line, (size_t)length < sizeof line ? (size_t)length : sizeof line - 1) < 0) return;
+}
+
+/* A thread ends that has joined. It leaves before tracectl.c would let it, as that would not tell this handle; what comes after this is not traced. */
+static void leave(void *joined) {
+    (void)joined;
+    inside = 1;
+    has_ended = 1;
+    tracectl_leave(&handle);
+    inside = 0;
+}
+
+/* Whether this thread has joined. */
+static int is_joined(void) {
+    if (handle.seat) return 1;
+    if (has_ended || tracectl_join(&tracer, &handle)) return 0;
+    if (!pthread_setspecific(key, &handle)) return 1;
+    tracectl_leave(&handle);
+    return 0;
+}
+
+static void stop_in_child(void) {
+    is_memory_closed = 1;
+    state = OFF;
+}
+
+static void do_lines(const char *lines) {
+    while (*lines) {
+        size_t length = strcspn(lines, "\n");
+        uint32_t status = tracectl_line(&handle, lines, length);
+        if (status) tell("trace-malloc: %.*s: refused: %s\n", (int)length, lines, tracectl_status_name(status));
+        lines += length + (lines[length] == '\n');
+    }
+}
+
+/* Opens a tracer with both events. */
+static int is_opened(void) {
+    long processors = sysconf(_SC_NPROCESSORS_ONLN);
+    tracectl_settings settings = {.cpus = processors < 1 ? 1 : processors > 8 ? 8 : (uint32_t)processors, .pages = 64, .page_bytes = 4080};
+    if (pthread_key_create(&key, leave) || pthread_atfork(NULL, NULL, stop_in_child)) return 0;
+    if (tracectl_open(&tracer, &settings) || !is_joined()) return 0;
+    do_lines(DECLARED[0]);
+    do_lines(DECLARED[1]);
+    return 1;
+}
+
+/* The first call begins. What other threads call meanwhile is not traced. */
+static void begin(void) {
+    int not_begun = NOT_BEGUN;
+    if (!__atomic_compare_exchange_n(&state, &not_begun, BEGINNING, 0, __ATOMIC_ACQUIRE, __ATOMIC_RELAXED)) return;
+    inside = 1;
+    int error = errno;
+    take_settings();
+    if (!find_next()) {
+        tell("trace-malloc: there is no malloc to call\n");
+        abort();
+    }
+    int is_on = is_opened();
+    if (is_on) do_lines(setting(LINES, BY_DEFAULT));
+    else tell("trace-malloc: no tracer can be opened, so nothing is traced\n");
+    errno = error;
+    inside = 0;
+    __atomic_store_n(&state, is_on ? ON : OFF, __ATOMIC_RELEASE);
+}
+
+/* Whether a call may be emitted. If so, `inside` is set. */
+static inline int may_emit(void) {
+    if (__builtin_expect(inside, 0)) return 0;
+    if (__builtin_expect(__atomic_load_n(&state, __ATOMIC_ACQUIRE) != ON, 0)) {
+        if (state == OFF) return 0;
+        begin();
+        if (state != ON) return 0;
+    }
+    inside = 1;
+    if (__builtin_expect(!handle.seat, 0) && !is_joined()) {
+        inside = 0;
+        __atomic_fetch_add(&counts.untraced, 1, __ATOMIC_RELAXED);
+        return 0;
+    }
+    return 1;
+}
+
+/* Ends it, and counts it if it was made. */
+static inline void emitted(uint32_t event, uint64_t *count, const tracectl_value *values, size_t length) {
+    if (tracectl_is_wanted(&handle, event)) {
+        int error = errno;
+        __atomic_fetch_add(tracectl_emit_here(&handle, event, values, length) ? &counts.untraced : count, 1, __ATOMIC_RELAXED);
+        errno = error;
+    }
+    inside = 0;
+}
+
+static inline void emit_malloc(const void *call_site, size_t bytes, const void *block, const void *old) {
+    if (!may_emit()) return;
+    const tracectl_value values[] = {tracectl_unsigned((uintptr_t)call_site), tracectl_unsigned(bytes), tracectl_unsigned((uintptr_t)block),
+                                     tracectl_unsigned((uintptr_t)old)};
+    emitted(MALLOC, &counts.mallocs, values, 4);
+}
+
+static inline void emit_free(const void *call_site, const void *block) {
+    if (!may_emit()) return;
+    const tracectl_value values[] = {tracectl_unsigned((uintptr_t)call_site), tracectl_unsigned((uintptr_t)block)};
+    emitted(FREE, &counts.frees, values, 2);
+}
+
+/* ---- The functions in place of the C library's. ---- */
+
+#define HERE __builtin_return_address(0)
+
+EXPORTED void *malloc(size_t bytes) {
+    if (__builtin_expect(!next.malloc, 0)) begin();
+    void *block = next.malloc ? next.malloc(bytes) : early_block(bytes);
+    emit_malloc(HERE, bytes, block, NULL);
+    return block;
+}
+
+EXPORTED void *calloc(size_t count, size_t bytes) {
+    if (__builtin_expect(!next.calloc, 0)) begin();
+    void *block = next.calloc ? next.calloc(count, bytes) : early_block(count * bytes); /* dlsym asks for little, and the array is of zeros */
+    emit_malloc(HERE, count * bytes, block, NULL);
+    return block;
+}
+
+EXPORTED void *realloc(void *old, size_t bytes) {
+    void *block;
+    if (__builtin_expect(!next.realloc, 0)) begin();
+    if (__builtin_expect(is_early(old), 0)) {
+        size_t before = ((size_t *)old)[-2];
+        block = next.malloc ? next.malloc(bytes) : early_block(bytes);
+        if (block) memcpy(block, old, before < bytes ? before : bytes);
+    } else {
+        block = next.realloc ? next.realloc(old, bytes) : early_block(bytes);
+    }
+    emit_malloc(HERE, bytes, block, old);
+    return block;
+}
+
+EXPORTED void free(void *block) {
+    if (__builtin_expect(is_early(block), 0)) return;
+    if (__builtin_expect(!next.free, 0)) begin();
+    emit_free(HERE, block);
+    if (next.free) next.free(block);
+}
+
+EXPORTED int posix_memalign(void **to, size_t alignment, size_t bytes) {
+    if (!next.posix_memalign) begin();
+    int error = next.posix_memalign ? next.posix_memalign(to, alignment, bytes) : ENOMEM;
+    emit_malloc(HERE, bytes, error ? NULL : *to, NULL);
+    return error;
+}
+
+EXPORTED void *aligned_alloc(size_t alignment, size_t bytes) {
+    if (!next.aligned_alloc) begin();
+    void *block = next.aligned_alloc ? next.aligned_alloc(alignment, bytes) : NULL;
+    emit_malloc(HERE, bytes, block, NULL);
+    return block;
+}
+
+EXPORTED void *memalign(size_t alignment, size_t bytes) {
+    if (!next.memalign) begin();
+    void *block = next.memalign ? next.memalign(alignment, bytes) : NULL;
+    emit_malloc(HERE, bytes, block, NULL);
+    return block;
+}
+
+/* ---- The report. ---- */
+
+enum { SITES = 4096 };
+
+/* Writes where in which file a call site is, with the function's name if that is known. */
+static void show_site(int file, uintptr_t site) {
+    Dl_info found;
+    if (!dladdr((void *)site, &found) || !found.dli_fname) dprintf(file, "%lx: unknown\n", (unsigned long)site);
+    else
+        dprintf(file, "%lx: %s+0x%lx%s%s\n", (unsigned long)site, found.dli_fname, (unsigned long)(site - (uintptr_t)found.dli_fbase),
+                found.dli_sname ? " in " : "", found.dli_sname ? found.dli_sname : "");
+}
+
+/* Writes of each entry's call site in the text of a histogram where it is. */
+static void show_sites(int file, const char *text) {
+    static const char before[] = "{ call_site: ";
+    int base = strstr(text, "call_site.hex") ? 16 : 10;
+    for (const char *at = text; (at = strstr(at, before)); at++) show_site(file, strtoul(at + sizeof before - 1, NULL, base));
+}
+
+static void write_whole(int file, const char *text, size_t length) {
+    for (ssize_t count; length && (count = write(file, text, length)) > 0; text += count, length -= (size_t)count) {}
+}
+
+static void write_report(void *unused) {
+    (void)unused;
+    const char *report = setting(REPORT, ""), *shown = setting(SHOWN, SHOWN_BY_DEFAULT);
+    if (state != ON || inside || !*report) return;
+    inside = 1;
+    uint64_t mallocs = counts.mallocs, frees = counts.frees, untraced = counts.untraced;
+    int file = open(report, O_WRONLY | O_CREAT | O_TRUNC | O_CLOEXEC, 0666);
+    if (file < 0) {
+        tell("trace-malloc: %s: %s\n", report, strerror(errno));
+        return;
+    }
+    dprintf(file, "malloc: %llu\nfree: %llu\nnot traced: %llu\n", (unsigned long long)mallocs, (unsigned long long)frees, (unsigned long long)untraced);
+    uint32_t status = is_joined() ? tracectl_read(&handle, shown, strlen(shown)) : TRACECTL_NO_PASS_LEFT;
+    size_t length = status ? 0 : tracectl_reply_length(&handle);
+    char *text = mapped(length + 1);
+    if (status || !text) dprintf(file, "%s: refused: %s\n", shown, tracectl_status_name(status ? status : TRACECTL_MEMORY));
+    else {
+        tracectl_reply(&handle, 0, text, length);
+        write_whole(file, text, length);
+        show_sites(file, text);
+    }
+    close(file);
+}
+
+/* Programs that end at once, as some shells do, have a report, too. */
+EXPORTED void _exit(int status) {
+    void (*next_exit)(int);
+    *(void **)&next_exit = dlsym(RTLD_NEXT, "_exit");
+    if (getpid() == traced) write_report(NULL);
+    next_exit(status);
+    __builtin_unreachable();
+}
+
+EXPORTED void _Exit(int status) {
+    _exit(status);
+}
+
+extern int __cxa_atexit(void (*function)(void *), void *argument, void *object);
+
+/* What is registered here, before main is begun and of no object, is called after all destructors. */
+__attribute__((constructor)) static void prepare(void) {
+    begin();
+    inside = 1;
+    traced = getpid();
+    leave_environment();
+    if (__cxa_atexit(write_report, NULL, NULL)) tell("trace-malloc: there will be no report\n");
+    inside = 0;
+}
