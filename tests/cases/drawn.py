@@ -30,10 +30,11 @@ def shown(counts):
 
 
 def bars(counts):
-    """What is drawn of it: the greatest count has 60 columns, and each other its share of them, one at least."""
+    """What is drawn of it: the greatest count has 60 columns, and each other its share of them, one at least; above them what they count."""
     greatest = max(counts.values())
-    width = len(str(greatest))
-    return ["  n: %10d  %*d  %s" % (n, width, count, "#" * max(1, 60 * count // greatest)) for n, count in sorted(counts.items())]
+    width = max(len(str(greatest)), len("hitcount"))
+    lines = ["  n: %10d  %*d  %s" % (n, width, count, "#" * max(1, 60 * count // greatest)) for n, count in sorted(counts.items())]
+    return ["  %13s  %*s" % ("", width, "hitcount")] + lines
 
 
 FEW = {3: 1, 7: 7, 11: 2}
@@ -81,20 +82,61 @@ def mingled_cases():
     ]
 
 
+def names_of(trigger, attribute):
+    """The names in a list of a trigger, each with what is after its dot."""
+    found = re.match(r"\S*?:%s=([^: ]*)" % attribute, trigger)
+    return [tuple((name + ".").split(".")[:2]) for name in found[1].split(",")]
+
+
+def drawn_table(trigger, entries):
+    """What is drawn of the entries of a table: of its values the one that it is sorted by first, or else its hits."""
+    sorted_by = names_of(trigger, "sort")[0][0]
+    value = sorted_by if (sorted_by, "") in names_of(trigger, "vals") else "hitcount"
+    numbers = [int(re.search(r"(?:^|  )%s: +(-?\d+)" % value, shown)[1]) for _, shown in entries]
+    greatest = max(map(abs, numbers))
+    lines = []
+    (key, modifier), several = names_of(trigger, "keys")[0], len(names_of(trigger, "keys")) > 1
+    step = {"log2": 1, "buckets": int((modifier + "=0").split("=")[1])}.get(modifier.split("=")[0])
+    gaps = step and not several and value != key == sorted_by
+    firsts = [int(re.search(r"~ (?:2\^)?(-?\d+)", keys)[1]) if gaps else 0 for keys, _ in entries]
+    keys_width = max(len(keys.encode()) for keys, _ in entries)
+    width = max(map(len, [value] + [str(number) for number in numbers]))
+    for at, ((keys, _), number) in enumerate(zip(entries, numbers)):
+        if gaps and at > 0 and abs(firsts[at] - firsts[at - 1]) != step:
+            lines.append("  ..")
+        bar = "-#"[number > 0] * (number != 0 and max(1, 60 * abs(number) // greatest))
+        lines.append(("  %-*s  %*d  %s" % (keys_width, keys, width, number, bar)).rstrip(" "))
+    return ["  %*s  %*s" % (keys_width, "", width, value)] + lines
+
+
+def drawn_tables(text):
+    """What is drawn of the tables in an output, with an empty line between two."""
+    tables, lines = [], []
+    for line in text.splitlines():
+        begun = re.match("# trigger info: (.*)", line)
+        entry = re.match(r"\{ (.*) \} (hitcount: .*)", line)
+        if begun:
+            tables.append((begun[1], []))
+        elif entry:
+            tables[-1][1].append((entry[1], entry[2]))
+    for trigger, entries in tables:
+        if entries:
+            lines += [""] * bool(lines) + drawn_table(trigger, entries)
+    return text_of(lines)
+
+
 def drawn_script(script):
-    """That a script has the output and the status that lie beside it, and the bars that do; where none do, a line for each entry that is read."""
+    """That a script has the output and the status that lie beside it, and the bars that are computed of that output, as its file of bars has them."""
     drawn_beside = beside(script, ".bars")
 
     def drawn(program):
         want = wanted(script)
+        bars_wanted = drawn_tables(want.stdout.decode())
         got = run([program, "--bars"] + words_of(script), script=script.read_bytes())
-        if drawn_beside.exists():
-            return differences(got, want._replace(stderr=drawn_beside.read_bytes()))
-        entries = re.findall(rb"^\{ (.*) \} hitcount: +(\d+)", want.stdout, re.MULTILINE)
-        lines = [line for line in got.stderr.splitlines() if line]
-        right = [re.fullmatch(rb"  " + re.escape(keys) + rb" +" + count + rb"  #{1,60}", line) for (keys, count), line in zip(entries, lines)]
-        found = differences(got._replace(stderr=b""), want)
-        return found + ([] if len(lines) == len(entries) and all(right) else ["standard error is %s" % quoted(got.stderr)])
+        found = differences(got, want._replace(stderr=bars_wanted))
+        if drawn_beside.exists() and drawn_beside.read_bytes() != bars_wanted:
+            found.append("%s is not what is computed: %s" % (drawn_beside.name, quoted(bars_wanted)))
+        return found
 
     return Case("--bars %s" % script.relative_to(TOP), drawn)
 

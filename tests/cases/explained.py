@@ -230,6 +230,8 @@ FAULTS = [  # lines, each with its fault
     ("emit 0 -2147483649 tick n=1", "BadNumber"),
 ]
 
+QUOTE = "quote what is written, as `echo 'n > 5' > PATH`: a `>` outside quotes is a redirection"
+
 TOLD_FAULTS = [  # lines, each with its fault, how it is shown, the bytes before the caret, and the words
     ("cat 'a' \"b'", "UnclosedQuote", "cat 'a' \"b'", "cat 'a' ", "this quote is not closed"),
     ("cat \u00e9", "BadByte", "cat ??", "cat ", "this byte is neither a tab nor one from 0x20 to 0x7e"),
@@ -247,7 +249,11 @@ TOLD_FAULTS = [  # lines, each with its fault, how it is shown, the bytes before
     ("echo a", "WrongWords", "echo a", "echo a", "expected `echo WORD .. > PATH`, or `>>`"),
     ("echo a >", "WrongWords", "echo a >", "echo a >", "expected `echo WORD .. > PATH`, or `>>`"),
     ("echo a > b c", "WrongWords", "echo a > b c", "echo a > b ", "expected `echo WORD .. > PATH`, or `>>`"),
-    ("echo a > b > c", "WrongWords", "echo a > b > c", "echo a > b ", "expected `echo WORD .. > PATH`, or `>>`"),
+    ("echo a > b > c", "WrongWords", "echo a > b > c", "echo a > b ", QUOTE),
+    ("echo lat > 5 > ../filter", "WrongWords", "echo lat > 5 > ../filter", "echo lat > 5 ", QUOTE),
+    ("echo a >= 5 >> c", "WrongWords", "echo a >= 5 >> c", "echo a >= ", QUOTE),
+    ("echo a>5&&b>6 > c", "WrongWords", "echo a>5&&b>6 > c", "echo a>5&&b", QUOTE),
+    ("echo 'a > b' > c > 'd'", "WrongWords", "echo 'a > b' > c > 'd'", "echo 'a > b' > c ", QUOTE),
     ("echo a >>> b", "WrongWords", "echo a >>> b", "echo a >>", "expected `echo WORD .. > PATH`, or `>>`"),
     ("emit 0 7 tick", "WrongWords", "emit 0 7 tick", "emit 0 7 tick", "expected `emit CPU PID EVENT FIELD=VALUE ..`"),
     ("emit 0 7 tick n=1 m", "WrongWords", "emit 0 7 tick n=1 m", "emit 0 7 tick n=1 ", "expected `emit CPU PID EVENT FIELD=VALUE ..`"),

@@ -6,6 +6,7 @@ from cases.running import TOP, Case
 
 TABLE = TOP / "crates" / "file_list" / "src" / "files.rt"
 PAGE = TOP / "docs" / "FILES.md"
+LEFT_OUT = TOP / "crates" / "refusal_explanations" / "src" / "left_out.rt"
 NEAR = TOP / "crates" / "refusal_explanations" / "src" / "near.rt"
 ROW = re.compile(r'\(\s*(\w+)(?:\([^"]*\))?,\s*"(\w+)",\s*(?:Both|Read|Write),?\s*\),')
 MOUNTED = ("Tool", "OfTop", "CpuSize", "EventId", "ErrorLog")  # those of a mount only; docs/MOUNT.md has inject
@@ -45,8 +46,15 @@ def near_ones_are_files():
     return wrong
 
 
+def mounted_ones_are_told():
+    rows = ROW.findall(TABLE.read_text())
+    told = set(re.findall(r"only a mounted tracer has `(\w+)`", LEFT_OUT.read_text()))
+    return differ_in("files that are said to be a mount's", told, {name for kind, name in rows if kind in MOUNTED + ("Inject",)})
+
+
 def file_cases():
     return [
         Case("docs/FILES.md has the files of the table", lambda _program: files_are_listed()),
         Case("`did you mean` knows the files of the table", lambda _program: near_ones_are_files()),
+        Case("--explain knows the files that only a mount has", lambda _program: mounted_ones_are_told()),
     ]

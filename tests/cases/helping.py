@@ -84,9 +84,8 @@ def section_lines(section):
 
 
 def for_a_page(text):
-    """Help without what tells of the repository's starter alone, by whose name it is called there, and of the user who asks."""
-    text = re.sub(r"^Building:\n(?: .*\n)*\n", "", text.replace("./tracectl-mount", "tracectl-mount"), flags=re.M)
-    text = re.sub(r"^  5  \./tracectl .*\n", "", text, flags=re.M)
+    """Help without the name of the repository's starter, by which it is called there, and of the user who asks."""
+    text = text.replace("./tracectl-mount", "tracectl-mount")
     logs = "  /var/log/tracectl-mount.log, or of others than root ~/.local/state/tracectl-mount.log  "
     return re.sub(r"^  /.*/tracectl-mount\.log\n +", logs, text, flags=re.M)
 
@@ -108,8 +107,10 @@ def man_page(tool, text, version):
 def bash_completion(tool, text):
     options = [term for term, _ in options_in(text)]
     names = [name for term in options for name in names_in(term)]
-    with_value = [name for term in options if value_in(term) not in (None, "DIR") for name in names_in(term)]
+    with_value = [name for term in options if value_in(term) not in (None, "DIR", "FILE") for name in names_in(term)]
+    with_file = [name for term in options if value_in(term) == "FILE" for name in names_in(term)]
     made = {"tool": tool, "made": MADE % tool, "name": tool.replace("-", "_"), "options": " ".join(names), "with_value": " | ".join(with_value)}
+    made["files"] = OF_FILES % " | ".join(with_file) if with_file else ""
     return COMPLETING.format(**made, **({"kind": "d", "command": OF_A_COMMAND} if tool == "tracectl-mount" else {"kind": "f", "command": ""}))
 
 
@@ -120,7 +121,7 @@ _{name}() {{
   COMPREPLY=()
 {command}  case $before in
     {with_value}) return ;;
-  esac
+{files}  esac
   if [[ $word = -* ]]; then
     mapfile -t COMPREPLY < <(compgen -W '{options}' -- "$word")
   else
@@ -128,6 +129,13 @@ _{name}() {{
   fi
 }}
 complete -o filenames -F _{name} {tool} ./{tool}
+"""
+
+OF_FILES = """\
+    %s)
+      mapfile -t COMPREPLY < <(compgen -f -- "$word")
+      return
+      ;;
 """
 
 OF_A_COMMAND = """\
@@ -142,12 +150,12 @@ OF_A_COMMAND = """\
 
 
 def zsh_option(term, description):
-    """An option as `_arguments` takes it: one of two names shuts out the other. A number may follow = in the same word, and a folder may not."""
+    """An option as `_arguments` takes it: one of two names shuts out the other. A number or a file may follow = in the same word, and a folder may not."""
     names, value = names_in(term), value_in(term)
     sign = "=" if value not in (None, "DIR") and names[0].startswith("--") else ""
     told = "[%s]" % re.sub(r"([\[\]\\])", r"\\\1", description).replace("'", "'\\''")
     if value:
-        told += ":%s:%s" % (value, "_directories" if value == "DIR" else " ")
+        told += ":%s:%s" % (value, {"DIR": "_directories", "FILE": "_files"}.get(value, " "))
     if len(names) == 2:
         return "'(%s)'{%s}'%s'" % (" ".join(names), ",".join(names), told)
     return "'%s%s%s%s'" % ("*" if term.endswith("...") else "", names[0], sign, told)
@@ -237,6 +245,8 @@ def completes(_):
         (["tracectl", "crates.t"], ["crates.txt"]),
         (["tracectl-mount", "--mo"], ["--mode"]),
         (["tracectl-mount", "--mode", ""], []),
+        (["tracectl-mount", "--re"], ["--record", "--replay"]),
+        (["tracectl-mount", "--replay", "crates.t"], ["crates.txt"]),
         (["tracectl-mount", "crates"], ["crates"]),
         (["tracectl-mount", "--cpus", "2", "--", "truncat"], ["truncate"]),
         (["tracectl-mount", "--", "cat", "crates.t"], ["crates.txt"]),

@@ -21,17 +21,18 @@ TELLING = re.compile(rb"^install: nothing of this library is proved; .*\n", re.M
 # In a namespace: these two folders are covered.
 HIDING = 'mount -t tmpfs none "$1" && mount -t tmpfs none "$2" && exec "${@:3}"'
 
-# On a folder: a tracer records, and is taken away.
+# On a folder: a tracer records, and is taken away. What was asked of it is recorded, and replays.
 ON_FOLDER = """
 set -e
 mkdir place
-tracectl-mount place
+tracectl-mount --record recorded place
 echo 'tick u64 n' > place/synthetic_events
 echo 1 > place/events/synthetic/tick/enable
 echo n=5 > place/events/synthetic/tick/inject
 grep -o 'tick: n=.*' place/trace
 tracectl-mount --over place -- grep -o 'tick: n=.*' /sys/kernel/tracing/trace
 umount place
+tracectl-mount --replay recorded trace | grep -o 'tick: n=.*'
 """
 
 
@@ -213,7 +214,7 @@ def mounts(place):
     session = place.do("tracectl-mount", "--", "bash", place.elsewhere / "mount" / "session")
     found = differences(session._replace(stderr=b""), Outcome(0, (place.elsewhere / "mount" / "session.stdout").read_bytes(), b""))
     if os.geteuid() == 0:
-        found += differences(place.do("bash", "-c", ON_FOLDER), Outcome(0, b"tick: n=5\n" * 2, said))
+        found += differences(place.do("bash", "-c", ON_FOLDER), Outcome(0, b"tick: n=5\n" * 3, said * 2))
     return found
 
 
@@ -225,7 +226,8 @@ def builds_in_c(flags, has_shared):
         for source in sorted((place.elsewhere / "c").glob("*.c")):
             build = '%s -O2 -Wall -Wextra -Werror %s -o "$1" "$1.c" $(pkg-config --cflags --libs %s tracectl) -pthread' % (os.environ.get("CC", "cc"), *flags)
             found += ["%s: %s" % (source.name, difference) for difference in differences(place.do("bash", "-c", build, "-", source.with_suffix("")), Outcome(0, b"", b""))]
-            got, want = place.do(source.with_suffix("")), source.with_suffix(".stdout").read_bytes()
+            got, stdout = place.do(source.with_suffix("")), source.with_suffix(".stdout")
+            want = stdout.read_bytes() if stdout.exists() else got.stdout  # what server.c prints clocks decide; tests/library looks at it
             found += ["%s: %s" % (source.name, difference) for difference in differences(got._replace(stdout=without_times(got.stdout)), Outcome(0, without_times(want), b""))]
             linked = b"%s/lib/libtracectl.so.0 " % str(place.prefix).encode() in place.do("ldd", source.with_suffix("")).stdout
             found += [] if linked == has_shared else ["%s is %slinked to the shared library" % (source.name, "" if linked else "not ")]

@@ -7,10 +7,11 @@ import shutil
 import subprocess
 import sys
 import tempfile
+from itertools import zip_longest
 from pathlib import Path
 
 from cases.python_calls import python_cases
-from cases.running import TOP, Case, Outcome, differences, run, text_differences
+from cases.running import TOP, Case, Outcome, differences, quoted, run, text_differences
 from cases.scripts import scripts_of, wanted, words_of
 from cases.statuses import status_cases
 
@@ -36,7 +37,7 @@ def built():
     subprocess.run([str(TOP / "examples" / "c" / "build"), str(folder)], check=True)
     heap = Path(subprocess.run(["rt", "doc"], stdout=subprocess.PIPE, check=True).stdout.decode().strip()).parent / "c" / "liblibc_c.a"
     wrapped = {"memory": ["-Wl,--wrap=malloc,--wrap=realloc,--wrap=free"], "refused": ["-Wl,--wrap=malloc"]}
-    for name in ("memory", "limits", "values", "refused", "threads", "wanted"):
+    for name in ("memory", "limits", "values", "refused", "explained", "threads", "wanted"):
         words = wrapped.get(name, []) + ["-I", LIBRARY.parent.parent, "-o", folder / name, CASES / (name + ".c"), folder / "libtracectl_c.a", heap, "-pthread"]
         subprocess.run([os.environ.get("CC", "cc")] + [str(word) for word in words], check=True)
     build_in_cpp(folder, heap)
@@ -79,9 +80,15 @@ def settings_of(words):
     return {OPTIONS[word]: int(value) for word, value in zip(words[:-1:2], words[1:-1:2])}
 
 
+def has_lines_alone(script):
+    """Whether a script can be done line by line: it has no parallel part, and no byte 0, which the Python package refuses."""
+    text = script.read_bytes()
+    return settings_of(words_of(script)) is not None and b"parallel" not in text and b"\0" not in text
+
+
 def is_plain(script):
     """Whether a script has no parallel part, and nothing in it is refused."""
-    return settings_of(words_of(script)) is not None and b"parallel" not in script.read_bytes() and wanted(script).status == 0
+    return has_lines_alone(script) and wanted(script).status == 0
 
 
 def fields_of(tracer, event):
@@ -123,6 +130,43 @@ def called(program, tracer_of, script, does_another_way=lambda tracer, line: Fal
     return text_differences("replies", replies, wanted(script).stdout) + text_differences("replies and the list", replies + files, listed)
 
 
+QUOTED = "quoted_name_with_a_word_too_many"  # for which a call has other words, as the name of its command has quotes
+
+
+def explained_by_lines(tracer_of, refusals, script):
+    """The name and the sentence of each refused line of a script, by its number, up to the first fault, which ends a script."""
+    told = []
+    with tracer_of(**settings_of(words_of(script))) as tracer:
+        for number, line in enumerate(script.read_bytes().split(b"\n"), 1):
+            try:
+                tracer.line(line)
+            except refusals as refused:
+                told.append((number, refused.name, refused.explanation))
+                if refused.status > 100:
+                    break
+    return told
+
+
+NO_TABLE = "the event has no trigger with this name, keys, values, sort and filter"
+
+
+def by_calls(number, name, words):
+    """What calls say of a line of which `--explain` alone says this: it knows what only a mount or a kernel has, and how a trigger was written."""
+    if re.match("only a mounted tracer has |.* (is|are) left out: ", words) and name == "NoSuchFile":
+        words = "no file has this path"
+    elif words == NO_TABLE:
+        words = "expected `>>` and a trigger that the event has, with its name, keys, values, sort and filter"
+    return number, name, words
+
+
+def explained(program, tracer_of, refusals, script):
+    """That calls explain a script's refused lines as `tracectl --explain` does."""
+    told = run([program, "--explain"] + words_of(script), script=script.read_bytes()).stderr.decode()
+    want = [by_calls(int(number), name, words) for number, name, words in re.findall(r"^\S*?:(\d+)(?::\d+)?: (\w+): (.*)$", told, re.MULTILINE)]
+    got = explained_by_lines(tracer_of, refusals, script)
+    return ["explains %s, and the program %s" % pair for pair in zip_longest(got, want) if pair[0] != pair[1]]
+
+
 def without_times(histograms):
     """A text of histograms without what clocks decide: one row in place of those of each, with the sum of their hits, and no number of entries."""
     lines = []
@@ -146,6 +190,22 @@ def timed_case(name, command, stdout):
     return Case(name, found)
 
 
+SERVED = re.compile(
+    rb"How many requests took up to so many microseconds:\n(\{ us: +~ 2\^\d+ \} hitcount: +\d+\n)+    Hits: 300\n"
+    rb"The first slow one, and what came before it:\n(\d+ \[00[0-3]\] \d+: request: at=\d+ us=\d+ path=\S+\n){0,3}\d+ .* us=(\d+) path=\S+\n"
+    rb"The last slow ones:\n(?:\d+ \[00[0-3]\] \d+: request: at=\d+ us=\d+ path=\S+\n){3}"
+)
+
+
+def served(program):
+    """What is wrong with what examples/c/server.c prints of 300 requests. Which of them are slow a clock decides."""
+    got = run([program, "300"])
+    found = SERVED.fullmatch(got.stdout)
+    if got.status or got.stderr or not found or int(found[3]) < 5_000:
+        return ["%s %s %s" % (got.status, quoted(got.stdout), quoted(got.stderr))]
+    return []
+
+
 def example_case(name, command, folder, stdout):
     settings = ["env", "PYTHONDONTWRITEBYTECODE=1", "PYTHONPATH=%s" % PACKAGE, "TRACECTL_LIBRARY=%s" % (folder / "libtracectl.so")]
     return Case(name, lambda _: differences(run(settings + command), Outcome(0, stdout.read_bytes(), b"")))
@@ -158,7 +218,7 @@ def library_cases():
         return []
     folder, sanitized = built()
     sys.path.insert(0, str(PACKAGE))
-    from tracectl import Tracer
+    from tracectl import Refused, Tracer
 
     def tracer_of(**settings):
         return Tracer(library=str(folder / "libtracectl.so"), **settings)
@@ -172,6 +232,9 @@ def library_cases():
     def script_case(script):
         return Case("by calls: " + script.name, lambda program: called(program, tracer_of, script))
 
+    def explained_case(script):
+        return Case("explained by calls: " + script.name, lambda program: explained(program, tracer_of, Refused, script))
+
     def values_case(script):
         return Case("by values: " + script.name, lambda program: called(program, tracer_of, script, emit_by_values))
 
@@ -183,10 +246,12 @@ def library_cases():
         example_case("tests/library_cases/limits.c", [folder / "limits"], folder, CASES / "limits.stdout"),
         example_case("tests/library_cases/values.c", [folder / "values"], folder, CASES / "values.stdout"),
         example_case("tests/library_cases/refused.c", [folder / "refused"], folder, CASES / "refused.stdout"),
+        example_case("tests/library_cases/explained.c", [folder / "explained"], folder, CASES / "explained.stdout"),
         example_case("tests/library_cases/threads.c", [folder / "threads"], folder, CASES / "threads.stdout"),
         example_case("tests/library_cases/wanted.c", [folder / "wanted"], folder, CASES / "wanted.stdout"),
         example_case("examples/c/four_threads.c", [folder / "four_threads"], folder, TOP / "examples" / "c" / "four_threads.stdout"),
         example_case("examples/c/switched.c", [folder / "switched"], folder, TOP / "examples" / "c" / "switched.stdout"),
+        Case("examples/c/server.c", lambda _: served(folder / "server")),
     ]
     for script in sorted(EXAMPLES.glob("*.py")):
         cases.append(example_case("examples/python/" + script.name, [sys.executable, script], folder, script.with_suffix(".stdout")))
@@ -194,4 +259,6 @@ def library_cases():
         cases.append(example_case("tests/library_cases/wanted.c in C++", [folder / "wanted_in_cpp"], folder, CASES / "wanted.stdout"))
     cases += [sanitized_case(name, program) for name, program in sanitized.items()]
     cases += python_cases(folder / "libtracectl.so") + status_cases(folder / "libtracectl.so")
+    refusing = [script for script in scripts_of(TOP / "tests" / "rows") if has_lines_alone(script) and wanted(script).status != 0 and script.name != QUOTED]
+    cases += list(map(explained_case, refusing))
     return cases + list(map(script_case, scripts)) + [values_case(script) for script in scripts if b"\nemit " in script.read_bytes()]

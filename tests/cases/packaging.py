@@ -121,15 +121,30 @@ def finds_library(place):
     return found
 
 
+def python_with(module):
+    """The Python that runs the tests, or another one that is found as python3, if it has a module."""
+    others = [shutil.which("python3", path=folder) for folder in os.get_exec_path()]
+    for python in [sys.executable, *filter(None, others)]:
+        if not run(["env", "-u", "PYTHONPATH", python, "-c", "import " + module]).status:
+            return python
+    return None
+
+
 def draws(place):
-    """examples/python/histogram.py into a file, if there is matplotlib. It is what runs the tests that may have it, not the virtual environment."""
-    if not importlib.util.find_spec("matplotlib"):
+    """examples/python/histogram.py into a file, if there is a Python with matplotlib, which the virtual environment has not."""
+    python = python_with("matplotlib")
+    if not python:
         print("skipped: examples/python/histogram.py into a file, as there is no matplotlib", flush=True)
         return []
-    settings = ["env", "PYTHONPATH=%s" % PACKAGE, "PYTHONDONTWRITEBYTECODE=1", "TRACECTL_LIBRARY=%s" % (place.room / "libtracectl.so")]
-    file = place.room / "drawn.png"
-    found = differences(run([*settings, sys.executable, TOP / "examples" / "python" / "histogram.py", file]), Outcome(0, b"", b""))
-    return found + ([] if file.exists() and file.read_bytes().startswith(b"\x89PNG") else ["nothing is drawn"])
+    settings = ["env", "PYTHONPATH=%s" % PACKAGE, "PYTHONDONTWRITEBYTECODE=1", "MPLCONFIGDIR=%s" % place.room]
+    settings.append("TRACECTL_LIBRARY=%s" % (place.room / "libtracectl.so"))
+    found = []
+    for suffix, head in ((".png", b"\x89PNG"), (".svg", b"<?xml")):
+        file = (place.room / "drawn").with_suffix(suffix)
+        got = run([*settings, python, TOP / "examples" / "python" / "histogram.py", file])
+        found += differences(got._replace(stderr=b""), Outcome(0, b"", b""))  # matplotlib says when it first looks for fonts
+        found += [] if file.exists() and file.read_bytes().startswith(head) else ["nothing is drawn into %s" % file.name]
+    return found
 
 
 def installs_other_ways(place):
@@ -147,14 +162,16 @@ def installs_other_ways(place):
 
 
 def has_types(place):
-    """What mypy says of the package and the examples, if it is there."""
-    if not importlib.util.find_spec("mypy"):
+    """What mypy says of the package and the examples, if it is there. Only matplotlib may be without types."""
+    python = python_with("mypy")
+    if not python:
         print("skipped: types of the Python package, as there is no mypy", flush=True)
         return []
-    settings = ["env", "MYPYPATH=%s" % PACKAGE]
-    words = [sys.executable, "-m", "mypy", "--strict", "--cache-dir", place.room / "mypy", "--explicit-package-bases", PACKAGE / "tracectl"]
-    got = run(settings + words)
-    return [] if not got.status else got.stdout.decode().splitlines()
+    (place.room / "mypy.ini").write_text("[mypy]\n[mypy-matplotlib.*]\nignore_missing_imports = True\n")
+    settings = ["--config-file", place.room / "mypy.ini", "--cache-dir", place.room / "mypy", "--explicit-package-bases"]
+    examples = sorted((TOP / "examples" / "python").glob("*.py"))
+    got = run(["env", "MYPYPATH=%s" % PACKAGE, python, "-m", "mypy", "--strict", *settings, PACKAGE / "tracectl", *examples])
+    return [] if not got.status else got.stdout.decode().splitlines() or [quoted(got.stderr)]
 
 
 def packaging_cases():
