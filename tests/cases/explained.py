@@ -219,6 +219,7 @@ FAULTS = [  # lines, each with its fault
     ("echo a >", "WrongWords"),
     ("echo a > b c", "WrongWords"),
     ("echo a > b > c", "WrongWords"),
+    ("echo a >> b > c", "WrongWords"),
     ("echo a >>> b", "WrongWords"),
     ("emit 0 7 tick", "WrongWords"),
     ("emit 0 7 tick n=1 m", "WrongWords"),
@@ -231,6 +232,7 @@ FAULTS = [  # lines, each with its fault
 ]
 
 QUOTE = "quote what is written, as `echo 'n > 5' > PATH`: a `>` outside quotes is a redirection"
+ONE = "expected one redirection, `> PATH` or `>> PATH`"
 
 TOLD_FAULTS = [  # lines, each with its fault, how it is shown, the bytes before the caret, and the words
     ("cat 'a' \"b'", "UnclosedQuote", "cat 'a' \"b'", "cat 'a' ", "this quote is not closed"),
@@ -254,6 +256,13 @@ TOLD_FAULTS = [  # lines, each with its fault, how it is shown, the bytes before
     ("echo a >= 5 >> c", "WrongWords", "echo a >= 5 >> c", "echo a >= ", QUOTE),
     ("echo a>5&&b>6 > c", "WrongWords", "echo a>5&&b>6 > c", "echo a>5&&b", QUOTE),
     ("echo 'a > b' > c > 'd'", "WrongWords", "echo 'a > b' > c > 'd'", "echo 'a > b' > c ", QUOTE),
+    ("echo a > b >> c", "WrongWords", "echo a > b >> c", "echo a > b ", QUOTE),
+    ("echo a >> b > c", "WrongWords", "echo a >> b > c", "echo a >> b ", ONE),
+    ("echo 'a > b'>>c>>'d' e", "WrongWords", "echo 'a > b'>>c>>'d' e", "echo 'a > b'>>c", ONE),
+    ("echo >> a >", "WrongWords", "echo >> a >", "echo >> a ", ONE),
+    ("echo a >> b c > d", "WrongWords", "echo a >> b c > d", "echo a >> b ", "expected `echo WORD .. > PATH`, or `>>`"),
+    ("echo a > > b > c", "WrongWords", "echo a > > b > c", "echo a > ", "expected `echo WORD .. > PATH`, or `>>`"),
+    ("cat a >> b > c", "WrongWords", "cat a >> b > c", "cat a ", "expected `cat PATH`"),
     ("echo a >>> b", "WrongWords", "echo a >>> b", "echo a >>", "expected `echo WORD .. > PATH`, or `>>`"),
     ("emit 0 7 tick", "WrongWords", "emit 0 7 tick", "emit 0 7 tick", "expected `emit CPU PID EVENT FIELD=VALUE ..`"),
     ("emit 0 7 tick n=1 m", "WrongWords", "emit 0 7 tick n=1 m", "emit 0 7 tick n=1 ", "expected `emit CPU PID EVENT FIELD=VALUE ..`"),

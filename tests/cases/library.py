@@ -147,7 +147,7 @@ def explained_by_lines(tracer_of, refusals, script):
     return told
 
 
-NO_TABLE = "the event has no trigger with this name, keys, values, sort and filter"
+NO_TABLE = "the event's `trigger` lists none with this name, keys, values, sort and filter"
 
 
 def by_calls(number, name, words):
@@ -155,7 +155,7 @@ def by_calls(number, name, words):
     if re.match("only a mounted tracer has |.* (is|are) left out: ", words) and name == "NoSuchFile":
         words = "no file has this path"
     elif words == NO_TABLE:
-        words = "expected `>>` and a trigger that the event has, with its name, keys, values, sort and filter"
+        words = "expected `>>` and a trigger that the event's `trigger` lists, with its name, keys, values, sort and filter"
     return number, name, words
 
 

@@ -232,8 +232,13 @@ exists_words text =
     else (if is_some (attribute_at (codes ":name=") (word_of text)) then codes "expected a trigger that is new to the event and fits the table of its name"
     else codes "the event has this trigger already")
 
--- what is wrong with a command about this that names this path and writes this. N15: a trigger that goes on or is
--- cleared is never there after `>`
+-- N15: a trigger that goes on or is cleared is never there after `>`
+abbrev pub no_trigger_words : List ℕ → List ℕ
+no_trigger_words text =
+    if begins (codes "!") text then codes "the event has no such trigger: its `trigger` lists those that it has"
+    else codes "expected `>>` and a trigger that the event's `trigger` lists, with its name, keys, values, sort and filter"
+
+-- what is wrong with a command about this that names this path and writes this
 unfoldable pub refusal_words : Subject → List ℕ → List ℕ → Refusal → List ℕ
 refusal_words subject path text NoSuchFile = path_words subject path
 refusal_words subject path text NotReadable = codes "the file can't be read"
@@ -251,8 +256,7 @@ refusal_words subject path text (WrongOperator at cause) = operator_words cause 
 refusal_words subject path text (HistSyntax at cause) = hist_words cause (drop at text)
 refusal_words subject path text BadSize = codes "expected a size from 65 to 131072"
 refusal_words subject path text TriggerExists = exists_words text
-refusal_words subject path text NoSuchTrigger =
-    if begins (codes "!") text then codes "the event has no such trigger" else codes "expected `>>` and a trigger that the event has, with its name, keys, values, sort and filter"
+refusal_words subject path text NoSuchTrigger = no_trigger_words text
 refusal_words subject path text (TooMany limit) = limit_words limit
 refusal_words subject path text InstanceExists = codes "there is an instance of this name already"
 refusal_words subject path text NoSuchInstance = codes "there is no instance of this name"

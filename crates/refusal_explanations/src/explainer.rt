@@ -7,7 +7,7 @@ ghost use Rattle.refusal_explanations.specs.Explanations.{IsExplained, IsExplana
 
 use crate::caret::starts;
 use crate::cut::{begins, last_part};
-use crate::fault::{fault_offset, name_of, quoting_words};
+use crate::fault::{fault_offset, name_of, redirection_words};
 use crate::fault_words::fault_words;
 use crate::layout::{ScriptLine, shown};
 use crate::left_out::{FILES, told_of};
@@ -39,7 +39,7 @@ fn advised_words(command: &Command<'_>, refusal: &Refusal) -> &'static str {
             told_of(&FILES, last_part(path), words)
         }
         (Refusal::NoSuchTrigger, Command::Write { append: true, .. }) if !begins(b"!", text) => {
-            "the event has no trigger with this name, keys, values, sort and filter"
+            "the event's `trigger` lists none with this name, keys, values, sort and filter"
         }
         _ => words,
     }
@@ -81,7 +81,7 @@ impl Explainer {
         let begun = starts(self.alloc, line.text)?;
         let caret = fault_offset(self.alloc, &name, line.text, &begun, fault)?;
         let plain = fault_words(is_next, &name, fault);
-        let words = quoting_words(&name, line.text, &begun, fault, plain).as_bytes();
+        let words = redirection_words(&name, line.text, &begun, fault, plain).as_bytes();
         let meant = line_meant(&name, fault).as_bytes();
         let text = shown(self.alloc, line, caret, fault.name(), words, meant)?;
         Ok(text)

@@ -29,7 +29,7 @@ fn is_arrow(line: &[u8], at: usize) -> bool {
     matches!(after(at, line), [b'>', ..])
 }
 
-/// Whether the words of a line, which begin there, go on with a `>` after a redirection and its path: most likely one that was to be written.
+/// Whether the words of a line, which begin there, go on with a `>` after a redirection by `>` and its path: most likely one that was to be written.
 fn has_later_arrow(line: &[u8], starts: &[usize]) -> bool {
     let first = starts.iter().position(|at| is_arrow(line, *at));
     let after_first = first.unwrap_or(starts.len()).saturating_add(1);
@@ -41,8 +41,23 @@ fn has_later_arrow(line: &[u8], starts: &[usize]) -> bool {
     }
 }
 
-/// What is told of a line of this name, whose words begin there, and which has this fault: that a `>` is to be quoted, or else these words.
-pub(crate) fn quoting_words(
+/// Whether the words of a line, which begin there, go on with a redirection right after one by `>>` and its path.
+fn has_second_redirection(line: &[u8], starts: &[usize]) -> bool {
+    let first = starts.iter().position(|at| is_arrow(line, *at));
+    match starts.get(first.unwrap_or(starts.len())..) {
+        Some([arrow, second, path, next, ..]) => {
+            *second == arrow.saturating_add(1)
+                && is_arrow(line, *second)
+                && !is_arrow(line, *path)
+                && is_arrow(line, *next)
+        }
+        _ => false,
+    }
+}
+
+/// What is told of a line of this name, whose words begin there, and which has this fault: that a `>` is to be quoted, that a redirection is one too
+/// many, or else these words.
+pub(crate) fn redirection_words(
     name: &[u8],
     line: &[u8],
     starts: &[usize],
@@ -53,6 +68,9 @@ pub(crate) fn quoting_words(
     match name {
         b"echo" if is_wrong && has_later_arrow(line, starts) => {
             "quote what is written, as `echo 'n > 5' > PATH`: a `>` outside quotes is a redirection"
+        }
+        b"echo" if is_wrong && has_second_redirection(line, starts) => {
+            "expected one redirection, `> PATH` or `>> PATH`"
         }
         _ => words,
     }

@@ -26,7 +26,7 @@ pub const ATTRIBUTES: [(&[u8], &str); 5] = [
         b"nohitcount",
         "`nohitcount` is left out: each entry has its count",
     ),
-    (b"nohc", "`nohc` is left out: each entry has its count"),
+    (b"NOHC", "`NOHC` is left out: each entry has its count"),
 ];
 
 /// Fields that each event of a kernel has.

@@ -231,6 +231,16 @@ fn exists_words(text: &[u8]) -> &'static str
     }
 }
 
+fn no_trigger_words(text: &[u8]) -> &'static str
+    ensures { result.now ≡ words.no_trigger_words text.now }
+{
+    if begins(b"!", text) {
+        "the event has no such trigger: its `trigger` lists those that it has"
+    } else {
+        "expected `>>` and a trigger that the event's `trigger` lists, with its name, keys, values, sort and filter"
+    }
+}
+
 /// What is wrong with a command about this that names this path and writes this.
 #[tactic(auto, unfolding(crate::specs::Words::refusal_words))]
 pub(crate) fn refusal_words(
@@ -258,9 +268,7 @@ pub(crate) fn refusal_words(
         (Refusal::HistSyntax { at, cause }, _) => hist_words(*cause, after(*at, text)),
         (Refusal::BadSize, _) => "expected a size from 65 to 131072",
         (Refusal::TriggerExists, _) => exists_words(text),
-        (Refusal::NoSuchTrigger, _) if begins(b"!", text) => "the event has no such trigger",
-        (Refusal::NoSuchTrigger, _) =>
-            "expected `>>` and a trigger that the event has, with its name, keys, values, sort and filter",
+        (Refusal::NoSuchTrigger, _) => no_trigger_words(text),
         (Refusal::TooMany { limit }, _) => limit_words(*limit),
         (Refusal::InstanceExists, _) => "there is an instance of this name already",
         (Refusal::NoSuchInstance, _) => "there is no instance of this name",
