@@ -236,7 +236,7 @@ in-turn : (g : Terms) (before : Service) (turn : Turn) (after : Service) (u : �
     → times u (numbers_of before.parked) + times u (asked_in g before turn after one)
     ≡ times u (answered_in g before turn after one) + times u (numbers_of after.parked)
 in-turn g before (Exchanged asked bytes) after u one = once g before asked bytes after u one
-in-turn g before (Called request answer) after u one = rw (ap (λ (s : Service). s.parked) one.1) (omega arith)
+in-turn g before (Called limit request answer) after u one = rw (ap (λ (s : Service). s.parked) one.1) (omega arith)
 
 pub reads_are_answered_once : ReadsAreAnsweredOnce
 reads_are_answered_once g before [] after same u = rw (ap (λ (s : Service). s.parked) same) (omega arith)

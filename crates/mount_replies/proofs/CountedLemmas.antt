@@ -43,7 +43,7 @@ use Rattle.mount_replies.proofs.AskedSteps.{IsOfEach, IsOfThere, parked-is, step
 use Rattle.mount_replies.proofs.DoneLemmas.{turn-done}
 use Rattle.mount_replies.proofs.PartLaws.{does-adds}
 use Rattle.mount_replies.proofs.RunLemmas.{Adds}
-use Rattle.mount_replies.proofs.TurnLemmas.{call-does, call_step, turns-keep}
+use Rattle.mount_replies.proofs.TurnLemmas.{call-keeps, call_step, turns-keep}
 use Rattle.mount_replies.specs.Calls.{Called, Exchanged, IsTurned, TakesTurns, Turn}
 use Rattle.mount_replies.specs.Mounted.{AreServed, Does, IsExchanged, IsNamed, Right, TellsOwed, Unframed, Wrong, bytes_of_reply}
 use Rattle.mount_replies.specs.Owed.{Owed, ReplyAt, WakeupAt, owed, step_of_parked}
@@ -307,8 +307,9 @@ exchange-counted g before (byte ∷ asked) bytes after ranges was all is = serve
 turn-counted : (g : Terms) (before : Service) (turn : Turn) (after : Service) → IsInRange g.config → WasDone g before.past → HasCounted g before
     → IsTurned g before turn after → HasCounted g after
 turn-counted g before (Exchanged asked bytes) after ranges was all is = exchange-counted g before asked bytes after ranges was all is
-turn-counted g before (Called request answer) after ranges was all is =
-    same-counted g before (call_step g before request) (Some replies.Done) after all (call-does g before request answer after is) (ap counted_of is.1)
+turn-counted g before (Called limit request answer) after ranges was all is =
+    call-keeps g (HasCounted g) before limit request answer after all
+    (λ does. same-counted g before (call_step g before request) (Some replies.Done) after all does (ap counted_of is.1)) is
 
 all-counted : (g : Terms) (turns : List Turn) (after : Service) → IsInRange g.config → TakesTurns g just_mounted turns after → HasCounted g after
 all-counted g turns after ranges is =

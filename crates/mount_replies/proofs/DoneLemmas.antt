@@ -16,7 +16,7 @@ use Rattle.tracer.specs.Lives.{limited_answer, live_answer, most_done}
 use Rattle.mount_replies.proofs.AnswerLemmas.{may-noting}
 use Rattle.mount_replies.proofs.NewEvents.{declared-new}
 use Rattle.mount_replies.proofs.RunLemmas.{any-lines, lines-keep}
-use Rattle.mount_replies.proofs.TurnLemmas.{call-does, call_step, turns-keep}
+use Rattle.mount_replies.proofs.TurnLemmas.{call-keeps, call_step, room-within, turns-keep}
 use Rattle.mount_replies.specs.Calls.{Called, Exchanged, IsTurned, Turn}
 use Rattle.mount_replies.specs.Mounted.{AreServed, Does, IsExchanged, MayAnswer, Right, TellsOwed, Unframed, Wrong, past_after}
 use Rattle.mount_replies.specs.Owed.{Owed, ReplyAt, WakeupAt, owed}
@@ -29,17 +29,7 @@ use Rattle.mount_replies.specs.Steps.{Asks, AsksLines, AsksNoting, Counts, Inter
 -- what is done has room, and is done without a limit
 pub had-room : (g : Config) (past : List Request) (request : Request) (answer : Answer) → live_answer g past request ≡ Ok answer
     → (answer_with_room g past request ≡ Ok answer) × (length past < most_done)
-unfolding limited_answer
-had-room g past request answer is = by (answer_with_room g past request) is
-  where
-    by : (r : Result Answer Refusal) → unless_full most_done (length past) r ≡ Ok answer → (r ≡ Ok answer) × (length past < most_done)
-    by (Err refusal) h = absurd (let no : Err refusal ≡ Ok answer = h in cc)
-    by (Ok reply) h = let both = by_room (nat_lt (length past) most_done) refl h in (ap Ok both.0, both.1)
-      where
-        by_room : (room : Bool) → nat_lt (length past) most_done ≡ room → unless_full most_done (length past) (Ok reply) ≡ Ok answer
-            → (reply ≡ answer) × (length past < most_done)
-        by_room true is h' = (let same : unless_full most_done (length past) (Ok reply) ≡ Ok answer = h' in let e = rw is at same in cc, ltb-true (length past) most_done is)
-        by_room false is h' = absurd (let e = rw is at h' in cc)
+had-room g past request answer is = room-within most_done g past request answer is
 
 pub one-more : (g : Terms) (past : List Request) (request : Request) (answer : Result Answer Refusal) → WasDone g past → MayAnswer g past request answer
     → WasDone g (past_after answer request past)
@@ -91,8 +81,9 @@ exchange-done g before (byte ∷ asked) bytes after was is = served-done g befor
 
 pub turn-done : (g : Terms) (before : Service) (turn : Turn) (after : Service) → WasDone g before.past → IsTurned g before turn after → WasDone g after.past
 turn-done g before (Exchanged asked bytes) after was is = exchange-done g before asked bytes after was is
-turn-done g before (Called request answer) after was is =
-    does-done g before (call_step g before request) (Some replies.Done) after was (call-does g before request answer after is)
+turn-done g before (Called limit request answer) after was is =
+    call-keeps g (λ (s : Service). WasDone g s.past) before limit request answer after was
+    (does-done g before (call_step g before request) (Some replies.Done) after was) is
 
 pub pasts_are_done : PastsAreDone
 pasts_are_done g turns after is =

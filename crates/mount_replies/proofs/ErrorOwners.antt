@@ -33,7 +33,7 @@ use Rattle.mount_tree.specs.declared.scene.Instance.{Instance}
 use Rattle.mount_replies.proofs.AskedSteps.{IsOfEach, IsOfThere, NotesThere, parked-is, step-is}
 use Rattle.mount_replies.proofs.DoneLemmas.{turn-done}
 use Rattle.mount_replies.proofs.RunLemmas.{lines-keep}
-use Rattle.mount_replies.proofs.TurnLemmas.{call-does, call_step, turns-keep}
+use Rattle.mount_replies.proofs.TurnLemmas.{call-keeps, call_step, turns-keep}
 use Rattle.mount_replies.specs.Calls.{Called, Exchanged, IsTurned, Turn}
 use Rattle.mount_replies.specs.Mounted.{AreServed, Does, IsExchanged, Right, TellsOwed, Unframed, Wrong, past_after}
 use Rattle.mount_replies.specs.Owed.{Owed, ReplyAt, WakeupAt, owed, step_of_parked}
@@ -294,9 +294,9 @@ call-leaves g s (ReadFile instance file limit) = inl (refl, λ answer. tt)
 turn-owned : (g : Terms) (before : Service) (turn : Turn) (after : Service) → WasDone g before.past → Owned g before → IsTurned g before turn after
     → Owned g after
 turn-owned g before (Exchanged asked bytes) after was all is = exchange-owned g before asked bytes after was all is
-turn-owned g before (Called request answer) after was all is =
-    does-owned g before (call_step g before request) (Some replies.Done) after was (call-leaves g before request) all
-    (call-does g before request answer after is)
+turn-owned g before (Called limit request answer) after was all is =
+    call-keeps g (Owned g) before limit request answer after all
+    (does-owned g before (call_step g before request) (Some replies.Done) after was (call-leaves g before request) all) is
 
 pub errors_are_of_instances : ErrorsAreOfInstances
 errors_are_of_instances g turns after is =

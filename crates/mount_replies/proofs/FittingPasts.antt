@@ -92,7 +92,7 @@ module _ (g : Terms) (range : IsInRange g.config) where
 
   turn-fits : (before : Service) (turn : Turn) (after : Service) → CallFits turn → Fit before.past → IsTurned g before turn after → Fit after.past
   turn-fits before (Exchanged asked bytes) after fits all is = exchange-fits before asked bytes after all is
-  turn-fits before (Called request answer) after fits all is =
+  turn-fits before (Called limit request answer) after fits all is =
       subst (λ (s : Service). Fit s.past) (sym is.1) (one-fits before.past request answer fits all)
 
   all-fit : (before : Service) (turns : List Turn) (after : Service) → All CallFits turns → Fit before.past → TakesTurns g before turns after → Fit after.past

@@ -471,7 +471,7 @@ exchange-none g before (byte ∷ asked) bytes after none (quiet, served) = asked
 turn-none : (g : Terms) (before : Service) (turn : Turn) (after : Service) → NoneKeepsMore before.files → IsTurned g before turn after
     → NoneKeepsMore after.files
 turn-none g before (Exchanged asked bytes) after none is = exchange-none g before asked bytes after none is
-turn-none g before (Called request answer) after none is = subst (λ (s : Service). NoneKeepsMore s.files) (sym is.1) none
+turn-none g before (Called limit request answer) after none is = subst (λ (s : Service). NoneKeepsMore s.files) (sym is.1) none
 
 pub open_files_keep_lines : OpenFilesKeepLines
 open_files_keep_lines g turns after is handle file opened =

@@ -372,5 +372,5 @@ no_record_is_lost_or_told_twice g before (Exchanged [] bytes) after told handle 
     told-even handle g before (owed g before) bytes after told old new was pipe is
 no_record_is_lost_or_told_twice g before (Exchanged (byte ∷ asked) bytes) after (quiet, served) handle old new was pipe is =
     asked-even handle g before (byte ∷ asked) bytes after served old new was pipe is
-no_record_is_lost_or_told_twice g before (Called request answer) after one handle old new was pipe is =
+no_record_is_lost_or_told_twice g before (Called limit request answer) after one handle old new was pipe is =
     append-nil (kept_for handle before) ∙ ap (λ (s : Service). kept_for handle s) (sym one.1)

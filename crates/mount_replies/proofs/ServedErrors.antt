@@ -67,7 +67,7 @@ one-more (Forgets owner) changes errors is = ap (cleared owner) is
 by-turn : (g : Terms) (before : Service) (turn : Turn) (after : Service) (one : IsTurned g before turn after)
     → after.errors ≡ errors_after (noting_in g before turn after one) before.errors
 by-turn g before (Exchanged asked bytes) after one = by-exchange g before asked bytes after one
-by-turn g before (Called request answer) after one = ap (λ (s : Service). s.errors) one.1
+by-turn g before (Called limit request answer) after one = ap (λ (s : Service). s.errors) one.1
 
 all-more : (g : Terms) (before : Service) (turns : List Turn) (after : Service) (taken : TakesTurns g before turns after)
     (changes : List Change) → before.errors ≡ logs_after changes → after.errors ≡ logs_after (changes_in g before turns after taken ++ changes)

@@ -60,11 +60,11 @@ answered_once g before (byte ∷ asked) bytes after (quiet, served) = number_ans
 -- in a turn; a call asks and answers no READ
 abbrev pub asked_in : (g : Terms) (before : Service) (turn : Turn) (after : Service) → IsTurned g before turn after → List ℕ
 asked_in g before (Exchanged asked bytes) after one = asked_once g before asked bytes after one
-asked_in g before (Called request answer) after one = []
+asked_in g before (Called limit request answer) after one = []
 
 abbrev pub answered_in : (g : Terms) (before : Service) (turn : Turn) (after : Service) → IsTurned g before turn after → List ℕ
 answered_in g before (Exchanged asked bytes) after one = answered_once g before asked bytes after one
-answered_in g before (Called request answer) after one = []
+answered_in g before (Called limit request answer) after one = []
 
 -- the numbers of all READs that were asked
 abbrev pub reads_asked : (g : Terms) (before : Service) (turns : List Turn) (after : Service) → TakesTurns g before turns after → List ℕ
@@ -160,11 +160,11 @@ given_to handle g before (byte ∷ asked) bytes after (quiet, served) = given_as
 -- in a turn; a call takes nothing for a handle, whatever it reads
 abbrev pub taken_in : (handle : ℕ) (g : Terms) (before : Service) (turn : Turn) (after : Service) → IsTurned g before turn after → List ℕ
 taken_in handle g before (Exchanged asked bytes) after one = taken_for handle g before asked bytes after one
-taken_in handle g before (Called request answer) after one = []
+taken_in handle g before (Called limit request answer) after one = []
 
 abbrev pub given_in : (handle : ℕ) (g : Terms) (before : Service) (turn : Turn) (after : Service) → IsTurned g before turn after → List ℕ
 given_in handle g before (Exchanged asked bytes) after one = given_to handle g before asked bytes after one
-given_in handle g before (Called request answer) after one = []
+given_in handle g before (Called limit request answer) after one = []
 
 -- Of a pipe that is open before a turn and after it: what was kept, and then what was taken, is what was given, and then what is kept. A turn that is no
 -- read of the pipe's handle takes and gives nothing, so it leaves what is kept as it was. What is kept when the file is closed is lost.

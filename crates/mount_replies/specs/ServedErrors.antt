@@ -89,7 +89,7 @@ change_of (Forgets owner) = Cleared owner ∷ []
 -- in a turn
 abbrev pub noting_in : (g : Terms) (before : Service) (turn : Turn) (after : Service) → IsTurned g before turn after → Noting
 noting_in g before (Exchanged asked bytes) after one = noting_of g before asked bytes after one
-noting_in g before (Called request answer) after one = noting_called (scene_of g before) request answer
+noting_in g before (Called limit request answer) after one = noting_called (scene_of g before) request answer
 
 -- in all turns, the latest change first
 abbrev pub changes_in : (g : Terms) (before : Service) (turns : List Turn) (after : Service) → TakesTurns g before turns after → List Change

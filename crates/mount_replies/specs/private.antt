@@ -3,6 +3,7 @@ pub mod StillReplies
 pub mod Pushed
 pub mod ShortReplies
 pub mod Looks
+pub mod DryPipes
 pub mod Emptyings
 pub mod LineRuns
 pub mod Notings

@@ -6,7 +6,7 @@
 //! The folders and files have to be those that the commands done give, as of requests (`asking.rt`). A refusal comes before all memory for that: a
 //! declaration is prepared first, then its event is noted in the scene, then it is carried out. If that is refused memory, the note is taken back.
 
-ghost use Rattle.std.specs.Prelude.{◌≡◌, ◌<◌, List, Some, is_some};
+ghost use Rattle.std.specs.Prelude.{◌≡◌, ◌<◌, ◌≤◌, List, Some, is_some};
 ghost use Rattle.trace_command.specs.Requests.{RemoveInstance, Request, request_of};
 ghost use Rattle.trace_command.specs.declared.command.CommandOf.TheVariants as commands;
 ghost use Rattle.trace_format.specs.Definitions.{Definition};
@@ -17,7 +17,7 @@ ghost use Rattle.mount_replies.specs.Calls.{IsCommanded};
 ghost use Rattle.mount_replies.specs.Mounted.{HasLedTo, IsMounted, service_of, terms_of};
 ghost use Rattle.mount_replies.specs.Owed.{owed};
 ghost use Rattle.mount_replies.specs.Steps.{Keeps};
-ghost use Rattle.mount_replies.specs.private.Commandings.{CommandsBy, HasCommanded, IsDeclaration, IsReadied, RunsBy};
+ghost use Rattle.mount_replies.specs.private.Commandings.{CommandsBy, HasCommanded, IsDeclaration, IsReadied, RunsBy, RunsWithin};
 
 use crate::following::{let_go, note_event};
 use crate::mount::Mount;
@@ -30,24 +30,31 @@ use tracer::{MOST_DONE, Tracer};
 use tracer_state::{Prepared, ValuesEmission};
 
 impl Mount {
-    /// Runs a command of the program, or refuses it, as `Tracer::ask`: the answer is the one that the commands done before it give, whoever asked them.
-    /// What it makes readable is owed to reads that wait and to polls. It may come while something is owed.
-    pub fn call(&mut self, command: &Command<'_>) -> Result<Reply, Refusal>
-        ensures { (past : List Request) → IsMounted past self.old → IsCommanded past self.old self.new (request_of command.now) result }
+    /// Runs a command of the program, or refuses it, as `Tracer::ask_within`: the answer is the one that the commands done before it give, whoever asked
+    /// them, where a call does nothing more once so many commands were done. Requests are under no such limit. What it makes readable is owed to reads
+    /// that wait and to polls. It may come while something is owed.
+    pub fn call_within(&mut self, limit: u64, command: &Command<'_>) -> Result<Reply, Refusal>
+        requires { limit ≤ most_done }
+        ensures { (past : List Request) → IsMounted past self.old → IsCommanded limit past self.old self.new (request_of command.now) result }
     {
-        let answer = self.run(command);
+        let answer = self.run_within(limit, command);
         self.look_after_call();
         answer
     }
 
-    /// As `call`, for an emission by values, as `Tracer::ask_values`.
+    /// As `call_within`, for an emission by values, as `Tracer::ask_values_within`.
     #[inline(always)]
-    pub fn call_values(&mut self, emission: &ValuesEmission<'_>) -> Result<Reply, Refusal>
+    pub fn call_values_within(
+        &mut self,
+        limit: u64,
+        emission: &ValuesEmission<'_>,
+    ) -> Result<Reply, Refusal>
+        requires { limit ≤ most_done }
         ensures { (past : List Request) → IsMounted past self.old
-            → IsCommanded past self.old self.new (emission_by (declared_events past) emission.now) result }
+            → IsCommanded limit past self.old self.new (emission_by (declared_events past) emission.now) result }
     {
         let answer = self.live.ask_values_within(
-            MOST_DONE,
+            limit,
             emission.event,
             emission.cpu,
             emission.pid,
@@ -77,6 +84,17 @@ impl Mount {
             return;
         }
         self.look_for_owed();
+    }
+
+    // Runs a command, or where as many were done as the limit says, has the tracer refuse it.
+    fn run_within(&mut self, limit: u64, command: &Command<'_>) -> Result<Reply, Refusal>
+        requires { limit ≤ most_done }
+        ensures { RunsWithin limit self.old self.new (request_of command.now) result }
+    {
+        if self.live.done() < limit {
+            return self.run(command);
+        }
+        self.live.ask_within(limit, command)
     }
 
     // Runs a command.
@@ -165,7 +183,7 @@ impl Mount {
         requires ready { IsReadyFor self.old.live prepared }
         requires room { self.old.live.done < most_done }
         ensures { (past : List Request) (request : Request) (event : Definition) → HasLedTo past self.old → IsReadied past self.old request prepared
-            → declares request ≡ Some event → event.name ≡ name.now → HasCommanded past self.old self.new request result Keeps }
+            → declares request ≡ Some event → event.name ≡ name.now → HasCommanded most_done past self.old self.new request result Keeps }
     {
         let Ok(()) = note_event(&mut self.scene, name) else {
             let_go(prepared);

@@ -5,6 +5,7 @@ mod asking;
 mod calls;
 mod commands;
 mod counted;
+mod dry_pipes;
 mod errno;
 mod fault;
 mod files;

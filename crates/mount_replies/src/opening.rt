@@ -13,6 +13,7 @@ ghost use Rattle.mount_replies.specs.Told.{empties, known};
 ghost use Rattle.mount_replies.specs.private.Emptyings.{Empties};
 ghost use Rattle.mount_replies.specs.private.ShortReplies.{IsShort};
 
+use crate::dry_pipes::DryPipes;
 use crate::mount::Mount;
 use crate::open_file::OpenFile;
 use crate::told::{empties, may_open};
@@ -173,7 +174,7 @@ impl Mount {
         };
         match open_file.file().kind() {
             FileKind::Pipe => {
-                let waits = self.would_wait(open_file);
+                let waits = self.would_wait(open_file, &mut DryPipes::new());
                 self.poll_pipe(handle, wakeup, flags, waits)
             }
             FileKind::Text

@@ -2,26 +2,31 @@
 //! ready.
 //!
 //! Whether it owes something is worked out after each request that may have changed it (`look_for_owed`), so that to be asked costs nothing. Where no
-//! read is parked and no poll is to be told, that is a look at two empty lists.
+//! read is parked and no poll is to be told, that is a look at two empty lists. Of the parked reads of one dry pipe the first asks the tracer
+//! (`dry_pipes.rt`).
 
 ghost use Rattle.std.specs.Prelude.{◌≡◌, ◌<◌, ◌≤◌, ℕ, true, [], List, length, Some, is_some, position, vec_capacity, IfSome};
 ghost use Rattle.trace_command.specs.Requests.{Request};
 ghost use Rattle.mount_replies.specs.Mounted.{HasLedTo, IsMounted, IsOwedCalled, IsReplying, IsWaking, most_reply, service_of, terms_of};
 ghost use Rattle.mount_replies.specs.Owed.{is_due, is_ready, owed};
 ghost use Rattle.mount_replies.specs.Services.{file_at};
+ghost use Rattle.mount_replies.specs.private.DryPipes.{AreDryNow};
 
+use crate::dry_pipes::DryPipes;
 use crate::mount::Mount;
 use crate::parked::Parked;
 use crate::telling::{tell_error, tell_wakeup};
 use fuse_wire::Errno;
 
 impl Mount {
-    // Whether a parked read waits no more.
-    fn is_due(&self, read: &Parked) -> bool
-        ensures { (past : List Request) → HasLedTo past self.now
+    // Whether a parked read waits no more, where these pipes are known to be dry.
+    fn is_due(&self, read: &Parked, pipes: &mut DryPipes) -> bool
+        requires dry { AreDryNow self.now pipes.old }
+        ensures is { (past : List Request) → HasLedTo past self.now
             → result ≡ is_due (terms_of self.now) (service_of past self.now) read.now }
+        ensures dry { AreDryNow self.now pipes.new }
     {
-        read.interrupted || !self.waits_at(read.handle)
+        read.interrupted || !self.waits_at(read.handle, pipes)
     }
 
     // The index of the oldest parked read that waits no more.
@@ -30,8 +35,9 @@ impl Mount {
             → result ≡ position (is_due (terms_of self.now) (service_of past self.now)) self.now.parked }
         ensures within { IfSome result (λ index. index < length self.now.parked) }
     {
+        let mut pipes = DryPipes::new();
         for index in 0..self.parked.len() {
-            if self.is_due(&self.parked[index]) {
+            if self.is_due(&self.parked[index], &mut pipes) {
                 return Some(index);
             }
         }

@@ -11,8 +11,10 @@ ghost use Rattle.mount_tree.specs.NodePaths.{owner_name};
 ghost use Rattle.mount_replies.specs.Mounted.{HasLedTo, service_of, terms_of};
 ghost use Rattle.mount_replies.specs.Pipes.{has_news, is_dry, is_no, waits_at, would_wait};
 ghost use Rattle.mount_replies.specs.Services.{file_at};
+ghost use Rattle.mount_replies.specs.private.DryPipes.{AreDryNow};
 ghost use Rattle.mount_replies.specs.private.Looks.{pipe_in};
 
+use crate::dry_pipes::{DryPipe, DryPipes};
 use crate::mount::Mount;
 use crate::open_file::OpenFile;
 use mount_tree::{File, Owner};
@@ -84,15 +86,38 @@ impl Mount {
         }
     }
 
-    /// Whether a read of an open file would wait.
-    pub(crate) fn would_wait(&self, file: &OpenFile) -> bool
-        ensures { (past : List Request) → HasLedTo past self.now
+    // As `dry_pipe`, but the tracer is not asked of a pipe that is known to be dry; one that is found dry is known from now on.
+    fn dry_pipe_once(&self, owner: Owner, file: File, pipes: &mut DryPipes) -> Option<bool>
+        requires dry { AreDryNow self.now pipes.old }
+        ensures is { (past : List Request) → HasLedTo past self.now
+            → is_some result ≡ is_dry (terms_of self.now) (service_of past self.now) owner file }
+        ensures tracing { (past : List Request) → HasLedTo past self.now
+            → IfSome result (λ tracing. tracing ≡ is_tracing (owner_name self.now.scene owner) past) }
+        ensures dry { AreDryNow self.now pipes.new }
+    {
+        if let Some(tracing) = pipes.tracing_of(owner, file) {
+            return Some(tracing);
+        }
+        let tracing = self.dry_pipe(owner, file)?;
+        pipes.note(DryPipe {
+            owner,
+            file,
+            tracing,
+        });
+        Some(tracing)
+    }
+
+    /// Whether a read of an open file would wait, where these pipes are known to be dry.
+    pub(crate) fn would_wait(&self, file: &OpenFile, pipes: &mut DryPipes) -> bool
+        requires dry { AreDryNow self.now pipes.old }
+        ensures waits { (past : List Request) → HasLedTo past self.now
             → result ≡ would_wait (terms_of self.now) (service_of past self.now) file.now }
+        ensures dry { AreDryNow self.now pipes.new }
     {
         if !file.is_used_up() {
             return false;
         }
-        match self.dry_pipe(file.owner(), file.file()) {
+        match self.dry_pipe_once(file.owner(), file.file(), pipes) {
             Some(tracing) => tracing || !file.has_read(),
             None => false,
         }
@@ -112,13 +137,15 @@ impl Mount {
         }
     }
 
-    /// Whether a read of this handle would wait.
-    pub(crate) fn waits_at(&self, handle: u64) -> bool
-        ensures { (past : List Request) → HasLedTo past self.now
+    /// Whether a read of this handle would wait, where these pipes are known to be dry.
+    pub(crate) fn waits_at(&self, handle: u64, pipes: &mut DryPipes) -> bool
+        requires dry { AreDryNow self.now pipes.old }
+        ensures waits { (past : List Request) → HasLedTo past self.now
             → result ≡ waits_at (terms_of self.now) (service_of past self.now) (file_at handle self.now.files) }
+        ensures dry { AreDryNow self.now pipes.new }
     {
         match self.files.get(handle) {
-            Some(file) => self.would_wait(file),
+            Some(file) => self.would_wait(file, pipes),
             None => false,
         }
     }

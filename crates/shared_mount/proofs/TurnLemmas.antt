@@ -9,8 +9,7 @@ use Rattle.ticket_lock.specs.Views.{HasAllNames}
 use Rattle.ticket_lock.specs.declared.views.View.{View}
 use Rattle.tracer.specs.LiveSeen.{LiveSeen}
 use Rattle.tracer.specs.Lives.{IsLive}
-use Rattle.mount_replies.specs.Services.{Terms}
-use Rattle.shared_mount.specs.LiveMountSeen.{LiveMountSeen, numbers_of}
+use Rattle.shared_mount.specs.LiveMountSeen.{LiveMountSeen, SharedTerms, numbers_of}
 use Rattle.shared_mount.specs.MountCallers.{AreOthers, GoesOn, IsIdle, IsToldOf, TakesTurn}
 use Rattle.shared_mount.specs.MountEntries.{Deed, EntrySeen, caller_of, done_in, ticket_of}
 use Rattle.shared_mount.specs.MountHistories.{IsNext, IsOwing, WereTaken}
@@ -18,24 +17,28 @@ use Rattle.shared_mount.specs.private.MountTurns.{IsTurnAfter, TakenIn}
 
 -- ---- what a mounted tracer was mounted with
 
-pub numbers_of-determines : (g k : Terms) → numbers_of g ≡ numbers_of k → g ≡ k
+pub numbers_of-determines : (g k : SharedTerms) → numbers_of g ≡ numbers_of k → g ≡ k
 numbers_of-determines g k same =
-    let with : ℕ → ℕ → ℕ → ℕ → ℕ → ℕ → ℕ → Terms =
-    λ a b c d u v m. record { config = record { cpus = a; pages = b; page_bytes = c; history_limit = d }; uid = u; gid = v; mode = m } in
-    let cpus : g.config.cpus ≡ k.config.cpus = cc in
-    let pages : g.config.pages ≡ k.config.pages = cc in
-    let page_bytes : g.config.page_bytes ≡ k.config.page_bytes = cc in
-    let history_limit : g.config.history_limit ≡ k.config.history_limit = cc in
-    let uid : g.uid ≡ k.uid = cc in
-    let gid : g.gid ≡ k.gid = cc in
-    let mode : g.mode ≡ k.mode = cc in
-    ap (λ (n : ℕ). with n g.config.pages g.config.page_bytes g.config.history_limit g.uid g.gid g.mode) cpus
-    ∙ ap (λ (n : ℕ). with k.config.cpus n g.config.page_bytes g.config.history_limit g.uid g.gid g.mode) pages
-    ∙ ap (λ (n : ℕ). with k.config.cpus k.config.pages n g.config.history_limit g.uid g.gid g.mode) page_bytes
-    ∙ ap (λ (n : ℕ). with k.config.cpus k.config.pages k.config.page_bytes n g.uid g.gid g.mode) history_limit
-    ∙ ap (λ (n : ℕ). with k.config.cpus k.config.pages k.config.page_bytes k.config.history_limit n g.gid g.mode) uid
-    ∙ ap (λ (n : ℕ). with k.config.cpus k.config.pages k.config.page_bytes k.config.history_limit k.uid n g.mode) gid
-    ∙ ap (λ (n : ℕ). with k.config.cpus k.config.pages k.config.page_bytes k.config.history_limit k.uid k.gid n) mode
+    let with : ℕ → ℕ → ℕ → ℕ → ℕ → ℕ → ℕ → ℕ → SharedTerms = λ a b c d u v m l. record {
+      mount = record { config = record { cpus = a; pages = b; page_bytes = c; history_limit = d }; uid = u; gid = v; mode = m };
+      limit = l;
+    } in
+    let cpus : g.mount.config.cpus ≡ k.mount.config.cpus = cc in
+    let pages : g.mount.config.pages ≡ k.mount.config.pages = cc in
+    let page_bytes : g.mount.config.page_bytes ≡ k.mount.config.page_bytes = cc in
+    let history_limit : g.mount.config.history_limit ≡ k.mount.config.history_limit = cc in
+    let uid : g.mount.uid ≡ k.mount.uid = cc in
+    let gid : g.mount.gid ≡ k.mount.gid = cc in
+    let mode : g.mount.mode ≡ k.mount.mode = cc in
+    let limit : g.limit ≡ k.limit = cc in
+    ap (λ (n : ℕ). with n g.mount.config.pages g.mount.config.page_bytes g.mount.config.history_limit g.mount.uid g.mount.gid g.mount.mode g.limit) cpus
+    ∙ ap (λ (n : ℕ). with k.mount.config.cpus n g.mount.config.page_bytes g.mount.config.history_limit g.mount.uid g.mount.gid g.mount.mode g.limit) pages
+    ∙ ap (λ (n : ℕ). with k.mount.config.cpus k.mount.config.pages n g.mount.config.history_limit g.mount.uid g.mount.gid g.mount.mode g.limit) page_bytes
+    ∙ ap (λ (n : ℕ). with k.mount.config.cpus k.mount.config.pages k.mount.config.page_bytes n g.mount.uid g.mount.gid g.mount.mode g.limit) history_limit
+    ∙ ap (λ (n : ℕ). with k.mount.config.cpus k.mount.config.pages k.mount.config.page_bytes k.mount.config.history_limit n g.mount.gid g.mount.mode g.limit) uid
+    ∙ ap (λ (n : ℕ). with k.mount.config.cpus k.mount.config.pages k.mount.config.page_bytes k.mount.config.history_limit k.mount.uid n g.mount.mode g.limit) gid
+    ∙ ap (λ (n : ℕ). with k.mount.config.cpus k.mount.config.pages k.mount.config.page_bytes k.mount.config.history_limit k.mount.uid k.mount.gid n g.limit) mode
+    ∙ ap (λ (n : ℕ). with k.mount.config.cpus k.mount.config.pages k.mount.config.page_bytes k.mount.config.history_limit k.mount.uid k.mount.gid k.mount.mode n) limit
 
 -- ---- entries
 
@@ -70,7 +73,7 @@ others_are_callers seen others found is all =
 
 -- ---- turns
 
-module _ (v h w : View EntrySeen) (served : ℕ) (value : LiveMountSeen) (g : Terms) (taken : TakenIn v h served value g) where
+module _ (v h w : View EntrySeen) (served : ℕ) (value : LiveMountSeen) (g : SharedTerms) (taken : TakenIn v h served value g) where
   drawn : IsDrawn v h served
   drawn = taken.turn.drawn
 
@@ -126,7 +129,7 @@ module _ (v h w : View EntrySeen) (served : ℕ) (value : LiveMountSeen) (g : Te
         ticket = back.front ∙ drawn.front ∙ ap (λ (n : ℕ). n + 1) (sym ticket);
         deed = subst (λ (es : List EntrySeen). may es entry.deed) found deed;
         next = subst (λ (es : List EntrySeen). IsNext g es entry.deed owes) found
-            (subst (λ (k : Terms). IsNext k value.entries entry.deed owes) terms next);
+            (subst (λ (k : SharedTerms). IsNext k value.entries entry.deed owes) terms next);
       }
 
   pub turn_idle : IsBack h w value.entries → WereTaken value.terms value.entries → IsIdle g v w
@@ -138,19 +141,19 @@ module _ (v h w : View EntrySeen) (served : ℕ) (value : LiveMountSeen) (g : Te
     by_others = finds.seen.2;
     alone = λ names. none_of_all v others names finds.seen.2 (others_are_callers v.seen others h.seen finds.seen.1 finds.callers);
     taken = subst (λ (es : List EntrySeen). WereTaken g es) (sym back.seen)
-        (subst (λ (k : Terms). WereTaken k value.entries) terms were);
+        (subst (λ (k : SharedTerms). WereTaken k value.entries) terms were);
   }
 
   pub turn_owing : (owes : Bool) → IsBack h w value.entries → IsOwing value.terms value.entries owes → IsOwing g w.seen owes
   turn_owing owes back owing = subst (λ (es : List EntrySeen). IsOwing g es owes) (sym back.seen)
-      (subst (λ (k : Terms). IsOwing k value.entries owes) terms owing)
+      (subst (λ (k : SharedTerms). IsOwing k value.entries owes) terms owing)
 
   pub turn_told : {A : Type 0} (tells : LiveSeen → A → Type 0) (answer : A) (tracer : LiveSeen) (after : LiveMountSeen) (left : List EntrySeen)
-      → IsBack h w left → left ≡ after.entries → after.terms ≡ value.terms → tracer.config ≡ after.terms.config
+      → IsBack h w left → left ≡ after.entries → after.terms ≡ value.terms → tracer.config ≡ after.terms.mount.config
       → IsLive tracer.config (done_in after.entries) tracer → tells tracer answer → IsToldOf g tells w.seen answer
   turn_told tells answer tracer after left back is same config lives told = record {
     tracer = tracer;
-    config = config ∙ ap (λ (k : Terms). k.config) (same ∙ terms);
+    config = config ∙ ap (λ (k : SharedTerms). k.mount.config) (same ∙ terms);
     lives = subst (λ (es : List EntrySeen). IsLive tracer.config (done_in es) tracer) (sym (back.seen ∙ is)) lives;
     told = told;
   }

@@ -1,6 +1,6 @@
 -- What is said of the callers of a mounted tracer, by what they know: `v` is that before a call, and `w` after it.
 use Rattle.std.specs.Prelude.{◌≡◌, ℕ, ◌+◌, ◌<◌, ◌^◌, Bool, List, [], ◌∷◌, ◌++◌, All, Result}
-use Rattle.ticket_lock.specs.Calls.{view_of, drawn_view, mine_of, IsOf, IsTicketOf, HasLooked, IsWorn}
+use Rattle.ticket_lock.specs.Calls.{view_of, drawn_ticket, drawn_view, mine_of, IsOf, IsTicketOf, HasLooked, IsWorn}
 use Rattle.ticket_lock.specs.Entries.{entries_under}
 use Rattle.ticket_lock.specs.Views.{HasAllNames}
 use Rattle.ticket_lock.specs.declared.views.View.{View}
@@ -9,8 +9,7 @@ use Rattle.trace_command.specs.declared.command.Reply.{Reply}
 use Rattle.trace_command.specs.declared.refusal.Refusal.{Refusal}
 use Rattle.tracer.specs.LiveSeen.{LiveSeen}
 use Rattle.tracer.specs.Lives.{IsLive}
-use Rattle.mount_replies.specs.Services.{Terms}
-use Rattle.shared_mount.specs.LiveMountSeen.{numbers_of}
+use Rattle.shared_mount.specs.LiveMountSeen.{SharedTerms, numbers_of}
 use Rattle.shared_mount.specs.MountEntries.{Deed, DidCall, DidExchange, EntrySeen, caller_of, done_in}
 use Rattle.shared_mount.specs.MountHistories.{IsNext, IsOwing, WereTaken}
 use Rattle.shared_mount.specs.declared.caller.Caller.{Caller}
@@ -30,9 +29,16 @@ caller_view caller = view_of caller.pass
 abbrev pub line_view : InLine → View EntrySeen
 line_view line = drawn_view line.drawn
 
--- what the tracer was mounted with
-abbrev pub terms_of : SharedMount → Terms
-terms_of shared = record { config = shared.config; uid = shared.owners.uid; gid = shared.owners.gid; mode = shared.owners.mode }
+-- the ticket that it drew
+abbrev pub line_ticket : InLine → ℕ
+line_ticket line = drawn_ticket line.drawn
+
+-- what it was made with
+abbrev pub terms_of : SharedMount → SharedTerms
+terms_of shared = record {
+  mount = record { config = shared.config; uid = shared.owners.uid; gid = shared.owners.gid; mode = shared.owners.mode };
+  limit = shared.limit;
+}
 
 -- Who asks this mounted tracer and knows `v`: what it has seen is a history of turns.
 pub record Asks (shared : SharedMount) (v : View EntrySeen) : Type 0 where
@@ -79,6 +85,10 @@ pub record GoesOn (v w : View EntrySeen) : Type 0 where
   pub all_names : HasAllNames v → w.front ≡ v.front + 1
   pub ahead : IsAhead v → IsAhead w
 
+-- The turn had this ticket: the caller's front, which is one above the ticket of an entry that the turn left, is one above it.
+abbrev pub HadTicket : ℕ → View EntrySeen → Type 0
+HadTicket ticket w = w.front ≡ ticket + 1
+
 -- none of these entries is under the caller's numbers
 abbrev pub AreOthers : View EntrySeen → List EntrySeen → Type 0
 AreOthers v entries = entries_under caller_of v.low v.end entries ≡ []
@@ -86,7 +96,7 @@ AreOthers v entries = entries_under caller_of v.low v.end entries ≡ []
 -- A turn in which this was done (`may`, by the entries found). Since the caller last saw the history, others had the turns that `others` lists; none,
 -- where it has all numbers. The turn left its entry, under the first of the caller's numbers and of the caller's own entries the last, and what it did
 -- follows from all entries before it. Then something is owed, or nothing is.
-pub record TakesTurn (g : Terms) (v w : View EntrySeen) (may : List EntrySeen → Deed → Type 0) (owes : Bool) : Type 0 where
+pub record TakesTurn (g : SharedTerms) (v w : View EntrySeen) (may : List EntrySeen → Deed → Type 0) (owes : Bool) : Type 0 where
   pub goes_on : GoesOn v w
   pub others : List EntrySeen
   pub entry : EntrySeen
@@ -108,7 +118,7 @@ abbrev pub exchanges : List ℕ → List ℕ → List EntrySeen → Deed → Typ
 exchanges asked bytes found deed = (commands : List Request) × (deed ≡ DidExchange asked bytes commands)
 
 -- A turn in which nothing was done: it left no entry. What the caller sees now is what others have done.
-pub record IsIdle (g : Terms) (v w : View EntrySeen) : Type 0 where
+pub record IsIdle (g : SharedTerms) (v w : View EntrySeen) : Type 0 where
   pub goes_on : GoesOn v w
   pub others : List EntrySeen
   pub seen : w.seen ≡ v.seen ++ others
@@ -118,20 +128,20 @@ pub record IsIdle (g : Terms) (v w : View EntrySeen) : Type 0 where
 
 -- What a turn came to that serves, of which these bytes were read and those are in the reply. It is not the time where something is owed, for a request,
 -- or where nothing is, for what would be told (`owes`).
-abbrev pub Serves : Terms → List ℕ → List ℕ → Bool → View EntrySeen → View EntrySeen → Served → Type 0
+abbrev pub Serves : SharedTerms → List ℕ → List ℕ → Bool → View EntrySeen → View EntrySeen → Served → Type 0
 Serves g asked bytes owes v w (Done now) = TakesTurn g v w (exchanges asked bytes) now
 Serves g asked bytes owes v w NotNow = IsIdle g v w × IsOwing g w.seen owes × (bytes ≡ [])
 
 -- ---- looks
 
 -- A look told this of the tracer that the commands of these turns led to.
-pub record IsToldOf {A : Type 0} (g : Terms) (tells : LiveSeen → A → Type 0) (entries : List EntrySeen) (answer : A) : Type 0 where
+pub record IsToldOf {A : Type 0} (g : SharedTerms) (tells : LiveSeen → A → Type 0) (entries : List EntrySeen) (answer : A) : Type 0 where
   pub tracer : LiveSeen
-  pub config : tracer.config ≡ g.config
+  pub config : tracer.config ≡ g.mount.config
   pub lives : IsLive tracer.config (done_in entries) tracer
   pub told : tells tracer answer
 
 -- A look in a turn told this of the tracer that all turns led to which the caller sees now.
-pub record IsLookedAt {A : Type 0} (g : Terms) (tells : LiveSeen → A → Type 0) (v w : View EntrySeen) (answer : A) : Type 0 where
+pub record IsLookedAt {A : Type 0} (g : SharedTerms) (tells : LiveSeen → A → Type 0) (v w : View EntrySeen) (answer : A) : Type 0 where
   pub idle : IsIdle g v w
   pub told : IsToldOf g tells w.seen answer

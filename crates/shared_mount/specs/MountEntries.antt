@@ -38,10 +38,10 @@ abbrev pub done_in : List EntrySeen → List Request
 done_in [] = []
 done_in (entry ∷ later) = done_in later ++ commands_of entry.deed
 
--- as turns of a mounted tracer
-abbrev pub turn_of : Deed → Turn
-turn_of (DidCall request answer) = Called request answer
-turn_of (DidExchange asked bytes commands) = Exchanged asked bytes
+-- as turns of a mounted tracer, where calls do nothing more once so many commands were done
+abbrev pub turn_of : ℕ → Deed → Turn
+turn_of limit (DidCall request answer) = Called limit request answer
+turn_of limit (DidExchange asked bytes commands) = Exchanged asked bytes
 
 -- ---- fields
 

@@ -7,6 +7,7 @@ mod done;
 mod entry;
 mod exchange;
 mod history;
+pub mod laws;
 mod live_mount;
 mod look;
 mod served;

@@ -4,7 +4,7 @@ ghost use Rattle.std.specs.Prelude.{◌≡◌, ◌≢◌, ◌≤◌, true, false
 ghost use Rattle.trace_command.specs.Configs.{IsInRange};
 ghost use Rattle.trace_command.specs.Requests.{FitsItsTypes, Request, request_of};
 ghost use Rattle.trace_command.specs.declared.refusal.Refusal.TheVariants as refusal;
-ghost use Rattle.tracer.specs.Lives.{IsLive};
+ghost use Rattle.tracer.specs.Lives.{IsLive, most_done};
 ghost use Rattle.mount_replies.specs.Calls.{IsCommanded};
 ghost use Rattle.mount_replies.specs.Mounted.{IsMounted, most_reply};
 ghost use Rattle.shared_mount.specs.AskedRequests.{request_after};
@@ -28,13 +28,18 @@ use tracer::Tracer;
 /// A mounted tracer and the history of all turns, of which it keeps nothing in memory.
 pub struct LiveMount {
     mount: Mount,
+    limit: u64,
     past: GhostList<Entry>,
 }
 
 impl Drop for LiveMount {
     // Not derived, so that no crate above proves the drops of its parts.
     fn drop(self) {
-        let LiveMount { mount: _, past: _ } = self;
+        let LiveMount {
+            mount: _,
+            limit: _,
+            past: _,
+        } = self;
     }
 }
 
@@ -50,24 +55,34 @@ impl Model for LiveMount {
     ghost invariant = { IsSound };
 }
 
-// Has the mounted tracer run what is asked.
+// Has the mounted tracer run what is asked, unless so many commands were done.
 #[inline(always)]
-fn run(mount: &mut Mount, asked: &Asked<'_>) -> Result<Reply, Refusal>
+fn run(mount: &mut Mount, limit: u64, asked: &Asked<'_>) -> Result<Reply, Refusal>
+    requires { limit ≤ most_done }
     ensures { (entries : List EntrySeen) → IsMounted (done_in entries) mount.old
-        → IsCommanded (done_in entries) mount.old mount.new (request_after entries asked.now) result }
+        → IsCommanded limit (done_in entries) mount.old mount.new (request_after entries asked.now) result }
 {
     match asked {
-        Asked::Command(command) => mount.call(command),
-        Asked::Values(emission) => mount.call_values(emission),
+        Asked::Command(command) => mount.call_within(limit, command),
+        Asked::Values(emission) => mount.call_values_within(limit, emission),
     }
 }
 
 impl LiveMount {
-    /// A tracer that was just mounted, with no history. Its files are these people's. Refused with `BadValue` exactly if a number of the configuration is
+    /// A tracer that was just mounted, with no history. Its files are these people's, and once `limit` commands were done calls do nothing more. Refused with `BadValue` exactly if a number of the configuration is
     /// out of range, otherwise only with `Memory`.
-    pub fn new(alloc: Global, config: Config, owners: Owners) -> Result<LiveMount, Refusal>
+    pub fn new(
+        alloc: Global,
+        config: Config,
+        owners: Owners,
+        limit: u64,
+    ) -> Result<LiveMount, Refusal>
+        requires { limit ≤ most_done }
         ensures made { IfOk result (λ mount. mount ≡ record {
-          terms = record { config = config; uid = owners.uid; gid = owners.gid; mode = owners.mode };
+          terms = record {
+            mount = record { config = config; uid = owners.uid; gid = owners.gid; mode = owners.mode };
+            limit = limit;
+          };
           entries = [];
           owes = false;
         }) }
@@ -78,6 +93,7 @@ impl LiveMount {
         let mount = Mount::new(alloc, config, owners)?;
         Ok(LiveMount {
             mount,
+            limit,
             past: nothing_done(),
         })
     }
@@ -93,7 +109,7 @@ impl LiveMount {
         ensures next { IsNext self.old.terms self.old.entries (DidCall (request_after self.old.entries asked.now) result) self.new.owes }
         ensures terms { self.new.terms ≡ self.old.terms }
     {
-        let answer = run(&mut self.mount, asked);
+        let answer = run(&mut self.mount, self.limit, asked);
         self.past = with_call(&self.past, ticket, by, asked, &answer);
         answer
     }
@@ -160,7 +176,7 @@ impl LiveMount {
     #[inline(always)]
     pub fn tracer(&self) -> &Tracer
         ensures lives { IsLive result.now.config (done_in self.now.entries) result.now }
-        ensures config { result.now.config ≡ self.now.terms.config }
+        ensures config { result.now.config ≡ self.now.terms.mount.config }
         ensures taken { WereTaken self.now.terms self.now.entries }
     {
         self.mount.tracer()

@@ -14,20 +14,12 @@ pub enum Served {
 }
 
 /// Why a try had no turn. Nothing was done, and the caller comes back.
+#[derive(Drop)]
 pub enum NoTurn {
     /// Somebody else has a turn, is in line for one, or drew the ticket first. A later try may have one.
     Busy(Caller),
     /// All tickets are drawn: nobody has a turn any more.
     Worn(Caller),
-}
-
-impl Drop for NoTurn {
-    // Not derived, so that no crate above proves the drops of its parts.
-    fn drop(self) {
-        match self {
-            NoTurn::Busy(_) | NoTurn::Worn(_) => {}
-        }
-    }
 }
 
 impl NoTurn {

@@ -15,6 +15,7 @@ ghost use Rattle.ticket_lock.specs.Calls.{IsRoot, AreHalves, IsMet, HasLooked};
 ghost use Rattle.ticket_lock.specs.Views.{HasAllNames};
 ghost use Rattle.trace_command.specs.Configs.{IsInRange};
 ghost use Rattle.trace_command.specs.declared.refusal.Refusal.TheVariants as refusal;
+ghost use Rattle.tracer.specs.Lives.{most_done};
 ghost use Rattle.mount_replies.specs.Mounted.{most_reply};
 ghost use Rattle.shared_mount.specs.AskedRequests.{request_after};
 ghost use Rattle.shared_mount.specs.LiveMountSeen.{numbers_of};
@@ -37,6 +38,7 @@ pub struct SharedMount {
     lock: TicketLock<LiveMount>,
     config: Config,
     owners: Owners,
+    limit: u64,
 }
 
 impl Drop for SharedMount {
@@ -46,34 +48,39 @@ impl Drop for SharedMount {
             lock: _,
             config: _,
             owners: _,
+            limit: _,
         } = self;
     }
 }
 
 impl SharedMount {
-    ghost use Rattle.shared_mount.specs.MountCallers.{caller_in, caller_view, line_view, terms_of, calls, HasFailed, IsCallerOf, IsInLineOf, IsLookedAt, IsToldOf, Serves, TakesTurn};
+    ghost use Rattle.shared_mount.specs.MountCallers.{caller_in, caller_view, line_ticket, line_view, terms_of, calls, HadTicket, HasFailed, IsCallerOf, IsInLineOf, IsLookedAt, IsToldOf, Serves, TakesTurn};
 
-    /// A tracer that was just mounted, and its root caller, which has all numbers from 0 to 65,535. Its files are these people's. Refused with `BadValue`
-    /// exactly if a number of the configuration is out of range, otherwise only with `Memory`.
+    /// A tracer that was just mounted, and its root caller, which has all numbers from 0 to 65,535. Its files are these people's, and
+    /// once `limit` commands were done calls do nothing more. Refused with `BadValue` exactly if a number of the configuration is out of range, otherwise
+    /// only with `Memory`.
     pub fn new(
         alloc: Global,
         config: Config,
         owners: Owners,
+        limit: u64,
     ) -> Result<(SharedMount, Caller), Refusal>
+        requires { limit ≤ most_done }
         ensures of { IfOk result (λ r. IsCallerOf r.0 r.1) }
         ensures root { IfOk result (λ r. IsRoot [] (numbers_of (terms_of r.0)) 0 (caller_view r.1)) }
-        ensures config { IfOk result (λ r. (r.0.config ≡ config) × (r.0.owners ≡ owners)) }
+        ensures config { IfOk result (λ r. (r.0.config ≡ config) × (r.0.owners ≡ owners) × (r.0.limit ≡ limit)) }
         ensures in_range { OnOk result (IsInRange config) }
         ensures out_of_range { ¬ IsInRange config → IfErr result (λ r. r ≡ refusal.BadValue) }
         ensures refused { IfErr result (λ r. r ≢ refusal.Memory → (r ≡ refusal.BadValue) × ¬ IsInRange config) }
     {
-        let mount = LiveMount::new(alloc, config, owners)?;
+        let mount = LiveMount::new(alloc, config, owners, limit)?;
         match TicketLock::starting_at(alloc, 0, mount) {
             Ok((lock, pass)) => {
                 let shared = SharedMount {
                     lock,
                     config,
                     owners,
+                    limit,
                 };
                 Ok((shared, Caller { pass }))
             }
@@ -165,7 +172,9 @@ impl SharedMount {
         ensures called { IfOk result (λ r. TakesTurn (terms_of self.now) (line_view line) (caller_view r.0)
             (calls (λ found. request_after found asked.now) r.1) r.3) }
         ensures looked { IfOk result (λ r. IsToldOf (terms_of self.now) (L.tells look.now) (caller_view r.0).seen r.2) }
+        ensures ticket { IfOk result (λ r. HadTicket (line_ticket line) (caller_view r.0)) }
         ensures busy { IfErr result (λ l. line_view l ≡ line_view line) }
+        ensures kept { IfErr result (λ l. line_ticket l ≡ line_ticket line) }
     {
         let InLine { drawn } = line;
         match self.lock.try_enter(drawn) {
@@ -196,7 +205,9 @@ impl SharedMount {
         requires { IsInLineOf self.now line }
         ensures of { MatchResult result (λ r. IsCallerOf self.now r.0) (λ l. IsInLineOf self.now l) }
         ensures looked { IfOk result (λ r. IsLookedAt (terms_of self.now) (L.tells look.now) (line_view line) (caller_view r.0) r.1) }
+        ensures ticket { IfOk result (λ r. HadTicket (line_ticket line) (caller_view r.0)) }
         ensures busy { IfErr result (λ l. line_view l ≡ line_view line) }
+        ensures kept { IfErr result (λ l. line_ticket l ≡ line_ticket line) }
     {
         let InLine { drawn } = line;
         match self.lock.try_enter(drawn) {
@@ -258,7 +269,9 @@ impl SharedMount {
         requires some { asked.now ≢ [] }
         ensures of { MatchResult result (λ r. IsCallerOf self.now r.0) (λ l. IsInLineOf self.now l) }
         ensures serves { IfOk result (λ r. Serves (terms_of self.now) asked.now reply.new.items true (line_view line) (caller_view r.0) r.1) }
+        ensures ticket { IfOk result (λ r. HadTicket (line_ticket line) (caller_view r.0)) }
         ensures busy { IfErr result (λ l. (line_view l ≡ line_view line) × (reply.new.items ≡ [])) }
+        ensures kept { IfErr result (λ l. line_ticket l ≡ line_ticket line) }
         ensures capacity { vec_capacity reply.old ≤ vec_capacity reply.new }
     {
         let InLine { drawn } = line;
@@ -279,7 +292,9 @@ impl SharedMount {
         requires empty { reply.old.items ≡ [] }
         ensures of { MatchResult result (λ r. IsCallerOf self.now r.0) (λ l. IsInLineOf self.now l) }
         ensures serves { IfOk result (λ r. Serves (terms_of self.now) [] reply.new.items false (line_view line) (caller_view r.0) r.1) }
+        ensures ticket { IfOk result (λ r. HadTicket (line_ticket line) (caller_view r.0)) }
         ensures busy { IfErr result (λ l. (line_view l ≡ line_view line) × (reply.new.items ≡ [])) }
+        ensures kept { IfErr result (λ l. line_ticket l ≡ line_ticket line) }
         ensures capacity { vec_capacity reply.old ≤ vec_capacity reply.new }
     {
         let InLine { drawn } = line;
@@ -302,6 +317,7 @@ impl SharedMount {
             lock,
             config: _,
             owners: _,
+            limit: _,
         } = self;
         lock.close(caller.into_pass())
     }

@@ -4,10 +4,9 @@ ghost use Rattle.std.specs.Prelude.{◌≡◌, ◌≢◌, ◌≤◌, true, false
 ghost use Rattle.ticket_lock.specs.Calls.{view_of, held_view, held_ticket, held_value, IsOf, IsTurnOf};
 ghost use Rattle.ticket_lock.specs.declared.views.View.{View};
 ghost use Rattle.mount_replies.specs.Mounted.{most_reply};
-ghost use Rattle.mount_replies.specs.Services.{Terms};
 ghost use Rattle.shared_mount.specs.AskedRequests.{request_after};
-ghost use Rattle.shared_mount.specs.LiveMountSeen.{numbers_of};
-ghost use Rattle.shared_mount.specs.MountCallers.{IsLookedAt, IsToldOf, Serves, TakesTurn, calls};
+ghost use Rattle.shared_mount.specs.LiveMountSeen.{SharedTerms, numbers_of};
+ghost use Rattle.shared_mount.specs.MountCallers.{HadTicket, IsLookedAt, IsToldOf, Serves, TakesTurn, calls};
 ghost use Rattle.shared_mount.specs.MountEntries.{EntrySeen};
 ghost use Rattle.shared_mount.specs.private.MountTurns.{IsTurnAfter, TakenIn};
 
@@ -30,9 +29,10 @@ pub(crate) fn call_in_turn<L: Look>(
     requires of { IsTurnOf lock.now held }
     requires turn { (v : View EntrySeen) × IsTurnAfter v (held_view held) (held_ticket held) (held_value held) }
     ensures of { IsOf lock.now result.0.pass }
-    ensures takes { (v : View EntrySeen) (g : Terms) → TakenIn v (held_view held) (held_ticket held) (held_value held) g
+    ensures ticket { HadTicket (held_ticket held) (view_of result.0.pass) }
+    ensures takes { (v : View EntrySeen) (g : SharedTerms) → TakenIn v (held_view held) (held_ticket held) (held_value held) g
         → TakesTurn g v (view_of result.0.pass) (calls (λ found. request_after found asked.now) result.1) result.3 }
-    ensures looked { (v : View EntrySeen) (g : Terms) → TakenIn v (held_view held) (held_ticket held) (held_value held) g
+    ensures looked { (v : View EntrySeen) (g : SharedTerms) → TakenIn v (held_view held) (held_ticket held) (held_value held) g
         → IsToldOf g (L.tells look.now) (view_of result.0.pass).seen result.2 }
 {
     let mut held = held;
@@ -59,7 +59,8 @@ pub(crate) fn answer_in_turn(
     requires empty { reply.old.items ≡ [] }
     requires some { asked.now ≢ [] }
     ensures of { IsOf lock.now result.0.pass }
-    ensures serves { (v : View EntrySeen) (g : Terms) → TakenIn v (held_view held) (held_ticket held) (held_value held) g
+    ensures ticket { HadTicket (held_ticket held) (view_of result.0.pass) }
+    ensures serves { (v : View EntrySeen) (g : SharedTerms) → TakenIn v (held_view held) (held_ticket held) (held_value held) g
         → Serves g asked.now reply.new.items true v (view_of result.0.pass) result.1 }
     ensures capacity { vec_capacity reply.old ≤ vec_capacity reply.new }
 {
@@ -88,7 +89,8 @@ pub(crate) fn tell_in_turn(
     requires room { most_reply ≤ vec_capacity reply.old }
     requires empty { reply.old.items ≡ [] }
     ensures of { IsOf lock.now result.0.pass }
-    ensures serves { (v : View EntrySeen) (g : Terms) → TakenIn v (held_view held) (held_ticket held) (held_value held) g
+    ensures ticket { HadTicket (held_ticket held) (view_of result.0.pass) }
+    ensures serves { (v : View EntrySeen) (g : SharedTerms) → TakenIn v (held_view held) (held_ticket held) (held_value held) g
         → Serves g [] reply.new.items false v (view_of result.0.pass) result.1 }
     ensures capacity { vec_capacity reply.old ≤ vec_capacity reply.new }
 {
@@ -117,7 +119,8 @@ pub(crate) fn look_in_turn<L: Look>(
     requires of { IsTurnOf lock.now held }
     requires turn { (v : View EntrySeen) × IsTurnAfter v (held_view held) (held_ticket held) (held_value held) }
     ensures of { IsOf lock.now result.0.pass }
-    ensures looked { (v : View EntrySeen) (g : Terms) → TakenIn v (held_view held) (held_ticket held) (held_value held) g
+    ensures ticket { HadTicket (held_ticket held) (view_of result.0.pass) }
+    ensures looked { (v : View EntrySeen) (g : SharedTerms) → TakenIn v (held_view held) (held_ticket held) (held_value held) g
         → IsLookedAt g (L.tells look.now) v (view_of result.0.pass) result.1 }
 {
     let mut held = held;

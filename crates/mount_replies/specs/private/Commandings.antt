@@ -4,16 +4,16 @@ use Rattle.trace_command.specs.Paths.{SyntheticEvents}
 use Rattle.trace_command.specs.Requests.{Request, WriteFile}
 use Rattle.trace_command.specs.declared.command.Reply.{Reply as Answer}
 use Rattle.trace_command.specs.declared.refusal.Refusal.{Refusal}
-use Rattle.tracer.specs.Lives.{IsCall}
+use Rattle.tracer.specs.Lives.{IsCallWithin, most_done}
 use Rattle.tracer_state.specs.States.{IsPrepared}
 use Rattle.tracer_state.specs.declared.state.Prepared.{Prepared}
 use Rattle.mount_replies.specs.Calls.{noting_called}
 use Rattle.mount_replies.specs.Mounted.{HasLedTo, MountSeen, past_after, terms_of}
 use Rattle.mount_replies.specs.Steps.{Keeps, Noting, errors_after}
 
--- the tracer ran it, the folders and files follow, and this becomes of the logs
-pub record HasCommanded (past : List Request) (old new : MountSeen) (request : Request) (result : Result Answer Refusal) (noting : Noting) : Type 0 where
-  pub call : IsCall past new.live request result
+-- the tracer ran it where no more than so many commands are done, the folders and files follow, and this becomes of the logs
+pub record HasCommanded (limit : ℕ) (past : List Request) (old new : MountSeen) (request : Request) (result : Result Answer Refusal) (noting : Noting) : Type 0 where
+  pub call : IsCallWithin limit past new.live request result
   pub mounted : HasLedTo (past_after result request past) new
   pub terms : terms_of new ≡ terms_of old
   pub files : new.files ≡ old.files
@@ -23,12 +23,15 @@ pub record HasCommanded (past : List Request) (old new : MountSeen) (request : R
 
 -- for all requests that can have led to it: the logs are left as they are
 abbrev pub CommandsBy : MountSeen → MountSeen → Request → Result Answer Refusal → Type 0
-CommandsBy old new request result = (past : List Request) → HasLedTo past old → HasCommanded past old new request result Keeps
+CommandsBy old new request result = (past : List Request) → HasLedTo past old → HasCommanded most_done past old new request result Keeps
 
 -- or they are what they are after a call
+abbrev pub RunsWithin : ℕ → MountSeen → MountSeen → Request → Result Answer Refusal → Type 0
+RunsWithin limit old new request result =
+    (past : List Request) → HasLedTo past old → HasCommanded limit past old new request result (noting_called old.scene request result)
+
 abbrev pub RunsBy : MountSeen → MountSeen → Request → Result Answer Refusal → Type 0
-RunsBy old new request result =
-    (past : List Request) → HasLedTo past old → HasCommanded past old new request result (noting_called old.scene request result)
+RunsBy old new request result = RunsWithin most_done old new request result
 
 -- this text is written to the declarations
 pub record IsDeclaration (text : List ℕ) (request : Request) : Type 0 where

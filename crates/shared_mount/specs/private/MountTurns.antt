@@ -2,8 +2,7 @@
 use Rattle.std.specs.Prelude.{◌≡◌, ℕ}
 use Rattle.ticket_lock.specs.Calls.{IsDrawn, Finds}
 use Rattle.ticket_lock.specs.declared.views.View.{View}
-use Rattle.mount_replies.specs.Services.{Terms}
-use Rattle.shared_mount.specs.LiveMountSeen.{LiveMountSeen, numbers_of}
+use Rattle.shared_mount.specs.LiveMountSeen.{LiveMountSeen, SharedTerms, numbers_of}
 use Rattle.shared_mount.specs.MountEntries.{EntrySeen, caller_of, ticket_of}
 
 -- It is the turn of a pass that knew `v` before it, and in which it knows `h` and has this value.
@@ -14,6 +13,6 @@ pub record IsTurnAfter (v h : View EntrySeen) (served : ℕ) (value : LiveMountS
   pub base : numbers_of value.terms ≡ v.base
 
 -- and its base has these numbers
-pub record TakenIn (v h : View EntrySeen) (served : ℕ) (value : LiveMountSeen) (g : Terms) : Type 0 where
+pub record TakenIn (v h : View EntrySeen) (served : ℕ) (value : LiveMountSeen) (g : SharedTerms) : Type 0 where
   pub turn : IsTurnAfter v h served value
   pub same : numbers_of g ≡ v.base

@@ -37,3 +37,9 @@ returns-clause-serves c v k taken =
     subst (λ (b : Bool). IsNext value.terms value.entries entry.deed b) (sym c.owes-owes.ensures.is) left.2 in
     turn_takes v h (view_of c.release-pass-2.result) served value k has (exchanges c.args.asked.now bytes) c.owes-owes.result entry c.answer.new.self.entries named
     c.ticket-ticket.ensures c.by-by.ensures left.1 c.release-pass-2.ensures.back (left.0, refl) next
+
+pub returns-then-owes-clause-ticket : goal.returns-then-owes-clause-ticket
+returns-then-owes-clause-ticket c = c.release-pass.ensures.back.front ∙ c.requires.turn.1.drawn.front
+
+pub returns-clause-ticket : goal.returns-clause-ticket
+returns-clause-ticket c = c.release-pass-2.ensures.back.front ∙ c.requires.turn.1.drawn.front

@@ -1,4 +1,4 @@
-use Rattle.std.proofs.Common.{◌<◌, Bool, refl, sym, subst, arith}
+use Rattle.std.proofs.Common.{◌∙◌, ◌<◌, Bool, refl, sym, subst, arith}
 use Rattle.ticket_lock.specs.Calls.{view_of, held_view, held_ticket}
 use Rattle.shared_mount.specs.AskedRequests.{request_after}
 use Rattle.shared_mount.specs.LiveMountSeen.{LiveMountSeen}
@@ -35,3 +35,6 @@ returns-clause-looked g c v k taken =
     let after = c.call-answer.new.self in
     turn_told v h (view_of c.release-pass.result) served value k has (g.L.Look.tells c.args.look.now) c.look-told.result c.tracer.result.now after
     after.entries c.release-pass.ensures.back refl c.call-answer.ensures.terms c.tracer.ensures.config c.tracer.ensures.lives c.look-told.ensures
+
+pub returns-clause-ticket : goal.returns-clause-ticket
+returns-clause-ticket g c = c.release-pass.ensures.back.front ∙ c.requires.turn.1.drawn.front

@@ -1,4 +1,4 @@
-use Rattle.std.proofs.Common.{refl, sym, subst}
+use Rattle.std.proofs.Common.{◌∙◌, refl, sym, subst}
 use Rattle.ticket_lock.specs.Calls.{view_of, held_view, held_ticket}
 use Rattle.shared_mount.specs.LiveMountSeen.{LiveMountSeen}
 use Rattle.shared_mount.specs.private.MountTurns.{TakenIn}
@@ -18,3 +18,6 @@ returns-clause-looked g c v k taken =
       told = turn_told v h w served value k has (g.L.Look.tells c.args.look.now) c.look-answer.result c.tracer.result.now value value.entries
           c.release-pass.ensures.back refl refl c.tracer.ensures.config c.tracer.ensures.lives c.look-answer.ensures;
     }
+
+pub returns-clause-ticket : goal.returns-clause-ticket
+returns-clause-ticket g c = c.release-pass.ensures.back.front ∙ c.requires.turn.1.drawn.front

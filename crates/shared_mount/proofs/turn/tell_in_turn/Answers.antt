@@ -37,3 +37,9 @@ returns-clause-serves c v k taken =
       turn_owing v h w served value k has false c.release-pass-2.ensures.back owing,
       c.requires.empty,
     )
+
+pub returns-then-is_owing-clause-ticket : goal.returns-then-is_owing-clause-ticket
+returns-then-is_owing-clause-ticket c = c.release-pass.ensures.back.front ∙ c.requires.turn.1.drawn.front
+
+pub returns-clause-ticket : goal.returns-clause-ticket
+returns-clause-ticket c = c.release-pass-2.ensures.back.front ∙ c.requires.turn.1.drawn.front

@@ -7,8 +7,8 @@ use Rattle.mount_replies.proofs.mount.Mount.next_due.Goals as goal
 
 pub returns-then-is_due-clause-is : goal.returns-then-is_due-clause-is
 returns-then-is_due-clause-is c =
-    let invariant = rw (← c.self.view_is) at c.loop-index.invariant in
-    let due = rw (← c.self.view_is) at c.is_due.ensures in
+    let invariant = rw (← c.self.view_is) at c.loop-index.invariant.0 in
+    let due = rw (← c.self.view_is) at c.is_due.ensures.is in
     rw (← c.self.view_is) (λ past mounted.
     let old = the_view c.self.inside in
     let within : c.loop-index.index < length old.parked = search rules in
@@ -17,7 +17,7 @@ returns-then-is_due-clause-is c =
 
 pub returns-clause-is : goal.returns-clause-is
 returns-clause-is c =
-    let invariant = rw (← c.self.view_is) at c.loop-index.invariant in
+    let invariant = rw (← c.self.view_is) at c.loop-index.invariant.0 in
     rw (← c.self.view_is) (λ past mounted.
     let old = the_view c.self.inside in
     let end : length old.parked ≤ c.loop-index.index = search rules in

@@ -25,7 +25,7 @@ returns-in-Ok-None c =
     declaration-declares c.args.text.now request c.requires ∙ sym (rw c.in-Ok-None.field-0-is at c.in-Ok-None.ensures) in
     rw (← c.self.view_is) (λ past mounted.
     let old = the_view c.self.inside in
-    left-commanded past old c.carry_out.new.self request c.carry_out.result mounted c.carry_out.ensures.config
+    left-commanded most_done past old c.carry_out.new.self request c.carry_out.result mounted c.carry_out.ensures.config
     (call-carried most_done past old.live c.carry_out.new.self request c.in_ok-prepared.prepared c.carry_out.result c.carry_out.ensures.config mounted.lives
     (c.in_ok-prepared.ensures.prepared past mounted.lives) c.in_ok-prepared.ensures.room c.carry_out.ensures.done c.carry_out.ensures.reply
     c.carry_out.ensures.refused c.carry_out.ensures.memory (λ none. absurd (declaration-takes past c.args.text.now request c.requires none))

@@ -18,11 +18,11 @@ invariant_of-self c =
       bytes = c.bytes_of-2.result;
     } in
     let past : e.past.value.items ≡ c.self.inside.past.items = rw c.of.ensures refl in
-    let s : Stands c.with_exchange-self-inside.result.items c.answer.new.self =
-    exchange-stands e c.self.inside.past.items c.self.inside.mount c.answer.new.self c.args.ticket c.args.by c.with_exchange-self-inside.result.items
+    let s : Stands c.self.inside.limit c.with_exchange-self-inside.result.items c.answer.new.self =
+    exchange-stands c.self.inside.limit e c.self.inside.past.items c.self.inside.mount c.answer.new.self c.args.ticket c.args.by c.with_exchange-self-inside.result.items
     past c.of-before.ensures c.of-2.ensures (record { mounted = c.self.invariant.mounted; led = c.self.invariant.led })
     c.with_exchange-self-inside.ensures in
-    record { mounted = s.mounted; led = s.led }
+    record { mounted = s.mounted; few = c.self.invariant.few; led = s.led }
 
 pub with_exchange-self-inside-requires : goal.with_exchange-self-inside-requires
 with_exchange-self-inside-requires c =
@@ -61,6 +61,6 @@ returns-clause-left c =
     × (left ≡ s.entries ++ record { ticket = c.args.ticket; by = c.args.by; deed = DidExchange c.args.asked.now bytes commands } ∷ [])
     × IsNext s.terms s.entries (DidExchange c.args.asked.now bytes commands) c.answer.new.self.owes)
     c.self.view_is
-    (exchange-left e entries c.self.inside.mount c.answer.new.self c.args.asked.now bytes c.args.ticket c.args.by left past c.of-before.ensures c.of-2.ensures
+    (exchange-left c.self.inside.limit e entries c.self.inside.mount c.answer.new.self c.args.asked.now bytes c.args.ticket c.args.by left past c.of-before.ensures c.of-2.ensures
     c.bytes_of.ensures (c.bytes_of-2.ensures ∙ c.deref.ensures.value) (record { mounted = c.self.invariant.mounted; led = c.self.invariant.led })
     c.with_exchange-self-inside.ensures)

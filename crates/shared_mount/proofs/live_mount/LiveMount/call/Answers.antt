@@ -9,19 +9,19 @@ use Rattle.shared_mount.proofs.live_mount.LiveMount.call.Goals as goal
 pub invariant_of-self : goal.invariant_of-self
 invariant_of-self c =
     let entries = c.self.inside.past.items in
-    let s : Stands c.with_call-self-inside.result.items c.run-answer.new.mount =
-    call-stands entries c.self.inside.mount c.run-answer.new.mount (request_after entries c.args.asked.now) c.run-answer.result c.args.ticket c.args.by
-    c.with_call-self-inside.result.items (record { mounted = c.self.invariant.mounted; led = c.self.invariant.led })
+    let s : Stands c.self.inside.limit c.with_call-self-inside.result.items c.run-answer.new.mount =
+    call-stands c.self.inside.limit entries c.self.inside.mount c.run-answer.new.mount (request_after entries c.args.asked.now) c.run-answer.result c.args.ticket c.args.by
+    c.with_call-self-inside.result.items c.self.invariant.few (record { mounted = c.self.invariant.mounted; led = c.self.invariant.led })
     (c.run-answer.ensures entries c.self.invariant.mounted) c.with_call-self-inside.ensures in
-    record { mounted = s.mounted; led = s.led }
+    record { mounted = s.mounted; few = c.self.invariant.few; led = s.led }
 
 pub returns-clause-next : goal.returns-clause-next
 returns-clause-next c =
     let entries = c.self.inside.past.items in
     let request = request_after entries c.args.asked.now in
     let answer = c.run-answer.result in
-    let stands : Stands entries c.self.inside.mount = record { mounted = c.self.invariant.mounted; led = c.self.invariant.led } in
+    let stands : Stands c.self.inside.limit entries c.self.inside.mount = record { mounted = c.self.invariant.mounted; led = c.self.invariant.led } in
     subst (λ (s : LiveMountSeen). IsNext s.terms s.entries (DidCall (request_after s.entries c.args.asked.now) answer) c.run-answer.new.mount.owes)
     c.self.view_is
-    (steps-next entries c.self.inside.mount c.run-answer.new.mount (DidCall request answer) stands
-    (call-steps entries c.self.inside.mount c.run-answer.new.mount request answer c.self.invariant.mounted (c.run-answer.ensures entries c.self.invariant.mounted)))
+    (steps-next c.self.inside.limit entries c.self.inside.mount c.run-answer.new.mount (DidCall request answer) stands
+    (call-steps c.self.inside.limit entries c.self.inside.mount c.run-answer.new.mount request answer c.self.invariant.few c.self.invariant.mounted (c.run-answer.ensures entries c.self.invariant.mounted)))

@@ -1,4 +1,4 @@
-use Rattle.std.proofs.Common.{true, sym}
+use Rattle.std.proofs.Common.{ℕ, ◌+◌, ap, ◌∙◌, true, sym}
 use Rattle.ticket_lock.specs.Calls.{held_view, held_ticket, held_value}
 use Rattle.shared_mount.specs.MountCallers.{Asks, caller_view, line_view, terms_of}
 use Rattle.shared_mount.specs.private.MountTurns.{TakenIn}
@@ -28,3 +28,6 @@ returns-in-Ok-clause-serves c =
     record { turn = record { drawn = t.drawn; finds = t.finds; entries_are = t.entries; base = t.base }; same = sym asks.base } in
     let w = caller_view c.answer_in_turn.result.0 in
     c.answer_in_turn.ensures.serves v k taken
+
+pub returns-in-Ok-clause-ticket : goal.returns-in-Ok-clause-ticket
+returns-in-Ok-clause-ticket c = c.answer_in_turn.ensures.ticket ∙ ap (λ (n : ℕ). n + 1) c.in-Ok.ensures.ticket

@@ -1,4 +1,4 @@
-use Rattle.std.proofs.Common.{sym}
+use Rattle.std.proofs.Common.{ℕ, ◌+◌, ap, ◌∙◌, sym}
 use Rattle.ticket_lock.specs.Calls.{held_view, held_ticket, held_value}
 use Rattle.shared_mount.specs.AskedRequests.{request_after}
 use Rattle.shared_mount.specs.MountCallers.{Asks, caller_view, calls, line_view, terms_of}
@@ -40,3 +40,6 @@ returns-in-Ok-clause-looked g c =
     let taken : TakenIn v (held_view held) (held_ticket held) (held_value held) k =
     record { turn = record { drawn = t.drawn; finds = t.finds; entries_are = t.entries; base = t.base }; same = sym asks.base } in
     c.call_in_turn.ensures.looked v k taken
+
+pub returns-in-Ok-clause-ticket : goal.returns-in-Ok-clause-ticket
+returns-in-Ok-clause-ticket g c = c.call_in_turn.ensures.ticket ∙ ap (λ (n : ℕ). n + 1) c.in-Ok.ensures.ticket
