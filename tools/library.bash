@@ -22,12 +22,18 @@ choose_archive() {
   fi
 }
 
-# make_static FILE FOLDER: makes a static library of the archive that was chosen, of tracectl.c, and of the kit's heap, which calls malloc, realloc and
-# free. The folder, an empty one, takes what it is made of.
+# The parts of the library that are written in C: crates/tracectl_c/PART.c.
+readonly PARTS_IN_C=(tracectl tracectl_mount tracectl_serve)
+
+# make_static FILE FOLDER: makes a static library of the archive that was chosen, of what is written in C, and of the kit's heap, which calls malloc,
+# realloc and free. The folder, an empty one, takes what it is made of.
 make_static() {
   local heap
   heap=$(dirname "$(rt doc)")/c/liblibc_c.a
-  "$compiler" -O2 -Wall -Wextra -fPIC -I "$top/crates/tracectl_c" -c -o "$2/tracectl.o" "$top/crates/tracectl_c/tracectl.c"
+  local part
+  for part in "${PARTS_IN_C[@]}"; do
+    "$compiler" -O2 -Wall -Wextra -fPIC -I "$top/crates/tracectl_c" -c -o "$2/$part.o" "$top/crates/tracectl_c/$part.c"
+  done
   (cd -- "$2" && ar x "$heap")
   cp -- "$archive" "$2/library.a"
   ar q "$2/library.a" "$2"/*.o

@@ -5,10 +5,9 @@
  * part, of which each makes one try. */
 #define _GNU_SOURCE
 #define TRACECTL_FUNCTION
-#include "tracectl.h"
+#include "tracectl_mounted.h"
 
 #include <errno.h>
-#include <pthread.h>
 #include <sched.h>
 #include <stdlib.h>
 #include <sys/syscall.h>
@@ -67,8 +66,23 @@ uint32_t tracectl_emit_here(tracectl_thread *thread, uint32_t event, const trace
 
 /* ---- The process. ---- */
 
+/* A fork waits for the lock, under which a join or a leave has taken a tracer's passes out of its handle for a moment: the child would find it closed. It
+ * doesn't where this thread has it already. */
+static int is_locked_by_fork;
+
+static void before_fork(void) {
+    if (!pthread_mutex_lock(&lock)) is_locked_by_fork = 1;
+}
+
+static void after_fork(void) {
+    if (!is_locked_by_fork) return;
+    is_locked_by_fork = 0;
+    pthread_mutex_unlock(&lock);
+}
+
 static void note_fork(void) {
     pthread_mutex_t unlocked = PTHREAD_ERRORCHECK_MUTEX_INITIALIZER_NP;
+    is_locked_by_fork = 0;
     lock = unlocked;
     tracectl_forks = tracectl_forks + 1;
 }
@@ -85,7 +99,7 @@ static void leave_all(void *first) {
 }
 
 static void get_ready(void) {
-    is_ready = !pthread_key_create(&key, leave_all) && !pthread_atfork(NULL, NULL, note_fork);
+    is_ready = !pthread_key_create(&key, leave_all) && !pthread_atfork(before_fork, after_fork, note_fork) && tracectl_heed_forks();
 }
 
 /* Takes the lock, or says why not: this thread has it, and is interrupted by a signal or within malloc. */
@@ -99,27 +113,63 @@ static int is_of_parent(const tracectl *tracer) {
     return tracer->passes.state && tracer->forks != tracectl_forks;
 }
 
+/* Whether a call has begun that one of this thread's seats makes. */
+static int has_seat_in_call(void) {
+    const struct tracectl_seat *seat = is_ready ? pthread_getspecific(key) : NULL;
+    while (seat && (!seat->in_call || seat->forks != tracectl_forks)) seat = seat->next;
+    return seat != NULL;
+}
+
+int tracectl_is_in_call(void) {
+    if (take_lock()) return 1;
+    int is_in_call = has_seat_in_call();
+    pthread_mutex_unlock(&lock);
+    return is_in_call;
+}
+
+uint32_t tracectl_check(const tracectl *tracer) {
+    uint32_t status = take_lock();
+    if (status) return status;
+    status = has_seat_in_call()      ? TRACECTL_IN_CALL
+             : !tracer->passes.state ? TRACECTL_NOT_OPEN
+             : is_of_parent(tracer)  ? TRACECTL_FORKED
+                                     : TRACECTL_DONE;
+    pthread_mutex_unlock(&lock);
+    return status;
+}
+
 uint32_t tracectl_open(tracectl *tracer, const tracectl_settings *settings) {
+    const struct tracectl_made made = {*settings, geteuid(), getegid(), 0750};
     uint32_t status;
     pthread_once(&once, get_ready);
     if (!is_ready) return TRACECTL_MEMORY;
     if ((status = take_lock())) return status;
-    status = is_of_parent(tracer) ? TRACECTL_FORKED : tracectl_try_open(&tracer->passes, settings);
+    status = is_of_parent(tracer) ? TRACECTL_FORKED : tracectl_try_open(&tracer->passes, &made);
     if (!status) {
         tracer->cpus = settings->cpus;
         tracer->forks = tracectl_forks;
         tracer->mask = (struct tracectl_mask){0, 0}; /* that of a tracer of which nothing was asked */
         tracer->mask_lock = 0;
+        tracer->wakes = 0;
+        tracer->is_woken = 0;
+        tracer->is_limited = settings->history_limit != 0;
     }
     pthread_mutex_unlock(&lock);
     return status;
 }
 
+/* Its mount ends first, since the server has joined. No other can begin meanwhile. */
 uint32_t tracectl_close(tracectl *tracer) {
-    uint32_t status = take_lock();
+    uint32_t status = tracectl_lock_mounts(tracer);
     if (status) return status;
-    status = is_of_parent(tracer) ? TRACECTL_FORKED : tracectl_try_close(&tracer->passes);
-    pthread_mutex_unlock(&lock);
+    tracectl_end_mount(tracer);
+    if (!(status = take_lock())) {
+        status = tracectl_try_close(&tracer->passes);
+        if (!status && tracer->wakes) close(tracer->wakes - 1);
+        if (!status) tracer->wakes = 0;
+        pthread_mutex_unlock(&lock);
+    }
+    tracectl_unlock_mounts();
     return status;
 }
 
@@ -151,6 +201,7 @@ uint32_t tracectl_join(tracectl *tracer, tracectl_thread *thread) {
     uint32_t status;
     if (seat) return seat->forks == tracectl_forks ? TRACECTL_ALREADY_JOINED : TRACECTL_FORKED;
     if (!is_ready) return TRACECTL_NOT_OPEN;
+    if (tracectl_is_in_call()) return TRACECTL_IN_CALL; /* that call may have a turn, so that no other of this thread would come */
     if (!(seat = malloc(sizeof *seat))) return TRACECTL_MEMORY;
     *seat = (struct tracectl_seat){
         .tracer = tracer, .forks = tracectl_forks, .thread = (int32_t)syscall(SYS_gettid), .next = pthread_getspecific(key)};
@@ -252,6 +303,14 @@ const char *tracectl_status_name(uint32_t status) {
     case TRACECTL_FORKED: return "Forked";
     case TRACECTL_IN_CALL: return "InCall";
     case TRACECTL_OTHER_THREAD: return "OtherThread";
+    case TRACECTL_NOT_MOUNTED: return "NotMounted";
+    case TRACECTL_ALREADY_MOUNTED: return "AlreadyMounted";
+    case TRACECTL_NO_FOLDER: return "NoFolder";
+    case TRACECTL_FOLDER_BUSY: return "FolderBusy";
+    case TRACECTL_NO_DEVICE: return "NoDevice";
+    case TRACECTL_NO_RIGHT: return "NoRight";
+    case TRACECTL_LIMITED: return "Limited";
+    case TRACECTL_TRY_NOT_NOW: return "NotNow";
     }
     return "unknown";
 }

@@ -18,14 +18,15 @@
  *     cc -static server.c $(pkg-config --static --cflags --libs tracectl)
  *     cc -I PREFIX/include server.c PREFIX/lib/libtracectl.a -pthread
  *
- * The functions that a user calls are here and in tracectl.c. Each tries until the call had its turn. What one try leaves, and its status, is proved
- * whatever was asked before it (crates/tracectl_c/src/lib.rt). Nothing checks the C side, so the proof holds only if these files, of which that is said
- * where they do it, and their caller uphold this:
+ * The functions that a user calls are here, in tracectl.c and in tracectl_mount.c. Each tries until the call had its turn. What one try leaves, and its
+ * status, is proved whatever was asked before it (crates/tracectl_c/src/lib.rt). Nothing checks the C side, so the proof holds only if these files, of
+ * which that is said where they do it, and their caller uphold this:
  *
  *  - A handle is set to TRACECTL_CLOSED or TRACECTL_LEFT (all zeros) before it is first used. Only these functions change it, and it is not copied. That
  *    of a tracer stays where it is until it is closed.
  *  - A thread's handle is used by the thread that joined with it, and one call at a time. (A call from a signal handler, or from what a call itself calls, as
- *    malloc, is refused with TRACECTL_IN_CALL.) The lock in tracectl.c is held while a tracer's passes are used.
+ *    malloc, is refused with TRACECTL_IN_CALL; so is each join, mount, unmount and close then.) The lock in tracectl.c is held while a tracer's passes are
+ *    used.
  *  - No pointer is null. A string is a pointer to bytes that nobody writes during the call, and how many they are, below 2^63; its last byte
  *    need not be 0. A string of no bytes has a pointer too, and so has an array of no values. Nobody writes an array of values during the call, and
  *    it has fewer than 2^58. Memory that a call writes to overlaps none of its other arguments.
@@ -75,9 +76,12 @@ typedef struct tracectl {
     uint32_t forks;
     struct tracectl_mask mask; /* the latest that a call was told */
     uint32_t mask_lock;        /* 1 while a thread compares a mask with it, and takes that */
+    int32_t wakes;             /* what wakes the server of its mount: the number of a descriptor, and 1; 0 if it was never mounted */
+    uint32_t is_woken;         /* 1 from when a call wakes the server until that looks */
+    uint32_t is_limited;       /* 1 if its settings have a limit of commands */
 } tracectl;
 
-#define TRACECTL_CLOSED {{0, 0}, 0, 0, {0, 0}, 0}
+#define TRACECTL_CLOSED {{0, 0}, 0, 0, {0, 0}, 0, 0, 0, 0}
 
 /* A thread that has joined a tracer: of each such there is one, which is on the heap, since the thread may end while the handle is gone. */
 struct tracectl_seat {
@@ -96,13 +100,13 @@ typedef struct tracectl_thread {
 
 #define TRACECTL_LEFT {0}
 
-/* What a tracer is made with. When as many commands were done as the limit says, each further one that could be done is refused
- * (TRACECTL_HISTORY_FULL). */
+/* What a tracer is made with. When as many commands were done by calls as the limit says, each further one that could be done is refused
+ * (TRACECTL_HISTORY_FULL). What is asked of a mount heeds no limit, so a tracer with one can't be mounted (TRACECTL_LIMITED). */
 typedef struct tracectl_settings {
     uint32_t cpus;          /* from 1 to 8 */
     uint32_t pages;         /* of each CPU's ring, from 2 to 1,024 */
     uint32_t page_bytes;    /* from 64 to 4,080, a multiple of 8 */
-    uint64_t history_limit; /* the most commands that are done, from 1 to 2^32; 0 is no limit: 2^60 */
+    uint64_t history_limit; /* the most commands that calls do, from 1 to 2^32; 0 is no limit: 2^60 */
 } tracectl_settings;
 
 /* The status of a call. docs/REFUSALS.md has an example of each refusal and each fault, and the order in which they are looked for. Of those with an offset
@@ -156,7 +160,17 @@ enum tracectl_status {
     TRACECTL_STILL_JOINED = 206,   /* a tracer that is to be closed has threads that have not left */
     TRACECTL_FORKED = 207,         /* the process is a child, and what it calls was opened or joined in its parent */
     TRACECTL_IN_CALL = 208,        /* the thread is within another call */
-    TRACECTL_OTHER_THREAD = 209    /* a handle is to leave that another thread joined with */
+    TRACECTL_OTHER_THREAD = 209,   /* a handle is to leave that another thread joined with */
+
+    /* why a tracer can't be mounted, or unmounted */
+    TRACECTL_NOT_MOUNTED = 210,     /* it is not mounted */
+    TRACECTL_ALREADY_MOUNTED = 211, /* it is mounted already */
+    TRACECTL_NO_FOLDER = 212,       /* the name is none of a folder, or of one that this user can't reach */
+    TRACECTL_FOLDER_BUSY = 213,     /* something else is mounted on the folder */
+    TRACECTL_NO_DEVICE = 214,       /* /dev/fuse can't be opened to read and write: errno says why. Where descriptors are used up: TRACECTL_MEMORY */
+    TRACECTL_NO_RIGHT = 215,        /* neither mount(2) nor fusermount3 mounts: that one told why on standard error, if it is there */
+    TRACECTL_TRY_NOT_NOW = 216,     /* of one try: something is owed, or nothing is. The functions that a user calls have no such status */
+    TRACECTL_LIMITED = 217          /* its settings have a limit of commands, which what other programs ask of a mount would not heed */
 };
 
 /* A status's name, as docs/REFUSALS.md has it: "NoSuchFile" for TRACECTL_NO_SUCH_FILE, and so on; "unknown" for a number that is no status. What a call
@@ -166,7 +180,8 @@ const char *tracectl_status_name(uint32_t status);
 /* Opens a handle: a tracer of which nothing was asked. TRACECTL_BAD_VALUE: a setting is out of range. */
 uint32_t tracectl_open(tracectl *tracer, const tracectl_settings *settings);
 
-/* Closes a handle and gives its memory back, once all threads have left it; before that it is refused with TRACECTL_STILL_JOINED, and stays open. */
+/* Closes a handle and gives its memory back, once all threads have left it; before that it is refused with TRACECTL_STILL_JOINED, and stays open. If it is
+ * mounted, the mount is taken away first, in either case. */
 uint32_t tracectl_close(tracectl *tracer);
 
 /* Has the thread that calls join a tracer, with a handle of its own. At most 1,024 have joined at a time; any number may come and go. */
@@ -188,7 +203,18 @@ tracectl_place tracectl_here(const tracectl_thread *thread);
 
 typedef struct tracectl_value tracectl_value;
 
-uint32_t tracectl_try_open(struct tracectl_passes *passes, const tracectl_settings *settings);
+/* The settings, and whom the files of a mount belong to. */
+struct tracectl_made {
+    tracectl_settings settings;
+    uint32_t user;
+    uint32_t group;
+    uint16_t mode;
+};
+
+/* What is added to the status of a call after which something is owed to the mount, as the reply of a read that waited for a record. */
+enum { TRACECTL_OWES_BIT = 31 };
+
+uint32_t tracectl_try_open(struct tracectl_passes *passes, const struct tracectl_made *made);
 uint32_t tracectl_try_close(struct tracectl_passes *passes);
 uint32_t tracectl_try_join(struct tracectl_passes *passes, struct tracectl_console *console);
 uint32_t tracectl_try_leave(struct tracectl_passes *passes, struct tracectl_console *console);
@@ -207,6 +233,11 @@ int32_t tracectl_try_waiting(struct tracectl_console *console, const char *path,
 size_t tracectl_try_reply(struct tracectl_console *console, size_t from, char *room, size_t room_length);
 size_t tracectl_try_offset(struct tracectl_console *console);
 size_t tracectl_try_explain(struct tracectl_console *console, size_t from, char *room, size_t room_length);
+/* Serves a request of a kernel, which has a byte at least (TRACECTL_BAD_VALUE), and tells something that is owed. The reply is cut where it has no room, but
+ * its length is told; 0 is none, or none yet. */
+uint32_t tracectl_try_answer(struct tracectl_console *console, const char *request, size_t length, char *reply, size_t room, size_t *reply_length,
+                             uint32_t *owes);
+uint32_t tracectl_try_tell(struct tracectl_console *console, char *reply, size_t room, size_t *reply_length, uint32_t *owes);
 
 /* How many forks led from the process that first opened a tracer to this one. */
 extern volatile uint32_t tracectl_forks;
@@ -231,6 +262,16 @@ TRACECTL_FUNCTION void tracectl_end(const tracectl_thread *thread) {
 /* Waits a little after this try, the so-many-th that came to nothing. Who tried a thousand times gets in line, where its turn is sure to come. */
 void tracectl_wait(struct tracectl_console *console, uint32_t tries);
 
+/* Wakes the server of a tracer's mount, if there is one and nobody has since it last looked: by one write. */
+void tracectl_wake(tracectl *tracer);
+
+/* The status of a call that had its turn. If something is owed then, the server is woken. */
+TRACECTL_FUNCTION uint32_t tracectl_told(const tracectl_thread *thread, uint32_t status) {
+    if (__builtin_expect(!(status >> TRACECTL_OWES_BIT), 1)) return status;
+    tracectl_wake(thread->seat->tracer);
+    return status & ~(UINT32_C(1) << TRACECTL_OWES_BIT);
+}
+
 /* Keeps the mask that a call was told if it is later than the one that is kept, which a mask of no commands never is: a call that was told none hands that
  * over. So the mask that is kept is the latest of all calls that have returned, in whichever order they came here. */
 void tracectl_take_mask(tracectl *tracer, const struct tracectl_mask *mask);
@@ -245,6 +286,7 @@ TRACECTL_FUNCTION uint32_t tracectl_line(tracectl_thread *thread, const char *li
     while ((status = tracectl_try_line(&thread->seat->console, line, line_length, &mask)) == TRACECTL_TRY_BUSY)
         tracectl_wait(&thread->seat->console, ++tries);
     tracectl_take_mask(thread->seat->tracer, &mask);
+    status = tracectl_told(thread, status);
     tracectl_end(thread);
     return status;
 }
@@ -257,6 +299,7 @@ TRACECTL_FUNCTION uint32_t tracectl_emit(tracectl_thread *thread, const char *ev
     if (status) return status;
     while ((status = tracectl_try_emit(&thread->seat->console, event, event_length, cpu, process, fields, fields_length)) == TRACECTL_TRY_BUSY)
         tracectl_wait(&thread->seat->console, ++tries);
+    status = tracectl_told(thread, status);
     tracectl_end(thread);
     return status;
 }
@@ -296,6 +339,7 @@ TRACECTL_FUNCTION uint32_t tracectl_emit_values(tracectl_thread *thread, uint32_
     if (status) return status;
     while ((status = tracectl_try_emit_values(&thread->seat->console, event, cpu, process, values, count)) == TRACECTL_TRY_BUSY)
         tracectl_wait(&thread->seat->console, ++tries);
+    status = tracectl_told(thread, status);
     tracectl_end(thread);
     return status;
 }
@@ -309,6 +353,7 @@ TRACECTL_FUNCTION uint32_t tracectl_write_by(tracectl_thread *thread, const char
     while ((status = tracectl_try_write(&thread->seat->console, path, path_length, text, text_length, append, &mask)) == TRACECTL_TRY_BUSY)
         tracectl_wait(&thread->seat->console, ++tries);
     tracectl_take_mask(thread->seat->tracer, &mask);
+    status = tracectl_told(thread, status);
     tracectl_end(thread);
     return status;
 }
@@ -328,6 +373,7 @@ TRACECTL_FUNCTION uint32_t tracectl_read_by(tracectl_thread *thread, const char 
     if (status) return status;
     while ((status = tracectl_try_read(&thread->seat->console, path, path_length, is_limited, limit)) == TRACECTL_TRY_BUSY)
         tracectl_wait(&thread->seat->console, ++tries);
+    status = tracectl_told(thread, status);
     tracectl_end(thread);
     return status;
 }
@@ -479,6 +525,36 @@ uint32_t tracectl_emit_here(tracectl_thread *thread, uint32_t event, const trace
         } \
         tracectl_status; \
     })
+
+/* ---- A mount, while the program runs. ---- */
+
+/* Mounts the tracer on a folder, by FUSE: its files (docs/MOUNT.md) are there for shells and other programs, as long as this one runs, or until
+ * tracectl_unmount, tracectl_close or `umount`. A thread of its own serves them, which takes one of the tracer's passes. What another program changes, as
+ * `echo 1 > events/synthetic/tick/enable`, TRACECTL_EMIT heeds once that program's write has returned.
+ *
+ *  - Flags are 0, or TRACECTL_ALLOW_OTHER: other users get in, as far as the files' permissions (0750, of this process's user and group) let them. Others
+ *    are refused with TRACECTL_BAD_VALUE.
+ *  - It takes mount(2), and if this process has no right to that, the program fusermount3. What a program that ended has left on the folder is taken away.
+ *  - A tracer has one mount at a time. Where something else is mounted on the folder, or it can't be, nothing changes: TRACECTL_FOLDER_BUSY and so on.
+ *  - An emission makes no system call but where a read or a poll waits for it, and then one for all until the server has looked. (Where threads contend for
+ *    the tracer, one may yield its processor.)
+ *  - A call of tracectl never waits for a program that reads the files, but mounting and unmounting wait for the kernel, fusermount3 and the server. A thread
+ *    of the process that opens files of its own mount is served as any other, but not in a call, and not the serving thread itself. A folder that the
+ *    process has as its current one can be mounted on, and is then hidden.
+ *  - At `exit` all mounts of the process are taken away, so the tracer's handle has to be there then: it is static, or on the heap and not freed, or it
+ *    is closed before main returns. Who ends by _exit or a signal leaves the folder with ENOTCONN, until the next tracectl_mount on it, or `umount`; so does
+ *    an exec, since the device closes.
+ *  - A child has no mount, if fork made it, and began once a tracectl_open had returned: the calls of the tracer are refused with TRACECTL_FORKED, and it
+ *    lets go of the device before fork returns in it, whatever other threads of its parent do then. A child that is made otherwise (vfork, clone) keeps
+ *    the device until it ends or goes on by an exec. So if the parent is killed before, what asks the mount waits until then.
+ *  - If the program closes descriptors that it did not open, as all but the first three, its mount ends, as if the server was killed. */
+uint32_t tracectl_mount(tracectl *tracer, const char *folder, uint32_t flags);
+
+enum { TRACECTL_ALLOW_OTHER = 1 };
+
+/* Takes the mount away, though programs have files of it open: these get errors from then on, and what waits in a read ends with one. What somebody else has
+ * mounted on the folder since stays there. TRACECTL_NOT_MOUNTED: there is no mount. */
+uint32_t tracectl_unmount(tracectl *tracer);
 
 /* ---- Time. ---- */
 

@@ -1,30 +1,32 @@
 -- Emissions of events whose bits of a mask are clear.
-use Rattle.std.proofs.Common.{◌≡◌, ◌↔◌, ℕ, zero, suc, ◌+◌, ◌-◌, ◌<◌, ◌≤◌, ℤ, Bool, true, ◌&&◌, List, [], ◌∷◌, ◌++◌, length, reverse, All, Option, Some, IsBitSet, get_or, refl, sym, ap, ◌∙◌, subst, arith}
+use Rattle.std.proofs.Common.{◌≡◌, ◌↔◌, ℕ, zero, suc, ◌+◌, ◌-◌, ◌<◌, ◌≤◌, ℤ, Bool, true, ◌&&◌, List, [], ◌∷◌, ◌++◌, length, map, append-nil, append_assoc, All, Option, Some, IsBitSet, get_or, refl, sym, ap, ◌∙◌, subst, arith}
 use Rattle.std.specs.List.{list_all}
-use Rattle.std.proofs.lemmas.List.{length-append, reverse-append}
+use Rattle.std.proofs.lemmas.List.{length-append}
 use Rattle.std.proofs.lemmas.List.Elements.{All-head, All-tail}
-use Rattle.std.proofs.lemmas.List.Folds.{list_all-append}
 use Rattle.std.proofs.lemmas.Option.{get_or_from_slice_get, slice_get_within}
-use Rattle.trace_command.specs.Commands.{Command}
-use Rattle.trace_command.specs.Requests.{Request, Emission, request_of}
+use Rattle.trace_command.specs.Requests.{Request, Emission}
 use Rattle.trace_command.specs.declared.command.Config.{Config}
-use Rattle.trace_command.specs.declared.command.Entry.{Entry}
 use Rattle.trace_format.specs.Catalogs.{event_of}
 use Rattle.trace_format.specs.Definitions.{Definition}
 use Rattle.trace_format.specs.Values.{pairs_given}
 use Rattle.trace_format.specs.declared.field_value.FieldValue.{FieldValue}
 use Rattle.trace_format.specs.declared.pair.Pair.{Pair}
-use Rattle.tracer_specification.specs.History.{IsLegal, past_of, requests_of}
 use Rattle.tracer_specification.specs.IdleEvents.{emits_idle, is_found_idle, is_idle}
 use Rattle.tracer_specification.specs.Pasts.{AreDone}
 use Rattle.tracer_specification.specs.Settings.{NumberedEvent, declared_events, event_named}
 use Rattle.tracer_specification.proofs.EventLists.{named_at}
-use Rattle.tracer_specification.proofs.LegalEvents.{done-events, done-legal}
+use Rattle.tracer_specification.proofs.LegalEvents.{done-events}
 use Rattle.history_laws.specs.IdleEmissions.{OnlyTicks}
 use Rattle.history_laws.proofs.IdleEvents.{idle_emissions_leave_wants, idle_emissions_only_tick}
-use Rattle.tracer_state.proofs.Histories.{length-past_of}
+use Rattle.tracer_state.specs.ValueEmissions.{emission_of}
 use Rattle.tracer.specs.LiveMasks.{IsMaskAfter}
-use Rattle.shared_tracer.specs.AskedCommands.{numbered_emission}
+use Rattle.mount_replies.specs.Calls.{TakesTurns, Turn}
+use Rattle.mount_replies.specs.PastLaws.{WasDone, just_mounted}
+use Rattle.mount_replies.specs.Services.{Service}
+use Rattle.mount_replies.proofs.DoneLemmas.{pasts_are_done}
+use Rattle.shared_mount.specs.LiveMountSeen.{SharedTerms}
+use Rattle.shared_mount.specs.MountEntries.{EntrySeen, commands_of, done_in, turn_of}
+use Rattle.shared_mount.specs.MountHistories.{AreLed, WereTaken}
 use Rattle.library_tracer.specs.ClearBits.{ByName, ByNumber, ClearBitsKeepNumbers, ClearBitsKeepTheMask, ClearBitsOnlyTick, EmitsUnwanted, IsQuietAfter}
 use Rattle.library_tracer.specs.Masks.{IsMaskOf}
 use Rattle.library_tracer.specs.declared.mask.Mask.{Mask}
@@ -71,63 +73,70 @@ module _ (g : Config) (past : List Request) (mask : ℕ) (done : AreDone g past)
 
 -- an emission by values is one by name
 by-values : (found : Option Definition) (event : Definition) (cpu : ℕ) (pid : ℤ) (values : List FieldValue) → found ≡ Some event
-    → request_of (numbered_emission found cpu pid values) ≡ Emission event.name cpu pid (pairs_given event.fields values)
-by-values found event cpu pid values is = ap (λ (f : Option Definition). request_of (numbered_emission f cpu pid values)) is
+    → emission_of found cpu pid values ≡ Emission event.name cpu pid (pairs_given event.fields values)
+by-values found event cpu pid values is = ap (λ (f : Option Definition). emission_of f cpu pid values) is
 
-unwanted-idle : (g : Config) (entries : List Entry) (mask : Mask) (command : Command) → AreDone g (past_of entries) → IsMaskOf entries mask
-    → EmitsUnwanted entries mask command → emits_idle (past_of entries) (request_of command) ≡ true
-unwanted-idle g entries mask command done is (ByName number event cpu pid pairs bit same) =
-    ap (λ (c : Command). emits_idle (past_of entries) (request_of c)) same
-    ∙ clear-idle g (past_of entries) mask.events done is.events number event cpu pid pairs bit.declared bit.clear
-unwanted-idle g entries mask command done is (ByNumber number event cpu pid values bit same) =
-    ap (λ (c : Command). emits_idle (past_of entries) (request_of c)) same
-    ∙ ap (emits_idle (past_of entries)) (by-values _ event cpu pid values bit.declared)
-    ∙ clear-idle g (past_of entries) mask.events done is.events number event cpu pid (pairs_given event.fields values) bit.declared bit.clear
+unwanted-idle : (g : Config) (entries : List EntrySeen) (mask : Mask) (request : Request) → AreDone g (done_in entries) → IsMaskOf entries mask
+    → EmitsUnwanted entries mask request → emits_idle (done_in entries) request ≡ true
+unwanted-idle g entries mask request done is (ByName number event cpu pid pairs bit same) =
+    ap (emits_idle (done_in entries)) same ∙ clear-idle g (done_in entries) mask.events done is.events number event cpu pid pairs bit.declared bit.clear
+unwanted-idle g entries mask request done is (ByNumber number event cpu pid values bit same) =
+    ap (emits_idle (done_in entries)) same
+    ∙ ap (emits_idle (done_in entries)) (by-values _ event cpu pid values bit.declared)
+    ∙ clear-idle g (done_in entries) mask.events done is.events number event cpu pid (pairs_given event.fields values) bit.declared bit.clear
 
 -- ---- histories that go on
 
-requests-append : (later before : List Entry) → requests_of (later ++ before) ≡ requests_of later ++ requests_of before
-requests-append [] before = refl
-requests-append (entry ∷ later) before = ap (λ (past : List Request). request_of entry.command ∷ past) (requests-append later before)
+done-append : (entries more : List EntrySeen) → done_in (entries ++ more) ≡ done_in more ++ done_in entries
+done-append [] more = sym (append-nil (done_in more))
+done-append (entry ∷ entries) more =
+    ap (λ (past : List Request). past ++ commands_of entry.deed) (done-append entries more)
+    ∙ append_assoc (done_in more) (done_in entries) (commands_of entry.deed)
 
-past-append : (entries more : List Entry) → past_of (entries ++ more) ≡ past_of more ++ past_of entries
-unfolding past_of
-past-append entries more = ap requests_of (reverse-append entries more) ∙ requests-append (reverse more) (reverse entries)
+-- turns of callers are turns of a mounted tracer
+abbrev turns_in : SharedTerms → List EntrySeen → List Turn
+turns_in g entries = map (λ (entry : EntrySeen). turn_of g.limit entry.deed) entries
 
--- a test of the requests of entries, in whichever order
-all-pass : (test : Request → Bool) (more : List Entry) → All (λ (entry : Entry). test (request_of entry.command) ≡ true) more → list_all test (past_of more) ≡ true
-unfolding past_of
+led-turns : (g : SharedTerms) (before : Service) (entries : List EntrySeen) (after : Service) → AreLed g before entries after
+    → TakesTurns g.mount before (turns_in g entries) after
+led-turns g before [] after led = led
+led-turns g before (entry ∷ entries) after led = (led.0, led.1.turned, led-turns g led.0 entries after led.2)
+
+all-done : (g : SharedTerms) (entries : List EntrySeen) → WereTaken g entries → AreDone g.mount.config (done_in entries)
+all-done g entries taken =
+    let was : WasDone g.mount taken.after.past =
+    pasts_are_done g.mount (turns_in g entries) taken.after (led-turns g just_mounted entries taken.after taken.led.led) in
+    subst (AreDone g.mount.config) taken.led.past was.done
+
+all-pass : (test : Request → Bool) (requests : List Request) → All (λ (r : Request). test r ≡ true) requests → list_all test requests ≡ true
 all-pass test [] all = refl
-all-pass test (entry ∷ more) all =
-    let P : Entry → Type 0 = λ e. test (request_of e.command) ≡ true in
-    let first : test (request_of entry.command) ≡ true = All-head P entry more all in
-    let rest : list_all test (past_of more) ≡ true = all-pass test more (All-tail P entry more all) in
-    ap (list_all test) (past-append (entry ∷ []) more)
-    ∙ list_all-append test (past_of more) (past_of (entry ∷ []))
-    ∙ (λ i. rest i && (first i && true))
+all-pass test (request ∷ requests) all =
+    let P : Request → Type 0 = λ r. test r ≡ true in
+    let first : test request ≡ true = All-head P request requests all in
+    let rest : list_all test requests ≡ true = all-pass test requests (All-tail P request requests all) in
+    (λ i. first i && rest i)
 
-module _ (g : Config) (entries more : List Entry) (mask : Mask) (quiet : IsQuietAfter g entries more mask) where
-  done : AreDone g (past_of entries)
-  unfolding IsLegal past_of
-  done = done-legal g (reverse entries) quiet.legal
+module _ (g : SharedTerms) (entries more : List EntrySeen) (mask : Mask) (quiet : IsQuietAfter g entries more mask) where
+  done : AreDone g.mount.config (done_in entries)
+  done = all-done g entries quiet.taken
 
-  idle : list_all (emits_idle (past_of entries)) (past_of more) ≡ true
-  idle = all-pass (emits_idle (past_of entries)) more
-      (λ k d inside. unwanted-idle g entries mask _ done quiet.is (quiet.all k d inside))
+  idle : list_all (emits_idle (done_in entries)) (done_in more) ≡ true
+  idle = all-pass (emits_idle (done_in entries)) (done_in more)
+      (λ k d inside. unwanted-idle g.mount.config entries mask _ done quiet.is (quiet.all k d inside))
 
-  same-ticks : OnlyTicks (length more) (past_of entries) (past_of (entries ++ more))
+  same-ticks : OnlyTicks (length (done_in more)) (done_in entries) (done_in (entries ++ more))
   same-ticks =
-      let ticks = idle_emissions_only_tick (past_of entries) (past_of more) idle in
-      let counted : OnlyTicks (length more) (past_of entries) (past_of more ++ past_of entries) =
-      subst (λ (n : ℕ). OnlyTicks n (past_of entries) (past_of more ++ past_of entries)) (length-past_of more) ticks in
-      subst (OnlyTicks (length more) (past_of entries)) (sym (past-append entries more)) counted
+      subst (OnlyTicks (length (done_in more)) (done_in entries)) (sym (done-append entries more)) (idle_emissions_only_tick (done_in entries) (done_in more) idle)
 
-  kept-mask : IsMaskOf (entries ++ more) (record mask { entries = mask.entries + length more })
-  kept-mask = record {
-    count = ap (λ (n : ℕ). n + length more) quiet.is.count ∙ sym (length-append entries more);
-    events = subst (λ (past : List Request). IsMaskAfter past mask.events) (sym (past-append entries more))
-        (same-mask g (past_of entries) mask.events done quiet.is.events (past_of more) idle);
-  }
+  kept-mask : IsMaskOf (entries ++ more) (record mask { entries = mask.entries + length (done_in more) })
+  kept-mask =
+      let count = quiet.is.count in
+      let both : length (done_in more ++ done_in entries) ≡ length (done_in more) + length (done_in entries) = length-append (done_in more) (done_in entries) in
+      record {
+        count = (omega (arith, count, both)) ∙ sym (ap (λ (past : List Request). length past) (done-append entries more));
+        events = subst (λ (past : List Request). IsMaskAfter past mask.events) (sym (done-append entries more))
+            (same-mask g.mount.config (done_in entries) mask.events done quiet.is.events (done_in more) idle);
+      }
 
 pub clear_bits_only_tick : ClearBitsOnlyTick
 clear_bits_only_tick g entries more mask quiet = same-ticks g entries more mask quiet
@@ -137,4 +146,4 @@ clear_bits_keep_the_mask g entries more mask quiet = kept-mask g entries more ma
 
 pub clear_bits_keep_numbers : ClearBitsKeepNumbers
 clear_bits_keep_numbers g entries more mask number cpu pid values quiet =
-    ap (λ (events : List Definition). numbered_emission (event_of events number) cpu pid values) (same-ticks g entries more mask quiet).events
+    ap (λ (events : List Definition). emission_of (event_of events number) cpu pid values) (same-ticks g entries more mask quiet).events

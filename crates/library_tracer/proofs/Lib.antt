@@ -1,5 +1,6 @@
 pub mod ConsoleLemmas
-pub mod WaitingLimits
+pub mod FilesLemmas
+pub mod LeavingLemmas
 pub mod WordLemmas
 pub mod FieldLemmas
 pub mod ListedLemmas

@@ -2,11 +2,7 @@
 use Rattle.std.proofs.Common.{◌≡◌, ◌⊎◌, inl, inr, ℕ, List, length, Option, Some, None, Result, Ok, Err, MatchResult, IfSome, IfNone, unwrap_or, refl, sym, ap, subst, ◌∙◌}
 use Rattle.trace_command.specs.Commands.{Command}
 use Rattle.trace_command.specs.Requests.{Request}
-use Rattle.trace_command.specs.declared.command.Config.{Config}
-use Rattle.trace_command.specs.declared.command.Entry.{Entry}
 use Rattle.trace_command.specs.declared.refusal.Refusal.{Refusal}
-use Rattle.tracer_specification.specs.History.{past_of}
-use Rattle.tracer_state.proofs.Histories.{length-past_of}
 use Rattle.tracer.specs.LiveMasks.{IsMaskAfter}
 use Rattle.tracer.specs.LiveSeen.{LiveSeen}
 use Rattle.tracer.specs.Lives.{IsLive}
@@ -17,7 +13,9 @@ use Rattle.trace_script.specs.declared.fault.ScriptFault.{ScriptFault}
 use Rattle.trace_script.specs.declared.line.Line.{Line}
 use Rattle.trace_script.specs.declared.line.Line.TheVariants.{Ask}
 use Rattle.trace_script.specs.declared.outcome.Outcome.{Outcome}
-use Rattle.shared_tracer.specs.SharedCallers.{IsToldOf}
+use Rattle.shared_mount.specs.LiveMountSeen.{SharedTerms}
+use Rattle.shared_mount.specs.MountCallers.{IsToldOf}
+use Rattle.shared_mount.specs.MountEntries.{EntrySeen, done_in}
 use Rattle.library_tracer.specs.ConsolesSeen.{ConsoleSeen}
 use Rattle.library_tracer.specs.Consoles.{failed, said_by, says, tells, Asks, Comes, LacksMemory, Looks, Said}
 use Rattle.library_tracer.specs.Masks.{IsMaskOf, Masks}
@@ -32,30 +30,29 @@ use Rattle.library_tracer.proofs.ConsoleLemmas.{seen_as}
 abbrev pub tells_wanted : LiveSeen → Mask → Type 0
 tells_wanted live mask = (past : List Request) → IsLive live.config past live → (mask.entries ≡ length past) × IsMaskAfter past mask.events
 
-mask_of : (g : Config) (entries : List Entry) (mask : Mask) → IsToldOf g tells_wanted entries mask → IsMaskOf entries mask
+mask_of : (g : SharedTerms) (entries : List EntrySeen) (mask : Mask) → IsToldOf g tells_wanted entries mask → IsMaskOf entries mask
 mask_of g entries mask told =
-    let here = told.told (past_of entries) told.lives in
-    record { count = here.0 ∙ length-past_of entries; events = here.1 }
+    let here = told.told (done_in entries) told.lives in record { count = here.0; events = here.1 }
 
-pub wanted_seen : (before after : ConsoleSeen) (told : Option (Result Mask Refusal)) → Looks (IsToldOf before.config tells_wanted) before after told
+pub wanted_seen : (before after : ConsoleSeen) (told : Option (Result Mask Refusal)) → Looks (IsToldOf before.terms tells_wanted) before after told
     → Looks IsMaskOf before after told
 wanted_seen before after None looks = looks
 wanted_seen before after (Some (Err refusal)) looks = looks
 wanted_seen before after (Some (Ok mask)) looks =
-    seen_as (λ entries. IsToldOf before.config tells_wanted entries mask) (λ entries. IsMaskOf entries mask)
-    (λ entries told. mask_of before.config entries mask told) before after looks
+    seen_as (λ entries. IsToldOf before.terms tells_wanted entries mask) (λ entries. IsMaskOf entries mask)
+    (λ entries told. mask_of before.terms entries mask told) before after looks
 
 -- ---- a call
 
 -- it tells the mask that was seen in its turn
-pub masked : (command : List Entry → Command) (before after : ConsoleSeen) (tried : Tried) (told : Option Mask) (was now : Mask) → now ≡ unwrap_or told was
-    → IfSome told (IsSeenNow (IsToldOf before.config tells_wanted) after tried) → IfNone told (HadNoTurn after tried) → Masks (Asks command) after tried was now
-masked command before after Busy None was now is saw none = is
-masked command before after Busy (Some mask) was now is saw none = absurd (saw.had_turn refl)
-masked command before after (Told status) None was now is saw (inl busy) = absurd (cc)
-masked command before after (Told status) None was now is saw (inr worn) = inr (worn, is)
-masked command before after (Told status) (Some mask) was now is saw none =
-    inl (record { now = saw.now; has = saw.has; is = subst (λ (m : Mask). IsMaskOf saw.now.view.seen m) (sym is) (mask_of before.config saw.now.view.seen mask saw.shown_is) })
+pub masked : (request : List EntrySeen → Request) (words : Refusal → List ℕ) (before after : ConsoleSeen) (tried : Tried) (told : Option Mask) (was now : Mask) → now ≡ unwrap_or told was
+    → IfSome told (IsSeenNow (IsToldOf before.terms tells_wanted) after tried) → IfNone told (HadNoTurn after tried) → Masks (Asks request words) after tried was now
+masked request words before after Busy None was now is saw none = is
+masked request words before after Busy (Some mask) was now is saw none = absurd (saw.had_turn refl)
+masked request words before after (Told status owes) None was now is saw (inl busy) = absurd (cc)
+masked request words before after (Told status owes) None was now is saw (inr worn) = inr (worn, is)
+masked request words before after (Told status owes) (Some mask) was now is saw none =
+    inl (record { now = saw.now; has = saw.has; is = subst (λ (m : Mask). IsMaskOf saw.now.view.seen m) (sym is) (mask_of before.terms saw.now.view.seen mask saw.shown_is) })
 
 -- ---- a line
 

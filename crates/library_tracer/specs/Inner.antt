@@ -1,21 +1,21 @@
 -- What contracts see of consoles and passes, and what is true of their fields.
 use Rattle.std.specs.Prelude.{◌≡◌, ℕ, List, Option, Some, None, IfSome, IsSome, is_some}
 use Rattle.std.specs.Arc.{arc_value}
-use Rattle.shared_tracer.specs.SharedCallers.{calls_of, caller_view, config_of, line_calls, line_view, IsCallerOf, IsInLineOf}
-use Rattle.shared_tracer.specs.declared.caller.Caller.{Caller}
+use Rattle.shared_mount.specs.MountCallers.{caller_view, line_view, terms_of, IsCallerOf, IsInLineOf}
+use Rattle.shared_mount.specs.declared.caller.Caller.{Caller}
 use Rattle.library_tracer.specs.ConsolesSeen.{ConsoleSeen, Known}
 use Rattle.library_tracer.specs.Sentences.{words_of}
 use Rattle.library_tracer.specs.declared.console.Console.TheInside.{Inside}
 use Rattle.library_tracer.specs.declared.last.Last.{Last}
 use Rattle.library_tracer.specs.declared.queued.Queued.{Queued}
 
--- what a caller knows, and which calls it made
+-- what a caller knows
 abbrev pub known_by : Caller → Known
-known_by caller = record { view = caller_view caller; calls = calls_of caller }
+known_by caller = record { view = caller_view caller }
 
 -- and one that is in line
 abbrev pub known_in : Queued → Known
-known_in queued = record { view = line_view queued.line; calls = line_calls queued.line }
+known_in queued = record { view = line_view queued.line }
 
 -- by the caller that is idle, or by the one that is in line
 abbrev pub known_of : Option Caller → Option Queued → Option Known
@@ -30,7 +30,7 @@ words_in last = words_of last.outcome last.words.now
 abbrev pub seen : Inside → ConsoleSeen
 seen c = record {
   tracer = (arc_value c.tracer).lock.table.shared.table_id;
-  config = config_of (arc_value c.tracer);
+  terms = terms_of (arc_value c.tracer);
   has = known_of c.idle c.queued;
   is_in_line = is_some c.queued;
   last = c.last.outcome;

@@ -2,9 +2,9 @@
 use Rattle.std.specs.Prelude.{◌≡◌, List, length, map, Option, IfSome}
 use Rattle.std.specs.Arc.{arc_value}
 use Rattle.std.specs.Option.{option_map}
-use Rattle.shared_tracer.specs.SharedCallers.{config_of}
-use Rattle.shared_tracer.specs.declared.caller.Caller.{Caller}
-use Rattle.shared_tracer.specs.declared.shared.SharedTracer.{SharedTracer}
+use Rattle.shared_mount.specs.MountCallers.{terms_of}
+use Rattle.shared_mount.specs.declared.caller.Caller.{Caller}
+use Rattle.shared_mount.specs.declared.shared.SharedMount.{SharedMount}
 use Rattle.library_tracer.specs.ConsolesSeen.{Known}
 use Rattle.library_tracer.specs.Inner.{known_by}
 use Rattle.library_tracer.specs.PassNames.{pass_count}
@@ -12,14 +12,14 @@ use Rattle.library_tracer.specs.Tiled.{AreTiles}
 use Rattle.library_tracer.specs.PassesSeen.{PassesSeen}
 use Rattle.library_tracer.specs.declared.passes.Passes.TheInside.{Inside}
 
--- each by what it knows, and which calls it made
+-- each by what it knows
 abbrev pub seen_callers : List (Option Caller) → List (Option Known)
 seen_callers callers = map (λ caller. option_map known_by caller) callers
 
-abbrev pub seen_of : SharedTracer → List (Option Caller) → PassesSeen
+abbrev pub seen_of : SharedMount → List (Option Caller) → PassesSeen
 seen_of shared callers = record {
   tracer = shared.lock.table.shared.table_id;
-  config = config_of shared;
+  terms = terms_of shared;
   callers = seen_callers callers;
 }
 
@@ -27,7 +27,7 @@ abbrev pub seen : Inside → Option PassesSeen
 seen p = option_map (λ tracer. seen_of (arc_value tracer) p.callers.items) p.tracer
 
 -- the callers of a tracer, by name
-pub record AreItsCallers (shared : SharedTracer) (callers : List (Option Caller)) : Type 0 where
+pub record AreItsCallers (shared : SharedMount) (callers : List (Option Caller)) : Type 0 where
   pub count : length callers ≡ pass_count
   pub tiles : AreTiles shared 0 callers
 

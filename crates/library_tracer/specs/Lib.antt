@@ -1,3 +1,4 @@
+pub mod AskedWords
 pub mod ClearBits
 pub mod Consoles
 pub mod ConsolesSeen

@@ -1,11 +1,9 @@
 -- The names of passes: 1,024 of 64 each, which tile the names from 0 to 65,535.
-use Rattle.std.specs.Prelude.{◌≡◌, ℕ, ◌+◌, ◌*◌, List, [], ◌∷◌, ◌++◌, Option, Some, None, IfSome}
+use Rattle.std.specs.Prelude.{◌≡◌, ℕ, ◌+◌, ◌*◌, List, [], Option, Some, None, IfSome}
 use Rattle.std.specs.List.{slice_get}
 use Rattle.ticket_lock.specs.declared.views.View.{View}
-use Rattle.trace_command.specs.declared.command.Config.{Config}
-use Rattle.trace_command.specs.declared.command.Entry.{Entry}
-use Rattle.shared_book.specs.Bases.{numbers_of}
-use Rattle.shared_tracer.specs.declared.call.Call.{Call}
+use Rattle.shared_mount.specs.LiveMountSeen.{SharedTerms, numbers_of}
+use Rattle.shared_mount.specs.MountEntries.{EntrySeen}
 use Rattle.library_tracer.specs.ConsolesSeen.{Known}
 
 abbrev pub pass_count : ℕ
@@ -15,7 +13,7 @@ abbrev pub names_each : ℕ
 names_each = 64
 
 -- the pass at this index has these names
-pub record HasNames (index : ℕ) (v : View Entry) : Type 0 where
+pub record HasNames (index : ℕ) (v : View EntrySeen) : Type 0 where
   pub low : v.low ≡ names_each * index
   pub end : v.end ≡ names_each * index + names_each
 
@@ -28,18 +26,11 @@ HasNamesIfThere index (Some known) = HasNames index known.view
 abbrev pub AreByName : List (Option Known) → Type 0
 AreByName callers = (index : ℕ) → IfSome (slice_get callers index) (HasNamesIfThere index)
 
--- Nothing was done as far as it knows, of a tracer that answers by this configuration, and it made no calls.
-pub record IsFresh (config : Config) (known : Known) : Type 0 where
+-- Nothing was done as far as it knows, of a tracer that was made with these.
+pub record IsFresh (terms : SharedTerms) (known : Known) : Type 0 where
   pub seen : known.view.seen ≡ []
-  pub base : known.view.base ≡ numbers_of config
-  pub calls : known.calls ≡ []
+  pub base : known.view.base ≡ numbers_of terms
 
-abbrev pub IsThereFresh : Config → Option Known → Type 0
-IsThereFresh config None = ⊥
-IsThereFresh config (Some known) = IsFresh config known
-
--- the calls of all, from left to right; a pass that is not there has none to tell of
-abbrev pub calls_of_all : List (Option Known) → List Call
-calls_of_all [] = []
-calls_of_all (None ∷ callers) = calls_of_all callers
-calls_of_all (Some known ∷ callers) = known.calls ++ calls_of_all callers
+abbrev pub IsThereFresh : SharedTerms → Option Known → Type 0
+IsThereFresh terms None = ⊥
+IsThereFresh terms (Some known) = IsFresh terms known

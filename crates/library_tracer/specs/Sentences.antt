@@ -1,8 +1,7 @@
 -- What is wrong with a call, in words.
 use Rattle.std.specs.Prelude.{ℕ, List, [], codes, Result, Ok, Err}
 use Rattle.refusal_explanations.specs.FaultWords.{line_words}
-use Rattle.refusal_explanations.specs.Words.{command_words, sentence_of}
-use Rattle.trace_command.specs.Commands.{Command}
+use Rattle.refusal_explanations.specs.Words.{sentence_of}
 use Rattle.trace_command.specs.declared.command.Reply.{Reply}
 use Rattle.trace_command.specs.declared.refusal.Refusal.{Refusal}
 use Rattle.trace_script.specs.declared.outcome.Outcome.{Outcome}
@@ -13,10 +12,10 @@ abbrev pub words_of : Outcome → List ℕ → List ℕ
 words_of (Replied reply) words = []
 words_of _ words = words
 
--- those of a command that was answered so
-abbrev pub answer_words : Command → Result Reply Refusal → List ℕ
-answer_words command (Ok reply) = []
-answer_words command (Err refusal) = command_words command refusal
+-- those of a call that was answered so, by the words of each refusal of it
+abbrev pub answer_words : (Refusal → List ℕ) → Result Reply Refusal → List ℕ
+answer_words words (Ok reply) = []
+answer_words words (Err refusal) = words refusal
 
 -- those of a line that asks for nothing, and of one for which memory was refused
 abbrev pub told_words : List ℕ → Outcome → List ℕ

@@ -4,7 +4,8 @@ use Rattle.trace_command.specs.Refusals.{number_of}
 use Rattle.trace_command.specs.declared.command.Reply.TheVariants.{Text}
 use Rattle.trace_command.specs.declared.refusal.Refusal.TheVariants.{BadDefinition, FilterSyntax, NoSuchField, WrongOperator, HistSyntax, BadRow}
 use Rattle.trace_script.specs.declared.fault.ScriptFault.{ScriptFault}
-use Rattle.trace_script.specs.declared.fault.ScriptFault.TheVariants.{LineTooLong, BadByte, UnclosedQuote, UnknownCommand, WrongWords, BadNumber, BlockOutOfPlace, TooManyThreads}
+use Rattle.trace_script.specs.declared.fault.ScriptFault.TheVariants.{LineTooLong, BadByte, UnclosedQuote, UnknownCommand}
+use Rattle.trace_script.specs.declared.fault.ScriptFault.TheVariants.{WrongWords, BadNumber, BlockOutOfPlace, TooManyThreads}
 use Rattle.trace_script.specs.declared.outcome.Outcome.{Outcome}
 use Rattle.trace_script.specs.declared.outcome.Outcome.TheVariants.{Replied, Refused, Fault}
 

@@ -14,5 +14,7 @@ mod status;
 
 pub use console::{Console, Tried};
 pub use mask::Mask;
+pub use mount_replies::Owners;
 pub use passes::{JoinError, PASSES, Passes};
+pub use shared_mount::Served;
 pub use trace_command::Config;

@@ -10,7 +10,7 @@ ghost use Rattle.library_tracer.specs.ListedFiles.{files_after};
 
 use crate::files::files_of;
 use crate::mask::Mask;
-use shared_tracer::Look;
+use shared_mount::Look;
 use std::alloc::{AllocError, Global};
 use trace_command::Refusal;
 use tracer::Tracer;

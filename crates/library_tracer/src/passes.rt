@@ -10,20 +10,21 @@
 //!            pass       -           pass        ..   pass                a thread has pass 1
 //! ```
 
-ghost use Rattle.std.specs.Prelude.{◌≡◌, ◌≢◌, ◌↔◌, ◌≤◌, ◌+◌, ◌*◌, ◌^◌, [], true, false, IfOk, IfErr, OnOk, IsSome, List, Option, Some, IfSome, vec_len, vec_capacity, ◌++◌};
+ghost use Rattle.std.specs.Prelude.{◌≡◌, ◌≢◌, ◌↔◌, ◌≤◌, ◌+◌, ◌*◌, ◌^◌, [], ◌++◌};
+ghost use Rattle.std.specs.Prelude.{true, false, IfOk, IfErr, OnOk, IsSome, List, Option, Some, IfSome, vec_len, vec_capacity};
 ghost use Rattle.std.specs.Arc.{arc_value};
 ghost use Rattle.trace_command.specs.Configs.{IsInRange};
-ghost use Rattle.trace_command.specs.declared.command.Entry.{Entry as EntrySeen};
 ghost use Rattle.trace_command.specs.declared.refusal.Refusal.TheVariants as refusals;
 ghost use Rattle.tracer.specs.Lives.{most_done};
-ghost use Rattle.shared_tracer.specs.RaisedLimits.{with_limit};
-ghost use Rattle.shared_tracer.specs.SharedCallers.{calls_of, caller_view, config_of, IsCallerOf};
-ghost use Rattle.shared_tracer.specs.SharedHistories.{IsOneHistory};
-ghost use Rattle.shared_tracer.specs.declared.caller.Caller.{Caller as CallerSeen};
-ghost use Rattle.library_tracer.specs.Tiled.{AreFresh, AreParts, IsFirstThere, IsRootOf, calls_of_rest};
+ghost use Rattle.shared_mount.specs.MountCallers.{caller_view, terms_of, IsCallerOf};
+ghost use Rattle.shared_mount.specs.MountEntries.{EntrySeen};
+ghost use Rattle.shared_mount.specs.MountHistories.{IsOneHistory};
+ghost use Rattle.shared_mount.specs.declared.caller.Caller.{Caller as CallerSeen};
+ghost use Rattle.library_tracer.specs.PassesSeen.{made_with};
+ghost use Rattle.library_tracer.specs.Tiled.{AreFresh, AreParts, ContinuesEach, IsFirstThere, IsRootOf};
 
 use crate::console::Console;
-use shared_tracer::{Caller, SharedTracer};
+use shared_mount::{Caller, Owners, SharedMount};
 use std::alloc::{AllocError, Global};
 use std::marker::Model;
 use std::mem;
@@ -42,7 +43,7 @@ const NAMES: u32 = 64;
 /// A tracer that threads share, and the passes that no thread has; or nothing any more, once it is closed.
 pub struct Passes {
     alloc: Global,
-    tracer: Option<Arc<SharedTracer, Global>>,
+    tracer: Option<Arc<SharedMount, Global>>,
     callers: Vec<Option<Caller>>,
 }
 
@@ -66,15 +67,10 @@ pub enum JoinError {
 }
 
 /// Splits a caller so often, and adds the parts to a list, from left to right.
-fn split_evenly(
-    tracer: &SharedTracer,
-    caller: Caller,
-    times: u32,
-    callers: &mut Vec<Option<Caller>>,
-)
+fn split_evenly(tracer: &SharedMount, caller: Caller, times: u32, callers: &mut Vec<Option<Caller>>)
     requires of { IsCallerOf tracer.now caller }
     requires names { (caller_view caller).end ≡ (caller_view caller).low + 64 * 2 ^ times }
-    requires fresh { ((caller_view caller).seen ≡ []) × (calls_of caller ≡ []) }
+    requires fresh { (caller_view caller).seen ≡ [] }
     requires room { vec_len callers.old + 2 ^ times ≤ vec_capacity callers.old }
     ensures added { (added : List (Option CallerSeen)) × (callers.new.items ≡ callers.old.items ++ added)
         × AreParts tracer.now (caller_view caller).low (2 ^ times) added
@@ -112,16 +108,19 @@ impl Passes {
     ghost use Rattle.library_tracer.specs.Inner.{known_by};
     ghost use Rattle.library_tracer.specs.PassesSeen.{AreNew, CanPutBack, HasBack, HasClosed, HasTaken, IsWhole, NoneIsThere};
 
-    /// A tracer of which nothing was asked, and all its passes. It does `limit` commands; the limit of the configuration says nothing of it. `BadValue`
-    /// comes exactly where a number of the configuration is out of range.
-    pub fn new(alloc: Global, config: Config, limit: u64) -> Result<Passes, Refusal>
+    /// A tracer of which nothing was asked, and all its passes. The files of its mount are these people's. `BadValue` comes exactly where a number of the
+    /// configuration is out of range.
+    ///
+    /// The limit is by calls: once `limit` commands were done, by calls or by the mount, a call does no more. Requests of the mount heed no limit but 2^60,
+    /// and the limit of the configuration says nothing of either.
+    pub fn new(alloc: Global, config: Config, owners: Owners, limit: u64) -> Result<Passes, Refusal>
         requires { limit ≤ most_done }
-        ensures made { IfOk result (AreNew (with_limit limit config)) }
+        ensures made { IfOk result (AreNew (made_with config owners limit)) }
         ensures in_range { OnOk result (IsInRange config) }
         ensures out_of_range { ¬ IsInRange config → IfErr result (λ r. r ≡ refusals.BadValue) }
         ensures refused { IfErr result (λ r. r ≢ refusals.Memory → (r ≡ refusals.BadValue) × ¬ IsInRange config) }
     {
-        let (tracer, root) = SharedTracer::new(alloc, config, limit)?;
+        let (tracer, root) = SharedMount::new(alloc, config, owners, limit)?;
         let mut callers = Vec::with_capacity(alloc, PASSES)?;
         split_evenly(&tracer, root, SPLITS, &mut callers);
         match share(alloc, tracer) {
@@ -171,7 +170,7 @@ impl Passes {
         self.tracer.is_some() && self.callers.iter().all(Option::is_some)
     }
 
-    /// Ends the tracer if all passes are there, and no thread has a console of it: they meet, from left to right, and one history has the calls of all.
+    /// Ends the tracer if all passes are there, and no thread has a console of it: they meet, from left to right, and one history has all turns.
     /// Otherwise all stays as it was. Has whether it ended.
     pub fn close(&mut self) -> bool
         ensures closed { result ≡ true → HasClosed self.old self.new }
@@ -200,7 +199,7 @@ impl Passes {
 }
 
 /// Shares a tracer, if there is memory. (What is dropped otherwise is proved here, without all passes at hand.)
-fn share(alloc: Global, tracer: SharedTracer) -> Result<Arc<SharedTracer, Global>, AllocError>
+fn share(alloc: Global, tracer: SharedMount) -> Result<Arc<SharedMount, Global>, AllocError>
     ensures ok { IfOk result (λ shared. arc_value shared ≡ tracer) }
 {
     match Arc::new(alloc, tracer) {
@@ -210,7 +209,7 @@ fn share(alloc: Global, tracer: SharedTracer) -> Result<Arc<SharedTracer, Global
 }
 
 /// Puts a tracer back that goes on.
-fn stay_open(place: &mut Option<Arc<SharedTracer, Global>>, tracer: Arc<SharedTracer, Global>)
+fn stay_open(place: &mut Option<Arc<SharedMount, Global>>, tracer: Arc<SharedMount, Global>)
     ensures { place.new ≡ Some tracer }
 {
     *place = Some(tracer);
@@ -224,10 +223,10 @@ fn first_there(callers: &[Option<Caller>]) -> Option<usize>
 }
 
 /// Has all callers meet, from left to right.
-fn meet_all(tracer: &SharedTracer, callers: Vec<Option<Caller>>) -> Option<Caller>
+fn meet_all(tracer: &SharedMount, callers: Vec<Option<Caller>>) -> Option<Caller>
     requires { AreParts tracer.now 0 1024 callers.items }
     ensures some { IsSome result }
-    ensures all { IfSome result (IsRootOf tracer.now (calls_of_rest callers.items)) }
+    ensures all { IfSome result (IsRootOf tracer.now callers.items) }
 {
     let mut met = None;
     for caller in callers {
@@ -241,9 +240,9 @@ fn meet_all(tracer: &SharedTracer, callers: Vec<Option<Caller>>) -> Option<Calle
 }
 
 /// Has all callers meet, and ends the lock by the one that they make.
-fn end(tracer: SharedTracer, callers: Vec<Option<Caller>>)
+fn end(tracer: SharedMount, callers: Vec<Option<Caller>>)
     requires { AreParts tracer 0 1024 callers.items }
-    ensures { (history : List EntrySeen) × IsOneHistory (config_of tracer) history (calls_of_rest callers.items) }
+    ensures { (history : List EntrySeen) × IsOneHistory (terms_of tracer) history × ContinuesEach history 0 callers.items }
 {
     if let Some(root) = meet_all(&tracer, callers) {
         let _ended = tracer.close(root);

@@ -1,6 +1,6 @@
 //! A caller in line.
 
-use shared_tracer::InLine;
+use shared_mount::InLine;
 
 /// A caller that is in line. A console that is dropped in line would give its ticket up, and nobody would be served any more: so it has its turn first
 /// (`Console::leave`).

@@ -1,11 +1,9 @@
 //! Outcomes as numbers, what of them is text, and what is wrong with a call in words.
 
 ghost use Rattle.std.specs.Prelude.{◌≡◌, List, [], Option, None, Some, IfOk};
-ghost use Rattle.trace_command.specs.declared.command.Entry.{Entry};
 ghost use Rattle.trace_command.specs.declared.command.Reply.TheVariants as replies;
 ghost use Rattle.trace_script.specs.declared.outcome.Outcome.TheVariants as outcomes;
-ghost use Rattle.refusal_explanations.specs.Words.{command_words};
-ghost use Rattle.shared_tracer.specs.AskedCommands.{command_after};
+ghost use Rattle.library_tracer.specs.AskedWords.{words_asked};
 ghost use Rattle.library_tracer.specs.Consoles.{outcome_of};
 ghost use Rattle.library_tracer.specs.Inner.{words_in};
 ghost use Rattle.library_tracer.specs.Sentences.{answer_words, explanation_in, words_of};
@@ -13,16 +11,16 @@ ghost use Rattle.library_tracer.specs.Statuses.{fault_number, offset_in, reply_i
 
 use crate::last::Last;
 use refusal_explanations::{command_words, injection_words, sentence};
-use shared_tracer::Asked;
+use shared_mount::Asked;
 use std::alloc::{AllocError, Global};
 use trace_command::{Refusal, Reply};
 use trace_script::{Outcome, ScriptFault};
 
 /// The status of a line's first fault is above this number.
-const FAULTS: u32 = 100;
+const FAULTS: u8 = 100;
 
 /// The number of a script fault, from 1 to 8, in the order in which faults are looked for.
-fn fault_number(fault: ScriptFault) -> u32
+fn fault_number(fault: ScriptFault) -> u8
     ensures { result ≡ fault_number fault }
 {
     match fault {
@@ -38,20 +36,19 @@ fn fault_number(fault: ScriptFault) -> u32
 }
 
 /// The status of an outcome: 0 if it was done, a refusal's number from 1 to 24, and for a fault 101 to 108.
-pub(crate) fn status_of(outcome: &Outcome) -> u32
+pub(crate) fn status_of(outcome: &Outcome) -> u8
     ensures { result ≡ status_of outcome.now }
 {
     match outcome {
         Outcome::Replied(_) => 0,
-        Outcome::Refused(refusal) => u32::from(refusal.number()),
+        Outcome::Refused(refusal) => refusal.number(),
         Outcome::Fault(fault) => FAULTS + fault_number(*fault),
     }
 }
 
 /// What is wrong with what was asked and refused so.
-#[tactic(auto, using(crate::proofs::WordLemmas::values_words))]
 fn asked_words(asked: &Asked<'_>, refusal: &Refusal) -> &'static str
-    ensures { (entries : List Entry) → result.now ≡ command_words (command_after entries asked.now) refusal.now }
+    ensures { result.now ≡ words_asked asked.now refusal.now }
 {
     match asked {
         Asked::Command(command) => command_words(command, refusal),
@@ -61,9 +58,9 @@ fn asked_words(asked: &Asked<'_>, refusal: &Refusal) -> &'static str
 
 /// Keeps an answer to what was asked, and tells its status.
 #[inline(always)]
-pub(crate) fn keep(last: &mut Last, asked: &Asked<'_>, answer: Result<Reply, Refusal>) -> u32
+pub(crate) fn keep(last: &mut Last, asked: &Asked<'_>, answer: Result<Reply, Refusal>) -> u8
     ensures kept { last.new.outcome ≡ outcome_of answer }
-    ensures words { (entries : List Entry) → words_in last.new ≡ answer_words (command_after entries asked.now) answer }
+    ensures words { words_in last.new ≡ answer_words (words_asked asked.now) answer }
     ensures status { result ≡ status_of last.new.outcome }
 {
     match answer {
@@ -79,7 +76,7 @@ pub(crate) fn keep(last: &mut Last, asked: &Asked<'_>, answer: Result<Reply, Ref
 /// Keeps that a call was done. After another such call, as most are, there is nothing to write.
 #[inline(always)]
 #[tactic(auto, using(crate::proofs::WordLemmas::no_words))]
-fn keep_done(last: &mut Last) -> u32
+fn keep_done(last: &mut Last) -> u8
     ensures kept { last.new.outcome ≡ outcomes.Replied replies.Done }
     ensures words { words_in last.new ≡ [] }
     ensures status { result ≡ 0 }
@@ -91,7 +88,7 @@ fn keep_done(last: &mut Last) -> u32
 }
 
 /// Keeps what a call came to, with these words, and tells its status.
-pub(crate) fn tell(last: &mut Last, outcome: Outcome, words: &'static str) -> u32
+pub(crate) fn tell(last: &mut Last, outcome: Outcome, words: &'static str) -> u8
     ensures kept { last.new.outcome ≡ outcome }
     ensures words { words_in last.new ≡ words_of outcome words.now }
     ensures status { result ≡ status_of outcome }

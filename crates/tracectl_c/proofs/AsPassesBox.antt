@@ -12,7 +12,11 @@ use Rattle.tracectl_c.specs.contracts.parts.Parts as Parts
 use Rattle.tracectl_c.specs.contracts.sealed_passes.SealedPasses as Sealed
 
 abbrev pub E : Bx
-E = record { row = Passes.the_row; laws = passes.the_row_laws; al = record { row = Heap.the_row; laws = heap.the_row_laws; g = ghosts; d = dict; drops = impl [] tnil dnil } }
+E = record {
+  row = Passes.the_row;
+  laws = passes.the_row_laws;
+  al = record { row = Heap.the_row; laws = heap.the_row_laws; g = ghosts; d = dict; drops = impl [] tnil dnil };
+}
 
 abbrev pub FromParts : Slot 0
 FromParts = plain (λ _. Parts.the_row Passes.the_row Heap.the_row ghosts)

@@ -1,4 +1,4 @@
--- What is left of a string from a place on.
+-- What is left of a string without its first bytes.
 use Rattle.std.proofs.Common.{◌≡◌, ◌<◌, ℕ, List, [], length, drop, arith}
 use Rattle.std.proofs.lemmas.List.{drop_all}
 

@@ -18,7 +18,7 @@ by_test h false e = refl
 pub is_joined : (h : ThreadHandle) → is_some (console_of h) ≡ (h.state == JOINED)
 is_joined h = by_test h (h.state == JOINED) refl
 
--- the handle of one that has joined has the console behind its pointer
+-- the handle of one that has joined has the console that it points to
 pub open_console : (h : ThreadHandle) → h.state == JOINED ≡ true → console_of h ≡ h.sealed.console
 open_console h e = ap (λ (t : Bool). if t then h.sealed.console else None) e
 
@@ -26,7 +26,7 @@ open_console h e = ap (λ (t : Bool). if t then h.sealed.console else None) e
 pub no_console : (h : ThreadHandle) → h.state == JOINED ≡ false → console_of h ≡ None
 no_console h e = ap (λ (t : Bool). if t then h.sealed.console else None) e
 
--- the pointer of one that has joined has a console behind it
+-- that of one that has joined points to a console
 pub has_console : (h : ThreadHandle) → h.state == JOINED ≡ true → is_some h.sealed.console ≡ true
 has_console h e = is_there h.sealed.console (h.fits (eqb-true h.state JOINED e))
 

@@ -13,7 +13,7 @@ by_test h false e = refl
 pub is_open : (h : TracerHandle) → is_some (passes_of h) ≡ (h.state == OPEN)
 is_open h = by_test h (h.state == OPEN) refl
 
--- an open handle has the passes behind its pointer
+-- an open handle has the passes that it points to
 pub open_passes : (h : TracerHandle) → h.state == OPEN ≡ true → passes_of h ≡ h.sealed.passes
 open_passes h e = ap (λ (t : Bool). if t then h.sealed.passes else None) e
 

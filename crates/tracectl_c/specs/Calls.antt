@@ -1,5 +1,6 @@
 -- What one try of a call leaves of a handle, and its status.
-use Rattle.std.specs.Prelude.{◌≡◌, ◌⊎◌, ◌^◌, ◌-◌, ◌==◌, if◌then◌else◌, max, min, not, take, drop, ◌++◌, ℕ, ℤ, pos, neg_ℤ, Bool, true, false, List, [], length, codes, Option, Some, None, Result, Ok, Err}
+use Rattle.std.specs.Prelude.{◌≡◌, ◌⊎◌, ◌^◌, ◌+◌, ◌-◌, ◌==◌, if◌then◌else◌, max, min, not, ℕ, ℤ, pos, neg_ℤ, Bool, true, false}
+use Rattle.std.specs.Prelude.{List, [], take, drop, ◌++◌, length, codes, Option, Some, None, Result, Ok, Err}
 use Rattle.trace_command.specs.Refusals.{number_of}
 use Rattle.trace_command.specs.declared.command.CommandOf.TheVariants.{Write}
 use Rattle.trace_command.specs.declared.command.Config.{Config}
@@ -8,7 +9,10 @@ use Rattle.trace_command.specs.declared.refusal.Refusal.TheVariants.{BadValue}
 use Rattle.trace_format.specs.declared.field_value.FieldValue.{FieldValue}
 use Rattle.tracer.specs.Lives.{most_done}
 use Rattle.trace_script.specs.declared.outcome.Outcome.TheVariants.{Refused}
-use Rattle.library_tracer.specs.Consoles.{Comes, HasLeft, IsBusy, IsWornOut, LacksMemory, Looks, Said, Tells, TellsWaiting, said_values, says}
+use Rattle.mount_replies.specs.declared.mount.Owners.{Owners}
+use Rattle.shared_mount.specs.declared.served.Served.{Served}
+use Rattle.shared_mount.specs.declared.served.Served.TheVariants.{Done, NotNow}
+use Rattle.library_tracer.specs.Consoles.{Comes, HasLeft, IsBusy, IsWornOut, LacksMemory, Looks, Said, ServesOnce, Tells, TellsWaiting, said_values, says}
 use Rattle.library_tracer.specs.ConsolesSeen.{ConsoleSeen, Known}
 use Rattle.library_tracer.specs.Masks.{IsMaskOf, Masks}
 use Rattle.library_tracer.specs.PassesSeen.{HasBack, HasTaken, NoneIsThere, PassesSeen}
@@ -17,7 +21,7 @@ use Rattle.library_tracer.specs.Statuses.{offset_in, reply_in}
 use Rattle.library_tracer.specs.declared.console.Tried.{Tried}
 use Rattle.library_tracer.specs.declared.console.Tried.TheVariants.{Told, Busy}
 use Rattle.library_tracer.specs.declared.mask.Mask.{Mask}
-use Rattle.tracectl_c.specs.declared.Settings.{Settings}
+use Rattle.tracectl_c.specs.declared.settings.Settings.{Settings}
 
 -- what a contract sees of passes
 abbrev pub Passes : Type 0
@@ -25,19 +29,28 @@ Passes = Option PassesSeen
 
 -- ---- settings
 
--- how many commands are done at most: 2^60 where the limit is 0
+-- the limit of calls: once so many commands were done, by calls or requests of a mount, a call does no more. 2^60 where it is 0.
 abbrev pub limit_of : Settings → ℕ
 limit_of s = if s.history_limit == 0 then most_done else s.history_limit
 
--- what the tracer is made with. It heeds no limit of its own, but a configuration has one, from 1 on.
+-- whose the files of its mount are
+abbrev pub owners_of : Settings → Owners
+owners_of s = record { uid = s.uid; gid = s.gid; mode = s.mode }
+
+-- the configuration. Its own limit is one of histories, which a tracer that keeps none does not heed, but it has to be at least 1.
 abbrev pub config_of : Settings → Config
 config_of s = record { cpus = s.cpus; pages = s.pages; page_bytes = s.page_bytes; history_limit = max 1 s.history_limit }
 
 -- ---- one try
 
+-- what is added to the status of a call after which something is owed to the mount
+abbrev pub owes_bit : Bool → ℕ
+owes_bit true = 2 ^ 31
+owes_bit false = 0
+
 -- 202 while somebody else has a turn
 abbrev pub status_tried : Tried → ℕ
-status_tried (Told status) = status
+status_tried (Told status owes) = status + owes_bit owes
 status_tried Busy = 202
 
 -- what one try may do to a console, in the words of library_tracer
@@ -150,16 +163,60 @@ TriesWanted (Some before) None was now status = ⊥
 TriesWanted (Some before) (Some after) was now status = (told : Option (Result Mask Refusal))
     × Looks IsMaskOf before after told × (status ≡ status_of_mask told) × (now ≡ mask_told told was)
 
+-- ---- the mount
+
+-- room whose first bytes are those of a text, as many as there is room for; the rest of it stays
+abbrev pub filled : List ℕ → List ℕ → List ℕ
+filled text room = take (min (length text) (length room)) text ++ drop (min (length text) (length room)) room
+
+-- the status of a try that serves: 0 if it was done, 216 if something is owed that is to be told before, or there is nothing to tell, 202 while somebody
+-- else has a turn
+abbrev pub status_served : Option (Result Served Refusal) → ℕ
+status_served None = 202
+status_served (Some (Ok (Done owes))) = 0
+status_served (Some (Ok NotNow)) = 216
+status_served (Some (Err refusal)) = number_of refusal
+
+-- 1 if something is owed after it, and 0 if nothing is, or it was not done
+abbrev pub owes_after : Option (Result Served Refusal) → ℕ
+owes_after (Some (Ok (Done true))) = 1
+owes_after _ = 0
+
+-- What is told of it: its status, whether something is owed, the length of the reply, and as much of it as there is room for.
+pub record IsToldServed (tried : Option (Result Served Refusal)) (bytes was now : List ℕ) (count owes status : ℕ) : Type 0 where
+  pub status_is : status ≡ status_served tried
+  pub owes_is : owes ≡ owes_after tried
+  pub count_is : count ≡ length bytes
+  pub reply_is : now ≡ filled bytes was
+
+-- Nothing was tried, and this is the status: no reply is told.
+pub record IsNotTried (was now : List ℕ) (count owes this status : ℕ) : Type 0 where
+  pub status_is : status ≡ this
+  pub owes_none : owes ≡ 0
+  pub count_none : count ≡ 0
+  pub reply_same : now ≡ was
+
+-- One try that serves a request of some bytes, unless something is owed; or, with no bytes, that tells something that is owed, unless nothing is. 203 of a
+-- thread that has not joined, and 23 where memory for the reply is refused: nothing changes.
+abbrev pub TriesServing : List ℕ → Bool → Option ConsoleSeen → Option ConsoleSeen → List ℕ → List ℕ → ℕ → ℕ → ℕ → Type 0
+TriesServing asked owed None after was now count owes status = (after ≡ None) × IsNotTried was now count owes 203 status
+TriesServing asked owed (Some before) None was now count owes status = ⊥
+TriesServing asked owed (Some before) (Some after) was now count owes status =
+    ((after ≡ before) × IsNotTried was now count owes 23 status)
+    ⊎ ((bytes : List ℕ) × (tried : Option (Result Served Refusal)) × ServesOnce asked bytes owed before after tried
+    × IsToldServed tried bytes was now count owes status)
+
+-- the status where a request without bytes is to be served: 4, or 203 of a thread that has not joined
+abbrev pub status_of_empty : Option ConsoleSeen → ℕ
+status_of_empty None = 203
+status_of_empty (Some console) = 4
+
 -- ---- the last outcome
 
 -- the reply, and the offset; the greatest number where there is none
 abbrev pub reply_read : Option ConsoleSeen → List ℕ
 reply_read None = []
 reply_read (Some console) = reply_in console.last
-
--- room with as much of a text in front as it can have
-abbrev pub filled : List ℕ → List ℕ → List ℕ
-filled text room = take (min (length text) (length room)) text ++ drop (min (length text) (length room)) room
 
 abbrev pub or_greatest : Option ℕ → ℕ
 or_greatest None = 2 ^ 64 - 1

@@ -1,4 +1,4 @@
--- A thread's handle as the console behind it, if there is one, and a tracer's as its passes.
+-- A thread's handle as the console that it points to, if there is one, and a tracer's as its passes.
 use Rattle.std.specs.Prelude.{◌==◌, if◌then◌else◌, Option, None}
 use Rattle.tracectl_c.specs.declared.thread_handle.ThreadHandle.{ThreadHandle}
 use Rattle.tracectl_c.specs.declared.thread_handle.TheConstants.{JOINED}

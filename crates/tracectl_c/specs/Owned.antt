@@ -1,4 +1,4 @@
--- What a thread's handle owns of the console behind it.
+-- What a thread's handle owns of the console that it points to.
 use Rattle.std.specs.Prelude.{Bool, false, Option, Some, None, is_some}
 use base.Fml.{Fml, ftrue}
 use Rattle.std.specs.Coded.{coded_option}
@@ -18,7 +18,7 @@ abbrev pub has_caller : Option Seen → Bool
 has_caller None = false
 has_caller (Some console) = is_some console.has
 
--- nothing; or a console at this place, with the right to free its block
+-- nothing; or a console at this address, with the right to free its block
 abbrev pub sealed_owns : Global → Ptr → Option the_row.Denot → Fml
 sealed_owns alloc at None = ftrue
 sealed_owns alloc at (Some console) = box_owns (ghosts.dealloc_token alloc) the_row at console

@@ -1,4 +1,4 @@
--- What a tracer's handle owns of the passes behind it.
+-- What a tracer's handle owns of the passes that it points to.
 use Rattle.std.specs.Prelude.{Option, Some, None}
 use base.Fml.{Fml, ftrue}
 use Rattle.std.specs.Coded.{coded_option}
@@ -13,7 +13,7 @@ use Rattle.library_tracer.specs.contracts.passes.Passes.{the_row}
 abbrev pub Seen : Type 0
 Seen = the_row.Denot
 
--- nothing; or passes at this place, with the right to free its block
+-- nothing; or passes at this address, with the right to free its block
 abbrev pub sealed_owns : Global → Ptr → Option the_row.Denot → Fml
 sealed_owns alloc at None = ftrue
 sealed_owns alloc at (Some passes) = box_owns (ghosts.dealloc_token alloc) the_row at passes

@@ -9,7 +9,7 @@ use crate::sealed_console::SealedConsole;
 /// The `state` of a handle whose thread has joined. Memory that is no handle hardly ever has it.
 pub(crate) const JOINED: u64 = 0x7472_6163_6563_746a;
 
-/// A console behind a pointer, whose caller is there, or none. A handle of zeros has none.
+/// A pointer to a console, whose caller is there, or none. A handle of zeros has none.
 #[repr(C)]
 #[derive(Drop)]
 pub struct ThreadHandle {

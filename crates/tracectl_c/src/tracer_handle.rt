@@ -8,7 +8,7 @@ use crate::sealed_passes::SealedPasses;
 /// The `state` of a handle that is open. Memory that is no handle hardly ever has it.
 pub(crate) const OPEN: u64 = 0x7472_6163_6563_746c;
 
-/// The passes of a tracer behind a pointer, or none. A handle of zeros is closed.
+/// A pointer to the passes of a tracer, or none. A handle of zeros is closed.
 #[repr(C)]
 #[derive(Drop)]
 pub struct TracerHandle {

@@ -1,5 +1,4 @@
 use Rattle.std.proofs.Common.{◌-◌, ◌^◌, ◌++◌, [], ◌∷◌, Some, ap, subst, ◌∙◌, arith}
-use Rattle.shared_tracer.specs.CallLogs.{calls_below, calls_from}
 use Rattle.library_tracer.specs.Tiled.{AreParts}
 use Rattle.library_tracer.proofs.TileLemmas.{appended, falls, one_part, twice, lower_end, upper_low, upper_end, parts_append, fresh_append}
 use Rattle.library_tracer.proofs.passes.+split_evenly.Goals as goal
@@ -9,7 +8,7 @@ returns-then-times-eq0-clause-added m c = (
   Some c.args.caller ∷ [],
   c.push_reserved.ensures.items,
   one_part c.args.tracer.now c.args.caller c.args.times c.if-times-eq0.true c.requires.of c.requires.names,
-  (c.requires.fresh.0, c.requires.fresh.1, tt),
+  (c.requires.fresh, tt),
 )
 
 pub returns-then-times-eq0-clause-len : goal.returns-then-times-eq0-clause-len
@@ -29,7 +28,7 @@ split_evenly-requires m c =
         c.in-Ok.ensures.of.0,
         (
           lower_end _ _ _ c.args.times other halves c.requires.names,
-          ((halves.seen.0 ∙ c.requires.fresh.0, c.in-Ok.ensures.calls.0 ∙ ap (calls_below _) c.requires.fresh.1), omega (arith, two, room)),
+          (halves.seen.0 ∙ c.requires.fresh, omega (arith, two, room)),
         ),
       ),
     )
@@ -48,7 +47,7 @@ split_evenly-requires-in-Ok m c =
         c.in-Ok.ensures.of.1,
         (
           upper_end _ _ _ c.args.times other halves c.requires.names,
-          ((halves.seen.1 ∙ c.requires.fresh.0, c.in-Ok.ensures.calls.1 ∙ ap (calls_from _) c.requires.fresh.1), omega (arith, two, room, len, capacity)),
+          (halves.seen.1 ∙ c.requires.fresh, omega (arith, two, room, len, capacity)),
         ),
       ),
     )

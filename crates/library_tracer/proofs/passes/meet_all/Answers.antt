@@ -1,12 +1,12 @@
 use Rattle.std.proofs.Common.{◌≡◌, refl, sym, subst, ◌∙◌}
-use Rattle.library_tracer.specs.Tiled.{AreParts, calls_of_rest}
+use Rattle.library_tracer.specs.Tiled.{AreParts}
 use Rattle.library_tracer.proofs.TileLemmas.{all_met, first_one, goes_on, meets, next_tile, none_missing}
 use Rattle.library_tracer.proofs.passes.meet_all.Goals as goal
 
 pub loop-caller-init : goal.loop-caller-init
 loop-caller-init c =
-    let made = calls_of_rest c.args.callers.items in
-    subst (λ xs. AreParts c.args.tracer.now 0 1024 xs × (calls_of_rest xs ≡ made)) (sym c.into_iter-caller-iterator.ensures.into_iter_gives.0) (c.requires, refl)
+    let every = c.args.callers.items in
+    subst (λ xs. AreParts c.args.tracer.now 0 1024 xs × (every ≡ xs)) (sym c.into_iter-caller-iterator.ensures.into_iter_gives.0) (c.requires, refl)
 
 pub meet-requires-clause-first : goal.meet-requires-clause-first
 meet-requires-clause-first c =
@@ -23,7 +23,7 @@ meet-requires-clause-adjacent c =
 pub loop-caller-preserved-in-Some-Some : goal.loop-caller-preserved-in-Some-Some
 loop-caller-preserved-in-Some-Some c =
     goes_on _ _ _ _ _ _ (meets c.args.tracer.now _ _ _ _ _ _ _ c.in-Some.ensures.steps.0 c.in-Some-Some.is-0 c.in-Some-Some.is-1 c.loop-caller.invariant)
-    c.meet.ensures.of c.meet.ensures.met.low c.meet.ensures.met.end c.meet.ensures.calls
+    c.meet.ensures.of c.meet.ensures.met
 
 pub loop-caller-preserved-in_default-None : goal.loop-caller-preserved-in_default-None
 loop-caller-preserved-in_default-None c =

@@ -1,5 +1,5 @@
-use Rattle.library_tracer.specs.Tiled.{calls_of_rest, IsMeeting}
+use Rattle.library_tracer.specs.Tiled.{IsMeeting}
 use Rattle.library_tracer.proofs.passes.meet_all.Given as goal
 
 abbrev pub invariant-loop-caller : goal.invariant-loop-caller
-invariant-loop-caller l = IsMeeting l.tracer (calls_of_rest l.fn.callers.items) l.met l.caller-iterator.rest.items
+invariant-loop-caller l = IsMeeting l.tracer l.fn.callers.items l.met l.caller-iterator.rest.items

@@ -2,4 +2,4 @@ use Rattle.std.proofs.Common.{◌∙◌}
 use Rattle.library_tracer.proofs.status.keep.Goals as goal
 
 pub returns-in-Err-clause-words : goal.returns-in-Err-clause-words
-returns-in-Err-clause-words c entries = rw c.in-Err.is (c.tell-in-Err.ensures.words ∙ c.asked_words-words.ensures entries)
+returns-in-Err-clause-words c = rw c.in-Err.is (c.tell-in-Err.ensures.words ∙ c.asked_words-words.ensures)

@@ -1,51 +1,41 @@
-use Rattle.std.proofs.Common.{refl, sym, ◌∙◌}
-use Rattle.shared_tracer.specs.AskedCommands.{command_after}
-use Rattle.shared_tracer.specs.SharedCallers.{caller_view}
-use Rattle.library_tracer.proofs.ConsoleLemmas.{idle_answered, idle_busy, idle_saw, saw_nothing, was_worn}
+use Rattle.std.proofs.Common.{inl, inr, refl, sym, ◌∙◌}
+use Rattle.shared_mount.specs.AskedRequests.{request_after}
+use Rattle.library_tracer.specs.AskedWords.{words_asked}
+use Rattle.library_tracer.proofs.ConsoleLemmas.{idle_answered, idle_busy, saw, too_late}
 use Rattle.library_tracer.proofs.console.Console.ask.Goals as goal
 
-pub returns-in-None-answer-clause-comes : goal.returns-in-None-answer-clause-comes
-returns-in-None-answer-clause-comes g c =
-    let still = rw c.in-None-answer.is at c.try_ask-caller.ensures.busy in
-    rw (← c.self.view_is, c.settle.ensures) (idle_busy c.self.inside c.in-Some.caller c.try_ask-caller.result.0 (sym c.replace.ensures.value ∙ c.in-Some.is)
-    c.self.invariant still.0 still.1)
+pub returns-in-Err-Busy-clause-comes : goal.returns-in-Err-Busy-clause-comes
+returns-in-Err-Busy-clause-comes g c =
+    rw (← c.self.view_is, c.settle-in-Err-Busy.ensures) (idle_busy c.self.inside c.in-Some.caller c.in-Err-Busy.caller (sym c.replace.ensures.value ∙ c.in-Some.is)
+    c.self.invariant (rw c.in-Err-Busy.field-0-is at c.in-Err-Busy.ensures.failed))
 
-pub returns-in-None-answer-clause-looked : goal.returns-in-None-answer-clause-looked
-returns-in-None-answer-clause-looked g c =
-    saw_nothing _ c.try_ask-caller.result.1 c.try_ask-caller.result.2 _ c.in-None-answer.is c.try_ask-caller.ensures.looked
+pub returns-in-Err-Worn-clause-comes : goal.returns-in-Err-Worn-clause-comes
+returns-in-Err-Worn-clause-comes g c = (
+  inr (
+    rw (← c.self.view_is, c.settle-in-Err-Worn.ensures) (too_late c.self.inside c.in-Some.caller c.in-Err-Worn.caller c.keep-status-in-Err-Worn.new.last
+        (words_asked c.args.asked.now) (sym c.replace.ensures.value ∙ c.in-Some.is) c.self.invariant
+        (c.keep-status-in-Err-Worn.ensures.kept, c.keep-status-in-Err-Worn.ensures.words) (rw c.in-Err-Worn.field-0-is at c.in-Err-Worn.ensures.failed)),
+    refl,
+  ),
+  c.keep-status-in-Err-Worn.ensures.status,
+)
 
-pub returns-in-Some-answer-clause-comes : goal.returns-in-Some-answer-clause-comes
-returns-in-Some-answer-clause-comes g c =
-    let says = c.try_ask-caller.ensures in
-    let is = c.in-Some-answer.is in (
-      (
-        c.in-Some-answer.answer,
-        rw (← c.self.view_is, c.settle.ensures) (idle_answered c.self.inside c.in-Some.caller c.try_ask-caller.result.0 c.keep.new.last
-            (λ entries. command_after entries c.args.asked.now) c.in-Some-answer.answer
-            (sym c.replace.ensures.value ∙ c.in-Some.is) c.self.invariant (c.keep.ensures.kept, c.keep.ensures.words (caller_view c.try_ask-caller.result.0).seen) (record {
-              goes_on = rw is at says.goes_on;
-              done = rw is at says.done;
-              refused = rw is at says.refused;
-              legal = rw (is, c.deref.ensures) at says.legal;
-              takes_none = rw (is, c.deref.ensures) at says.takes_none;
-              made = rw is at says.made;
-            })),
-      ),
-      c.keep.ensures.status,
-    )
+pub returns-in-Ok-clause-comes : goal.returns-in-Ok-clause-comes
+returns-in-Ok-clause-comes g c = (
+  inl (
+    c.in-Ok.answer,
+    rw (← c.self.view_is, c.settle.ensures) (idle_answered c.self.inside c.in-Some.caller c.in-Ok.caller c.keep-status.new.last
+        (λ entries. request_after entries c.args.asked.now) (words_asked c.args.asked.now) c.in-Ok.answer c.in-Ok.owes
+        (sym c.replace.ensures.value ∙ c.in-Some.is) c.self.invariant (c.keep-status.ensures.kept, c.keep-status.ensures.words)
+        (rw c.deref.ensures at c.in-Ok.ensures.called)),
+  ),
+  c.keep-status.ensures.status,
+)
 
-pub returns-in-Some-answer-clause-looked : goal.returns-in-Some-answer-clause-looked
-returns-in-Some-answer-clause-looked g c =
-    rw (← c.self.view_is, c.settle.ensures) (idle_saw c.self.inside c.try_ask-caller.result.0 c.keep.new.last (g.L.Look.tells c.args.look.now) c.try_ask-caller.result.1
-    c.try_ask-caller.result.2 c.keep.result (rw c.deref.ensures at c.try_ask-caller.ensures.looked))
+pub returns-in-Ok-clause-looked : goal.returns-in-Ok-clause-looked
+returns-in-Ok-clause-looked g c =
+    rw (← c.self.view_is, c.settle.ensures) (saw c.self.inside c.in-Ok.caller c.self.inside.queued c.keep-status.new.last (g.L.Look.tells c.args.look.now) c.in-Ok.told
+    c.keep-status.result c.in-Ok.owes (rw c.deref.ensures at c.in-Ok.ensures.looked))
 
-pub returns-in-Some-answer-clause-unlooked : goal.returns-in-Some-answer-clause-unlooked
-returns-in-Some-answer-clause-unlooked g c =
-    was_worn c.try_ask-caller.result.1 c.in-Some-answer.answer c.try_ask-caller.result.2 _ _ c.in-Some-answer.is c.keep.ensures.kept
-    c.try_ask-caller.ensures.unlooked
-
-pub returns-in-Some-answer-clause-has : goal.returns-in-Some-answer-clause-has
-returns-in-Some-answer-clause-has g c = rw c.settle.ensures refl
-
-pub returns-in-None-answer-clause-has : goal.returns-in-None-answer-clause-has
-returns-in-None-answer-clause-has g c = rw c.settle.ensures refl
+pub returns-in-Err-Worn-clause-unlooked : goal.returns-in-Err-Worn-clause-unlooked
+returns-in-Err-Worn-clause-unlooked g c = inr c.keep-status-in-Err-Worn.ensures.kept

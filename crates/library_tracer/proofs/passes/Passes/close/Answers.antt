@@ -1,7 +1,7 @@
 use Rattle.std.proofs.Common.{ap, sym, subst, ◌∙◌}
-use Rattle.shared_tracer.specs.SharedCallers.{config_of}
-use Rattle.shared_tracer.specs.SharedHistories.{IsOneHistory}
-use Rattle.library_tracer.specs.Tiled.{calls_of_rest, AreParts}
+use Rattle.shared_mount.specs.MountCallers.{terms_of}
+use Rattle.shared_mount.specs.MountHistories.{IsOneHistory}
+use Rattle.library_tracer.specs.Tiled.{AreParts, ContinuesEach}
 use Rattle.library_tracer.proofs.PassLemmas.{are_parts, closed_of, view}
 use Rattle.library_tracer.proofs.passes.Passes.close.Goals as goal
 
@@ -17,7 +17,7 @@ pub returns-in-Ok-clause-closed : goal.returns-in-Ok-clause-closed
 returns-in-Ok-clause-closed c = λ _.
     let p = c.self.inside in
     let history = c.end.ensures.0 in
-    let one = subst (λ v. IsOneHistory (config_of c.in-Ok.tracer) history (calls_of_rest v.items)) c.replace-in-Ok.ensures.value c.end.ensures.1 in
-    let here = subst (λ s. IsOneHistory (config_of s) history (calls_of_rest p.callers.items)) c.in-Ok.ensures.ok one in
+    let each = subst (λ v. ContinuesEach history 0 v.items) c.replace-in-Ok.ensures.value c.end.ensures.2 in
+    let here = subst (λ s. IsOneHistory (terms_of s) history) c.in-Ok.ensures.ok c.end.ensures.1 in
     closed_of p.tracer c.in-Some.tracer p.callers.items _ _ history (sym c.replace.ensures.value ∙ c.in-Some.is) c.self.view_is
-    (c.is_whole.ensures.0 c.if-not-is_whole.false) here (ap (λ t. view t c.replace-in-Ok.new.dest.items) c.replace.ensures.after)
+    (c.is_whole.ensures.0 c.if-not-is_whole.false) here each (ap (λ t. view t c.replace-in-Ok.new.dest.items) c.replace.ensures.after)

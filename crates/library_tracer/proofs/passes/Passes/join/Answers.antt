@@ -1,6 +1,6 @@
 use Rattle.std.proofs.Common.{slice_set, Some, None, IfOk, refl, sym, ap, subst, ◌∙◌}
 use Rattle.std.proofs.lemmas.Option.{slice_get_read}
-use Rattle.shared_tracer.specs.SharedCallers.{IsCallerOf}
+use Rattle.shared_mount.specs.MountCallers.{IsCallerOf}
 use Rattle.library_tracer.specs.PassesSeen.{HasTaken}
 use Rattle.library_tracer.specs.Tiled.{IsFirstThere}
 use Rattle.library_tracer.proofs.PassLemmas.{is_its, none_seen, new_console, ok_with, some_seen, sound_without, taken_of, view}

@@ -1,2 +1,0 @@
--- Words of private functions and of proofs: no public clause cites them.
-pub mod TurnsOfCallers
