@@ -269,9 +269,10 @@ def runs_python(place):
     """Python keeps what it compiles beside the modules, which goes with them. The package names the library of the prefix."""
     got = place.do("python3", "-c", "from tracectl.installed import LIBRARY; print(LIBRARY)")
     found = differences(got, Outcome(0, b"%s/lib/libtracectl.so.0\n" % str(place.prefix).encode(), b""))
-    for script in sorted((place.elsewhere / "python").glob("*.py")):
+    for stdout in sorted((place.elsewhere / "python").glob("*.stdout")):
+        script = stdout.with_suffix(".py")
         got = place.do("python3", script)
-        found += ["%s: %s" % (script.name, difference) for difference in differences(got, Outcome(0, script.with_suffix(".stdout").read_bytes(), b""))]
+        found += ["%s: %s" % (script.name, difference) for difference in differences(got, Outcome(0, stdout.read_bytes(), b""))]
     return found + ([] if any("tracectl/__pycache__/tracer." in name for name in tree_of(place.prefix)) else ["nothing is kept"])
 
 

@@ -19,6 +19,7 @@ LIBRARY = TOP / "crates" / "tracectl_c" / "out" / "libtracectl_c.a"
 CASES = TOP / "tests" / "library_cases"
 EXAMPLES = TOP / "examples" / "python"
 PACKAGE = TOP / "python"
+PARTS_IN_C = ("tracectl", "tracectl_mount", "tracectl_serve")
 OPTIONS = {"--cpus": "cpus", "--pages": "pages", "--page-bytes": "page_bytes"}
 
 
@@ -37,7 +38,7 @@ def built():
     subprocess.run([str(TOP / "examples" / "c" / "build"), str(folder)], check=True)
     heap = Path(subprocess.run(["rt", "doc"], stdout=subprocess.PIPE, check=True).stdout.decode().strip()).parent / "c" / "liblibc_c.a"
     wrapped = {"memory": ["-Wl,--wrap=malloc,--wrap=realloc,--wrap=free"], "refused": ["-Wl,--wrap=malloc"]}
-    for name in ("memory", "limits", "values", "refused", "explained", "threads", "wanted"):
+    for name in ("memory", "limits", "values", "refused", "explained", "threads", "wanted", "requests"):
         words = wrapped.get(name, []) + ["-I", LIBRARY.parent.parent, "-o", folder / name, CASES / (name + ".c"), folder / "libtracectl_c.a", heap, "-pthread"]
         subprocess.run([os.environ.get("CC", "cc")] + [str(word) for word in words], check=True)
     build_in_cpp(folder, heap)
@@ -59,14 +60,14 @@ def built_with_sanitizer(folder, heap):
     nothing. There are none where the compiler has no sanitizer."""
     compiler, archive, proved = os.environ.get("CC", "cc"), folder / "proved.a", folder / "libproved.so"
     shutil.copy(str(folder / "libtracectl_c.a"), str(archive))
-    subprocess.run(["ar", "d", str(archive), "tracectl.o"], check=True)
+    subprocess.run(["ar", "d", str(archive), *[part + ".o" for part in PARTS_IN_C]], check=True)
     words = [compiler, "-shared", "-o", proved, "-Wl,--whole-archive", archive, "-Wl,--no-whole-archive", heap]
     subprocess.run([str(word) for word in words], check=True)
     programs = {}
-    for name, flags in {"threads": ["-DEMISSIONS=5000", "-DCOMING=2000"], "wanted": ["-DSWITCHES=12500"]}.items():
+    for name, flags in {"threads": ["-DEMISSIONS=5000", "-DCOMING=2000"], "wanted": ["-DSWITCHES=12500"], "requests": ["-DREQUESTS=2000"]}.items():
         programs[name] = folder / (name + "_sanitized")
         words = [compiler, "-fsanitize=thread", "-g", "-O1", *flags, "-I", LIBRARY.parent.parent, "-o", programs[name]]
-        words += [CASES / (name + ".c"), LIBRARY.parent.parent / "tracectl.c", proved, "-Wl,-rpath," + str(folder), "-pthread"]
+        words += [CASES / (name + ".c"), *[LIBRARY.parent.parent / (part + ".c") for part in PARTS_IN_C], proved, "-Wl,-rpath," + str(folder), "-pthread"]
         if subprocess.run([str(word) for word in words], stderr=subprocess.DEVNULL).returncode:
             print("skipped: ThreadSanitizer, which %s does not have" % compiler, flush=True)
             return {}
@@ -199,7 +200,7 @@ SERVED = re.compile(
 
 def served(program):
     """What is wrong with what examples/c/server.c prints of 300 requests. Which of them are slow a clock decides."""
-    got = run([program, "300"])
+    got = run([program, "-", "300"])
     found = SERVED.fullmatch(got.stdout)
     if got.status or got.stderr or not found or int(found[3]) < 5_000:
         return ["%s %s %s" % (got.status, quoted(got.stdout), quoted(got.stderr))]
@@ -224,8 +225,9 @@ def library_cases():
         return Tracer(library=str(folder / "libtracectl.so"), **settings)
 
     def sanitized_case(name, program):
-        """Its threads are fewer, and come and go less often, or ask less often."""
-        wanted_text = re.sub(rb"\d+ threads", b"2000 threads", (CASES / (name + ".stdout")).read_bytes())
+        """Its threads, or requests, are fewer, or ask less often."""
+        text = (CASES / (name + ".stdout")).read_bytes()
+        wanted_text = re.sub(rb"requests: \d+", b"requests: 2000", re.sub(rb"\d+ threads", b"2000 threads", text))
         command = ["env", "TSAN_OPTIONS=ignore_noninstrumented_modules=1", program]
         return Case("tests/library_cases/%s.c under ThreadSanitizer" % name, lambda _: differences(run(command), Outcome(0, wanted_text, b"")))
 
@@ -249,12 +251,14 @@ def library_cases():
         example_case("tests/library_cases/explained.c", [folder / "explained"], folder, CASES / "explained.stdout"),
         example_case("tests/library_cases/threads.c", [folder / "threads"], folder, CASES / "threads.stdout"),
         example_case("tests/library_cases/wanted.c", [folder / "wanted"], folder, CASES / "wanted.stdout"),
+        example_case("tests/library_cases/requests.c", [folder / "requests"], folder, CASES / "requests.stdout"),
         example_case("examples/c/four_threads.c", [folder / "four_threads"], folder, TOP / "examples" / "c" / "four_threads.stdout"),
         example_case("examples/c/switched.c", [folder / "switched"], folder, TOP / "examples" / "c" / "switched.stdout"),
         Case("examples/c/server.c", lambda _: served(folder / "server")),
     ]
-    for script in sorted(EXAMPLES.glob("*.py")):
-        cases.append(example_case("examples/python/" + script.name, [sys.executable, script], folder, script.with_suffix(".stdout")))
+    for stdout in sorted(EXAMPLES.glob("*.stdout")):
+        script = stdout.with_suffix(".py")
+        cases.append(example_case("examples/python/" + script.name, [sys.executable, script], folder, stdout))
     if (folder / "wanted_in_cpp").exists():
         cases.append(example_case("tests/library_cases/wanted.c in C++", [folder / "wanted_in_cpp"], folder, CASES / "wanted.stdout"))
     cases += [sanitized_case(name, program) for name, program in sanitized.items()]

@@ -12,7 +12,7 @@ from cases.writing import rewrite
 SESSIONS = TOP / "tests" / "newcomer_sessions"
 REFUSALS = TOP / "tests" / "newcomer_refusals"
 INSTALLED = ("script", "c_program", "python_program", "durations", "installed", "words")  # need no mount
-MOUNTED = ("mount", "pictures", "report")
+MOUNTED = ("mount", "own_mount", "pictures", "report")
 LAST = "uninstalled"
 NEEDED = {"installed: manual pages": "man"}  # for a case, of which only what it shows is skipped
 WITHOUT_KIT = "examples/c/build, and there is no rt"

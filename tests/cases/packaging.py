@@ -15,6 +15,8 @@ from cases.running import TOP, Case, Outcome, differences, quoted, run, text_dif
 PACKAGE = TOP / "python"
 VERSION = re.compile(r'^const VERSION: &str = "(.*)";$', re.MULTILINE)
 COUNTED = re.compile(rb"^Ran (\d+) tests? in ", re.MULTILINE)
+SKIPPED = re.compile(r"""^.* \.\.\. skipped ['"](.*)['"]$""", re.MULTILINE)
+SECONDS = 60
 
 
 def unusable():
@@ -90,8 +92,11 @@ def tells_version(place):
 
 def own_tests(place, file):
     """One of its files of tests."""
-    got = place.do("-m", "unittest", "discover", "-s", PACKAGE / "tests", "-p", file.name)
+    got = place.do("-m", "unittest", "discover", "-v", "-s", PACKAGE / "tests", "-p", file.name)
     count = COUNTED.search(got.stderr)
+    skipped = SKIPPED.findall(got.stderr.decode(errors="backslashreplace"))
+    for reason in sorted(set(skipped)):
+        print("skipped: %d of python/tests/%s: %s" % (skipped.count(reason), file.name, reason), flush=True)
     if got.status or not count or count[1] == b"0":
         return ["exit status %d: %s" % (got.status, line) for line in got.stderr.decode(errors="backslashreplace").splitlines() or ["nothing was told"]]
     return []
@@ -119,6 +124,70 @@ def finds_library(place):
     found += differences(place.do("-c", opens, settings=[]), Outcome(0, b"%s\n" % str(beside).encode(), b""))
     beside.unlink()
     return found
+
+
+# Prints of each structure of the header its size, and where its fields are.
+LAID_OUT = """
+#include <stdio.h>
+#include "tracectl.h"
+int main(void) { %s return 0; }
+"""
+
+
+def has_structures(place):
+    """The structures of the package have the size, and the fields their places, that the C compiler gives those of tracectl.h."""
+    told = place.do("-c", DESCRIBING).stdout.decode()
+    words = re.findall(r"^(\w+) (\w+) \d+$", told, re.MULTILINE)
+    asked = ['"%s %s %%zu\\n", %s' % (kind, name, "sizeof(%s)" % kind if name == "all" else "offsetof(%s, %s)" % (kind, name)) for kind, name in words]
+    (place.room / "laid_out.c").write_text(LAID_OUT % " ".join("printf(%s);" % each for each in asked))
+    build = [os.environ.get("CC", "cc"), "-I", TOP / "crates/tracectl_c", "-o", place.room / "laid_out", place.room / "laid_out.c"]
+    found = differences(run(build), Outcome(0, b"", b"")) + ([] if len(words) > 15 else ["there are only %s" % words])
+    return found or text_differences("the structures", told.encode(), run([place.room / "laid_out"]).stdout)
+
+
+# Prints the same of the package.
+DESCRIBING = """
+import ctypes
+from tracectl.structures import Handle, Settings, Value
+for kind, structure in (("tracectl", Handle), ("tracectl_settings", Settings), ("tracectl_value", Value)):
+    print(kind, "all", ctypes.sizeof(structure))
+    for name, _ in structure._fields_:
+        print(kind, name, getattr(structure, name).offset)
+"""
+
+
+def can_mount(place):
+    folder = place.room / "probe"
+    folder.mkdir(exist_ok=True)
+    return not place.do("-c", "import sys, tracectl; tracectl.Tracer().mount(sys.argv[1])", folder).status
+
+
+def asking(script):
+    """What an example says that a shell may ask beside it. Only three records are waited for, and some requests are served before they are counted."""
+    lines = re.findall("^    (.*)$", script.read_text().split('"""')[1], re.MULTILINE)
+    text = "\n".join(["set -e", "until mountpoint -q DIR; do sleep 0.05; done", *lines]).replace("DIR", '"$1"')
+    return re.sub("(?m)^cat trace_pipe.*$", "sed 3q trace_pipe", re.sub("(?m)^cat events", "sleep 1; cat events", text))
+
+
+def mounts_example(place):
+    """examples/python/mounted.py, and beside it the shell of which it speaks."""
+    if not can_mount(place):
+        print("skipped: examples/python/mounted.py, as nothing can be mounted here", flush=True)
+        return []
+    script, folder = TOP / "examples" / "python" / "mounted.py", place.room / "mounted"
+    folder.mkdir()
+    settings = {**os.environ, "TRACECTL_LIBRARY": str(place.room / "libtracectl.so"), "PYTHONDONTWRITEBYTECODE": "1"}
+    with subprocess.Popen([str(place.python), str(script), str(folder)], env=settings, stderr=subprocess.PIPE) as server:
+        try:
+            told = run(["timeout", SECONDS, "bash", "-c", asking(script), "-", folder])
+            second = place.do(script, folder)
+        finally:
+            server.terminate()
+            said = server.communicate(timeout=SECONDS)[1]
+    words = rb"# event histogram\n(.*\n)*\{ path: /login +\} hitcount: +\d+  us: +\d+\n(.*\n)*(\d+ \[00[01]\] \d+: request: us=\d{4,} path=\S+\n){3}"
+    found = [] if told.status == 0 and re.fullmatch(words, told.stdout) else ["a shell beside it is told %s" % (told,)]
+    found += differences(second, Outcome(1, b"", b"mounted.py: FolderBusy: something else is mounted on %s (status 213)\n" % bytes(folder)))
+    return found + ([] if (server.returncode, said, os.listdir(str(folder))) == (0, b"", []) else ["it ends with %s" % ((server.returncode, said),)])
 
 
 def python_with(module):
@@ -193,6 +262,8 @@ def packaging_cases():
         case("the library by pkg-config, and beside the package", finds_library),
         case("python/README.md", does_readme),
         case("examples/python/histogram.py FILE", draws),
+        case("examples/python/mounted.py DIR", mounts_example),
+        case("the package's structures", has_structures),
         case("the package from an archive, and edited in place", installs_other_ways),
         case("the package's types", has_types),
     ]

@@ -6,8 +6,9 @@ from cases.running import TOP, Case
 
 CRATES = TOP / "crates"
 FIRST_FAULT, FIRST_OF_HANDLES = 101, 200
-OF_TRIES = {"TRY_BUSY": "BUSY"}  # a constant whose name a refusal has, too
-OF_C = ("FORKED", "IN_CALL", "OTHER_THREAD")  # which tracectl.c alone tells
+OF_TRIES = {"TRY_BUSY": "BUSY", "TRY_NOT_NOW": "NOT_NOW"}  # constants whose names are others in Rust
+OF_MOUNTS = ("NOT_MOUNTED", "ALREADY_MOUNTED", "NO_FOLDER", "FOLDER_BUSY", "NO_DEVICE", "NO_RIGHT", "LIMITED")
+OF_C = ("FORKED", "IN_CALL", "OTHER_THREAD", *OF_MOUNTS)  # which the C files alone tell
 BEYOND = 2**16
 
 
@@ -43,7 +44,7 @@ def in_rust():
     refusals = numbered(arms(path, "Refusal", r"(\d+)"), arms(path, "Refusal", r'"(\w+)"'))
     numbers, names = CRATES / "library_tracer/src/status.rt", CRATES / "trace_script/src/fault.rt"
     faults = numbered(arms(numbers, "ScriptFault", r"(\d+)"), arms(names, "ScriptFault", r'"(\w+)"'), FIRST_FAULT - 1)
-    constants = re.findall(r"^const (\w+): u32 = (2\d\d);$", (CRATES / "tracectl_c/src/lib.rt").read_text(), re.MULTILINE)
+    constants = re.findall(r"^pub\(crate\) const (\w+): u32 = (2\d\d);$", (CRATES / "tracectl_c/src/statuses.rt").read_text(), re.MULTILINE)
     return {**refusals, **faults, **{int(number): spelled(name) for name, number in constants}}
 
 

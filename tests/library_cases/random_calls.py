@@ -19,7 +19,7 @@ sys.path.insert(0, str(TOP / "python"))
 
 from drawing import NOTHING, Drawing
 from tracectl import Refused, Tracer
-from tracectl.structures import Settings
+from tracectl.structures import Handle, Settings
 
 NO_OFFSET = 2**64 - 1
 RAISED = "TypeError or ValueError"
@@ -40,16 +40,16 @@ class Library:
     """A second tracer: the functions of tracectl.h by ctypes, called by what arguments mean."""
 
     def __init__(self, path, *settings):
-        self.library, self.tracer, self.thread = CDLL(path), (c_uint64 * 6)(), (c_uint64 * 1)()
+        self.library, self.tracer, self.thread = CDLL(path), Handle(), (c_uint64 * 1)()
         for name, kind in (("reply_length", c_size_t), ("reply", c_size_t), ("offset", c_size_t), ("entries", c_uint64), ("waiting", c_int32), ("wanted", c_int32)):
             getattr(self.library, "tracectl_" + name).restype = kind
-        self.opened = self.come(self.library.tracectl_open(self.tracer, byref(Settings(*settings))) or self.join())
+        self.opened = self.come(self.library.tracectl_open(byref(self.tracer), byref(Settings(*settings))) or self.join())
 
     def join(self):
-        return self.library.tracectl_join(self.tracer, self.thread)
+        return self.library.tracectl_join(byref(self.tracer), self.thread)
 
     def close(self):
-        if self.library.tracectl_leave(self.thread) or self.library.tracectl_close(self.tracer):
+        if self.library.tracectl_leave(self.thread) or self.library.tracectl_close(byref(self.tracer)):
             raise ValueError("the second tracer can't be closed")
 
     @staticmethod

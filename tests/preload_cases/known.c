@@ -1,5 +1,6 @@
 /* A program that allocates as often as it says at each moment of its life, by each function, with a size for each, from 100,001 on. `known` is what
- * tests/preload counts. `known crowd` has more threads that allocate at a time than a tracer has passes. */
+ * tests/preload counts. `known crowd` has more threads that allocate at a time than a tracer has passes. `known lines` does what lines of standard input say,
+ * and tells when it is done: `SIZE TIMES` allocates, and `child` has a child that does. */
 #define _GNU_SOURCE
 #include <malloc.h>
 #include <pthread.h>
@@ -90,8 +91,22 @@ static void take_otherwise(void) {
     free(place);
 }
 
+static int do_lines(void) {
+    size_t bytes;
+    int times;
+    char line[64];
+    setvbuf(stdin, malloc(BUFSIZ), _IOFBF, BUFSIZ);
+    while (fgets(line, sizeof line, stdin)) {
+        if (sscanf(line, "%zu %d", &bytes, &times) == 2) take(bytes, times);
+        else have_child();
+        puts("done");
+        fflush(stdout);
+    }
+    return 4;
+}
+
 int main(int count, char **words) {
-    (void)words;
+    if (count > 1 && !strcmp(words[1], "lines")) return do_lines();
     if (count > 1) {
         pthread_barrier_init(&barrier, NULL, CROWD);
         start(CROWD, be_one_of_crowd);
