@@ -1,10 +1,14 @@
-/* A server of four workers that traces each request that it serves, and is asked about them while it runs. Requests come from a queue: REQUESTS of them, or
- * as many as the first argument says. Each is an event `request`: when it ended, how many microseconds it took, and its path. One request in a hundred is
- * for /report, which is slow.
+/* A server of four workers that traces each request that it serves, and is asked about them while it runs. Requests come from a queue. Each is an event
+ * `request`: when it ended, how many microseconds it took, and its path. One request in a hundred is for /report, which is slow.
  *
- * The thread that starts the workers does beside them what a session of a shell would do: it counts the durations by powers of two, has a snapshot taken at
- * the first slow request, which shows what came just before it, and an instance that keeps the slow ones alone. examples/c/build says how it is built. */
+ *     server DIR          mounts its tracer on the folder DIR, and serves until it is interrupted: examples/c/server.session asks it meanwhile, in a shell
+ *     server              serves REQUESTS requests, and asks itself
+ *     server - COUNT      likewise so many
+ *
+ * What is asked: the durations are counted by powers of two; a snapshot is taken at the first slow request, which shows what came just before it; and an
+ * instance keeps the slow ones alone. examples/c/build says how it is built. */
 #include <pthread.h>
+#include <signal.h>
 #include <stdio.h>
 #include <stdlib.h>
 #include <string.h>
@@ -13,6 +17,7 @@
 enum { WORKERS = 4, REQUESTS = 2000, QUEUE = 64, REQUEST = 1 }; /* `request` is declared first, so its number is 1 */
 
 static tracectl tracer = TRACECTL_CLOSED;
+static volatile sig_atomic_t is_interrupted;
 
 /* ---- The queue. ---- */
 
@@ -96,8 +101,7 @@ static int show(tracectl_thread *thread, const char *path, const char *part, int
 }
 
 static int ask_first(tracectl_thread *thread) {
-    return line(thread, "echo 'request u64 at; u64 us; char path[32]' >> synthetic_events")
-        && line(thread, "echo 1 > events/synthetic/request/enable")
+    return line(thread, "echo 1 > events/synthetic/request/enable")
         && line(thread, "echo 'hist:keys=us.log2:sort=us' >> events/synthetic/request/trigger")
         && line(thread, "echo 'snapshot:1 if us >= 5000' >> events/synthetic/request/trigger")
         && line(thread, "mkdir instances/slow")
@@ -114,13 +118,13 @@ static int ask_last(tracectl_thread *thread) {
     return show(thread, "instances/slow/trace", " request: ", 3);
 }
 
-/* Serves so many requests. */
+/* Serves so many requests, or until it is interrupted. */
 static int serve_all(int requests) {
     pthread_t workers[WORKERS];
     int is_done = 1;
     for (int i = 0; i < WORKERS; i++)
         if (pthread_create(&workers[i], NULL, work, &tracer)) return 0;
-    for (int request = 0; request < requests; request++) put(request);
+    for (int request = 0; request < requests && !is_interrupted; request++) put(request);
     close_queue();
     for (int i = 0; i < WORKERS; i++) {
         void *done;
@@ -129,10 +133,25 @@ static int serve_all(int requests) {
     return is_done;
 }
 
+static void interrupt(int signal) {
+    is_interrupted = signal;
+}
+
+/* Mounts the tracer, and serves until it is interrupted. */
+static int serve_mounted(const char *folder) {
+    uint32_t status = tracectl_mount(&tracer, folder, 0);
+    if (status) fprintf(stderr, "%s: %s\n", folder, tracectl_status_name(status));
+    signal(SIGINT, interrupt);
+    signal(SIGTERM, interrupt);
+    return !status && serve_all(INT32_MAX);
+}
+
 int main(int count, char **words) {
     tracectl_thread thread = TRACECTL_LEFT;
     tracectl_settings settings = {.cpus = WORKERS, .pages = 16, .page_bytes = 4080, .history_limit = 0};
     if (tracectl_open(&tracer, &settings) || tracectl_join(&tracer, &thread)) return 1;
-    int is_done = ask_first(&thread) && serve_all(count > 1 ? atoi(words[1]) : REQUESTS) && ask_last(&thread);
+    int is_done = line(&thread, "echo 'request u64 at; u64 us; char path[32]' >> synthetic_events");
+    if (count == 2) is_done = is_done && serve_mounted(words[1]);
+    else is_done = is_done && ask_first(&thread) && serve_all(count > 2 ? atoi(words[2]) : REQUESTS) && ask_last(&thread);
     return tracectl_leave(&thread) || tracectl_close(&tracer) || !is_done;
 }

@@ -6,7 +6,7 @@
 #include <unistd.h>
 #include "trace_malloc.h"
 
-static const char *const NAMES[] = {"TRACE_MALLOC_LINES=", "TRACE_MALLOC_REPORT=", "TRACE_MALLOC_SHOWN=", "LD_PRELOAD="};
+static const char *const NAMES[] = {"TRACE_MALLOC_LINES=", "TRACE_MALLOC_REPORT=", "TRACE_MALLOC_SHOWN=", "TRACE_MALLOC_MOUNT=", "LD_PRELOAD="};
 static char *settings[SETTINGS]; /* as the environment had them, as NAME=VALUE */
 pid_t traced;
 

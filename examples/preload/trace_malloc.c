@@ -10,6 +10,10 @@
  *     TRACE_MALLOC_LINES     lines that are done first, by default one that counts each caller's bytes
  *     TRACE_MALLOC_REPORT    the file that a report is written to when the program exits, after all its destructors, or ends by _exit
  *     TRACE_MALLOC_SHOWN     the tracer's file that the report shows, by default the histogram of malloc
+ *     TRACE_MALLOC_MOUNT     the folder on which the tracer is mounted while the program runs; then no line is done by default
+ *
+ * With the last one the tracer's files are in that folder, for shells and other programs, until the program exits. Meanwhile the process has one thread and
+ * two descriptors more (mount.c).
  *
  * Before main it takes these and itself out of the environment, so what the program starts runs without it. In a child, after a fork, nothing is traced.
  * Only where the traced process itself goes on as another program, by an exec, they are put back: that is traced from its beginning, as the programs are
@@ -29,7 +33,6 @@
 #include <string.h>
 #include <unistd.h>
 #include "trace_malloc.h"
-#include "tracectl.h"
 
 #define OF_THREAD static __thread __attribute__((tls_model("initial-exec"))) /* which allocates nothing */
 
@@ -161,7 +164,7 @@ static void begin(void) {
         abort();
     }
     int is_on = is_opened();
-    if (is_on) do_lines(setting(LINES, BY_DEFAULT));
+    if (is_on) do_lines(setting(LINES, setting(MOUNT, NULL) ? "" : BY_DEFAULT));
     else tell("trace-malloc: no tracer can be opened, so nothing is traced\n");
     errno = error;
     inside = 0;
@@ -316,11 +319,15 @@ static void write_report(void *unused) {
     close(file);
 }
 
-/* Programs that end at once, as some shells do, have a report, too. */
+/* Programs that end at once, as some shells do, have a report, too, and their mount is taken away. */
 EXPORTED void _exit(int status) {
     void (*next_exit)(int);
     *(void **)&next_exit = dlsym(RTLD_NEXT, "_exit");
-    if (getpid() == traced) write_report(NULL);
+    if (getpid() == traced && !inside) {
+        write_report(NULL);
+        inside = 1;
+        tracectl_unmount(&tracer);
+    }
     next_exit(status);
     __builtin_unreachable();
 }
@@ -338,5 +345,7 @@ __attribute__((constructor)) static void prepare(void) {
     traced = getpid();
     leave_environment();
     if (__cxa_atexit(write_report, NULL, NULL)) tell("trace-malloc: there will be no report\n");
+    uint32_t status = state == ON && setting(MOUNT, NULL) ? mount_tracer(&tracer, setting(MOUNT, NULL)) : TRACECTL_DONE;
+    if (status) tell("trace-malloc: %s can't be mounted on: %s\n", setting(MOUNT, NULL), tracectl_status_name(status));
     inside = 0;
 }

@@ -4,6 +4,7 @@
 
 #include <stddef.h>
 #include <sys/types.h>
+#include "tracectl.h"
 
 #define EXPORTED __attribute__((visibility("default")))
 
@@ -21,7 +22,7 @@ extern volatile int is_memory_closed;
 
 /* ---- environment.c ---- */
 
-enum { LINES, REPORT, SHOWN, LOADED, SETTINGS };
+enum { LINES, REPORT, SHOWN, MOUNT, LOADED, SETTINGS };
 
 /* The process that is traced; 0 until it is known. */
 extern pid_t traced;
@@ -32,5 +33,9 @@ void take_settings(void);
 const char *setting(int which, const char *otherwise);
 
 void leave_environment(void);
+
+/* ---- mount.c ---- */
+
+uint32_t mount_tracer(tracectl *tracer, const char *folder);
 
 #endif

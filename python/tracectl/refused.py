@@ -1,11 +1,13 @@
 """What a tracer refuses."""
 from __future__ import annotations
 
-# The names of statuses (docs/REFUSALS.md): refusals from 1, faults of lines from 101, and what is wrong with a handle from 200 (tracectl.h).
+# The names of statuses (docs/REFUSALS.md): refusals from 1, faults of lines from 101, and what is wrong with a handle or a mount from 200
+# (tracectl.h).
 REFUSALS = """NoSuchFile NotReadable NotWritable BadValue NoSuchEvent EventExists BadDefinition TooBig FilterSyntax NoSuchField WrongOperator
     HistSyntax BadSize TriggerExists NoSuchTrigger TooMany InstanceExists NoSuchInstance Busy NoSuchCpu BadRow HistoryFull Memory Worn"""
 FAULTS = "LineTooLong BadByte UnclosedQuote UnknownCommand WrongWords BadNumber BlockOutOfPlace TooManyThreads"
-HANDLES = "NotOpen AlreadyOpen Busy NotJoined AlreadyJoined NoPassLeft StillJoined Forked InCall OtherThread"
+HANDLES = """NotOpen AlreadyOpen Busy NotJoined AlreadyJoined NoPassLeft StillJoined Forked InCall OtherThread
+    NotMounted AlreadyMounted NoFolder FolderBusy NoDevice NoRight NotNow Limited"""
 NAMES = {status: name for first, names in ((1, REFUSALS), (101, FAULTS), (200, HANDLES)) for status, name in enumerate(names.split(), first)}
 
 

@@ -1,7 +1,7 @@
 """What tracectl.h declares, for ctypes."""
 from __future__ import annotations
 
-from ctypes import Structure, c_char_p, c_size_t, c_uint32, c_uint64
+from ctypes import Structure, c_char_p, c_int32, c_size_t, c_uint32, c_uint64, c_void_p
 
 from .arguments import FieldValue, field_value
 
@@ -9,12 +9,37 @@ NO_OFFSET = c_size_t(-1).value
 UNSIGNED, SIGNED, BYTES = range(3)  # kinds of values
 
 
+class Passes(Structure):
+    _fields_ = [("state", c_uint64), ("passes", c_void_p)]
+
+
+class Mask(Structure):
+    _fields_ = [("entries", c_uint64), ("events", c_uint64)]
+
+
+class Handle(Structure):
+    """`tracectl`, a tracer, of zeros before it is opened. Its fields belong to the library."""
+
+    _fields_ = [
+        ("passes", Passes),
+        ("cpus", c_uint32),
+        ("forks", c_uint32),
+        ("mask", Mask),
+        ("mask_lock", c_uint32),
+        ("wakes", c_int32),
+        ("is_woken", c_uint32),
+        ("is_limited", c_uint32),
+    ]
+
+
 class Settings(Structure):
+    """`tracectl_settings`, what a tracer is made with."""
+
     _fields_ = [("cpus", c_uint32), ("pages", c_uint32), ("page_bytes", c_uint32), ("history_limit", c_uint64)]
 
 
 class Value(Structure):
-    """A value of a field, as `tracectl_emit_values` takes it."""
+    """`tracectl_value`, a value of a field, as `tracectl_emit_values` takes it."""
 
     _fields_ = [("kind", c_uint32), ("number", c_uint64), ("bytes", c_char_p), ("bytes_length", c_size_t)]
 

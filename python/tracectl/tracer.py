@@ -1,9 +1,12 @@
 """A tracer by ctypes: its calls are methods, which threads share."""
 from __future__ import annotations
 
+import atexit
 import os
-from collections.abc import Mapping
-from ctypes import CDLL, byref, c_int32, c_size_t, c_uint32, c_uint64, c_void_p, create_string_buffer
+from collections.abc import Iterator, Mapping
+from contextlib import contextmanager
+from ctypes import CDLL, addressof, byref, c_int32, c_size_t, c_uint32, c_uint64, c_void_p, create_string_buffer, get_errno
+from pathlib import Path
 from threading import get_ident, local
 from typing import Any, AnyStr
 
@@ -11,21 +14,22 @@ from .arguments import NO_FIELDS, S32, U32, U64, Fields, FieldValue, Text, decod
 from .event import Event, as_declared, parse_format
 from .histogram import Histogram, parse_histograms
 from .library import find_library
+from .mount import ALLOW_OTHER, refusal
 from .refused import NAMES, Refused
 from .statistics import Statistics, parse_statistics
-from .structures import NO_OFFSET, Settings, Value
-
+from .structures import NO_OFFSET, Handle, Settings, Value
 
 ROOM = 256  # for a piece of an explanation; most are shorter
+OPEN: dict[int, Handle] = {}  # by their addresses: a thread that ends leaves by its tracer's handle, also where the `Tracer` is gone
 
 
 class Seat:
     """A thread that has joined a tracer. It leaves when this is let go, which is when the thread ends."""
 
-    def __init__(self, library: CDLL, tracer: Any) -> None:
+    def __init__(self, library: CDLL, tracer: Handle) -> None:
         self._leave, self._thread = library.tracectl_leave, get_ident()
         self.handle = (c_void_p * 1)()  # 0 while it has not joined
-        status = library.tracectl_join(tracer, self.handle)
+        status = library.tracectl_join(byref(tracer), self.handle)
         if status:
             raise Refused(status)
 
@@ -45,7 +49,7 @@ class Tracer:
 
     Any thread may call it: with its first call it joins, and it leaves when it ends, or by `leave`. One call at a time has its turn at the tracer; while
     it runs, or waits for its turn, other threads of Python run. A handler of a signal makes no call of a tracer that it may have interrupted, since that
-    would take its reply away. In the child of a fork each call is refused (Forked).
+    would take its reply away. In the child of a fork each call is refused (Forked), and there is no mount.
     """
 
     def __init__(
@@ -63,16 +67,21 @@ class Tracer:
             raise ValueError("`library` names no file")
         self._library = CDLL(path)
         self._here = local()  # `seat` is the thread's
-        self._handle = (c_uint64 * 6)()  # its words are 0 before it is opened
-        status = self._library.tracectl_open(self._handle, byref(settings))
+        self._handle = Handle()
+        status = self._library.tracectl_open(byref(self._handle), byref(settings))
         if status:
             raise Refused(status)
+        OPEN[addressof(self._handle)] = self._handle
 
     def __enter__(self) -> Tracer:
         return self
 
     def __exit__(self, *error: object) -> None:
-        self.close()
+        try:
+            self.close()
+        except Refused as refused:
+            if refused.name != "Forked":  # a child that leaves the `with` of its parent closes nothing
+                raise
 
     def _seat(self) -> Seat:
         """That of this thread, which joins if it has not."""
@@ -129,12 +138,59 @@ class Tracer:
             del self._here.seat
 
     def close(self) -> None:
-        """Closes it, and this thread leaves. Refused (StillJoined) while other threads have not ended, and not left. Once it is closed, this does nothing,
-        and commands are refused."""
+        """Closes it, and this thread leaves. If it is mounted, that ends first. Refused (StillJoined) while other threads have not ended, and not left. Once
+        it is closed, this does nothing, and commands are refused."""
         self.leave()
-        status = self._library.tracectl_close(self._handle)
+        status = self._library.tracectl_close(byref(self._handle))
         if status and NAMES.get(status) != "NotOpen":
             raise Refused(status)
+        OPEN.pop(addressof(self._handle), None)
+        atexit.unregister(self._take_away)
+
+    def mount(self, folder: Text | os.PathLike[Any], *, allow_other: bool = False) -> None:
+        """Mounts it on a folder, by FUSE: its files are there for shells and other programs, until `unmount`, `close` or the program's end. `allow_other`
+        lets other users in, as far as the files' permissions do.
+
+        Refused if it is mounted (AlreadyMounted) or has a `history_limit` (Limited), of a folder that is none (NoFolder) or that something else is
+        mounted on (FolderBusy), and where this user can't open /dev/fuse (NoDevice) or may not mount there (NoRight). What a program that was killed has
+        left on the folder is taken away.
+        """
+        if not isinstance(allow_other, bool):
+            raise TypeError("allow_other is bool, not %s" % type(allow_other).__name__)
+        name = string("a folder", os.fsencode(folder))
+        calls = CDLL(self._library._name, handle=self._library._handle, use_errno=True)  # the same library
+        status = calls.tracectl_mount(byref(self._handle), name, c_uint32(ALLOW_OTHER if allow_other else 0))
+        if status:
+            raise refusal(status, name, get_errno())
+        atexit.register(self._take_away)  # the server uses the handle, which Python takes back before the C library ends mounts
+
+    def unmount(self) -> None:
+        """Takes the mount away, though programs have files of it open. Refused (NotMounted) if there is none."""
+        status = self._take_away()
+        if status:
+            raise refusal(status)
+        atexit.unregister(self._take_away)
+
+    def _take_away(self) -> int:
+        """Has the status of that. In a child, which has no mount, it is refused."""
+        status: int = self._library.tracectl_unmount(byref(self._handle))
+        return status
+
+    @contextmanager
+    def mounted(self, folder: Text | os.PathLike[Any], *, allow_other: bool = False) -> Iterator[Path]:
+        """Mounts it on a folder, as `mount`, for a `with`, and gives the path of that:
+
+            with tracer.mounted("place") as place:
+                print((place / "synthetic_events").read_text())
+
+        At its end nothing is refused, though it may have been unmounted or closed before.
+        """
+        self.mount(folder, allow_other=allow_other)
+        try:
+            yield Path(os.path.abspath(os.fsdecode(folder)))
+        finally:
+            if not self._take_away():
+                atexit.unregister(self._take_away)
 
     def line(self, line: AnyStr) -> AnyStr:
         """Does a line of a script, and gives what it prints."""
