@@ -1,5 +1,5 @@
 -- A look that lists the files, and what is kept of it.
-use Rattle.std.proofs.Common.{◌≡◌, ◌⊎◌, inl, inr, ℕ, List, [], codes, sym, ap, subst, ◌∙◌}
+use Rattle.std.proofs.Common.{◌≡◌, inl, inr, ℕ, List, [], codes, sym, ap, subst, ◌∙◌}
 use Rattle.trace_command.specs.declared.command.Reply.TheVariants.{Text}
 use Rattle.trace_command.specs.declared.refusal.Refusal.{Refusal}
 use Rattle.trace_command.specs.declared.refusal.Refusal.TheVariants.{Memory, Worn}

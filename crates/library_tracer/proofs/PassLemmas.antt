@@ -1,5 +1,5 @@
 -- What contracts see of the callers in the array.
-use Rattle.std.proofs.Common.{◌≡◌, ◌↔◌, ℕ, zero, suc, ◌+◌, ◌*◌, ◌/◌, ◌<◌, Bool, true, false, List, [], ◌∷◌, ◌++◌, length, slice_set, All, Option, Some, None, IfSome, IsSome, is_some, Result, Ok, IfOk, Global, refl, sym, ap, subst, ◌∙◌, arith}
+use Rattle.std.proofs.Common.{◌≡◌, ◌↔◌, ℕ, zero, suc, ◌+◌, ◌*◌, ◌/◌, ◌<◌, Bool, true, false, List, [], ◌∷◌, length, slice_set, All, Option, Some, None, IfSome, IsSome, is_some, Result, Ok, IfOk, Global, refl, sym, ap, subst, ◌∙◌, arith}
 use Rattle.std.specs.Arc.{arc_value}
 use Rattle.std.specs.List.{slice_get, list_all, HoldsAt, AllWithin}
 use Rattle.std.specs.Option.{option_map, MatchOption}

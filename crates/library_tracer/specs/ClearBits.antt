@@ -47,5 +47,5 @@ ClearBitsKeepTheMask =
 -- and an emission by values is of the same event, whose bit is clear or not.
 abbrev pub ClearBitsKeepNumbers : Type 0
 ClearBitsKeepNumbers =
-    (g : SharedTerms) (entries more : List EntrySeen) (mask : Mask) (number cpu : ℕ) (pid : ℤ) (values : List FieldValue) → IsQuietAfter g entries more mask
-    → values_asked number cpu pid values (entries ++ more) ≡ values_asked number cpu pid values entries
+    (g : SharedTerms) (entries more : List EntrySeen) (mask : Mask) (number cpu : ℕ) (pid : ℤ) (values : List FieldValue)
+    → IsQuietAfter g entries more mask → values_asked number cpu pid values (entries ++ more) ≡ values_asked number cpu pid values entries

@@ -101,8 +101,7 @@ outcome_of (Ok reply) = Replied reply
 outcome_of (Err refusal) = Refused refusal
 
 -- The call had a turn, in which the tracer gave this answer to the request, and then something is owed, or nothing is. Nothing else of the console
--- changes, but that it is in line no longer. The answer is the one that the commands done before give, or Memory. That none of them gives Worn is not
--- stated.
+-- changes, but that it is in line no longer. The answer is the one that the commands done before give, or Memory, and never Worn (`IsPromised`).
 pub record IsAnswered (request : List EntrySeen → Request) (words : Refusal → List ℕ) (answer : Result Reply Refusal) (owes : Bool)
     (before after : ConsoleSeen) : Type 0 where
   pub was : Known

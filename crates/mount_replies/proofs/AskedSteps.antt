@@ -6,8 +6,7 @@ use Rattle.fuse_wire.specs.declared.errno.Errno.TheVariants.{EACCES, EAGAIN, EIN
 use Rattle.fuse_wire.specs.declared.reply.Reply.TheVariants as replies
 use Rattle.fuse_wire.specs.declared.request.Operation.{Operation}
 use Rattle.fuse_wire.specs.declared.request.Operation.TheVariants as operations
-use Rattle.trace_command.specs.Requests.{MakeInstance, RemoveInstance, Request, request_of}
-use Rattle.trace_command.specs.declared.command.CommandOf.TheVariants as commands
+use Rattle.trace_command.specs.Requests.{MakeInstance, RemoveInstance, Request}
 use Rattle.trace_command.specs.declared.command.Reply.{Reply as Answer}
 use Rattle.trace_command.specs.declared.refusal.Refusal.{Refusal}
 use Rattle.trace_command.specs.declared.refusal.Refusal.TheVariants.{Memory}

@@ -1,5 +1,5 @@
 -- What a mounted tracer did was done.
-use Rattle.std.proofs.Common.{◌≡◌, inl, inr, ℕ, ◌<◌, Bool, true, false, nat_lt, List, [], ◌∷◌, length, Option, Some, None, Result, Ok, Err, refl, sym, ap, subst, arith, ltb-true, append-nil}
+use Rattle.std.proofs.Common.{◌≡◌, inl, inr, ℕ, ◌<◌, List, [], ◌∷◌, length, Option, Some, None, Result, Ok, Err, refl, sym, ap, subst, arith, append-nil}
 use Rattle.fuse_wire.specs.declared.reply.Reply.{Reply}
 use Rattle.fuse_wire.specs.declared.reply.Reply.TheVariants as replies
 use Rattle.trace_command.specs.Requests.{Request}
@@ -9,10 +9,10 @@ use Rattle.trace_command.specs.declared.refusal.Refusal.{Refusal}
 use Rattle.trace_format.specs.Catalogs.{AreEvents}
 use Rattle.trace_format.specs.Definitions.{Definition}
 use Rattle.tracer_specification.proofs.EventLists.{AreEvents-push}
-use Rattle.tracer_specification.specs.History.{answer_with_room, unless_full}
+use Rattle.tracer_specification.specs.History.{answer_with_room}
 use Rattle.tracer_specification.specs.Pasts.{AreDone}
 use Rattle.tracer_specification.specs.Settings.{declared_events, declares}
-use Rattle.tracer.specs.Lives.{limited_answer, live_answer, most_done}
+use Rattle.tracer.specs.Lives.{live_answer, most_done}
 use Rattle.mount_replies.proofs.AnswerLemmas.{may-noting}
 use Rattle.mount_replies.proofs.NewEvents.{declared-new}
 use Rattle.mount_replies.proofs.RunLemmas.{any-lines, lines-keep}

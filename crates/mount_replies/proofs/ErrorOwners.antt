@@ -1,18 +1,15 @@
 -- Only of instances that are there errors are kept.
-use Rattle.std.proofs.Common.{◌≡◌, inl, inr, ℕ, ◌+◌, nat_lt, eqb, Bool, true, false, not, cond, if◌then◌else◌, List, [], ◌∷◌, ◌++◌, length, All, find, filter, count_by, take, drop, is_some, option_map, Option, Some, None, Result, Ok, Err, codes, refl, sym, ap, subst, ◌∙◌, append-nil, arith}
-use Rattle.std.specs.List.{AllByRecursion, join_with_byte, position_or_len}
+use Rattle.std.proofs.Common.{◌≡◌, inl, inr, ℕ, ◌+◌, nat_lt, eqb, Bool, true, false, not, cond, if◌then◌else◌, List, [], ◌∷◌, ◌++◌, All, find, filter, count_by, take, drop, is_some, option_map, Option, Some, None, Result, Ok, Err, refl, sym, ap, subst, ◌∙◌, append-nil, arith}
+use Rattle.std.specs.List.{AllByRecursion, position_or_len}
 use Rattle.std.specs.Option.{option_or}
 use Rattle.std.specs.Str.{bytes_eq}
 use Rattle.std.proofs.lemmas.Bool.{false_from_ne_true, false≢true}
 use Rattle.std.proofs.lemmas.List.Elements.{All-append, All-cons, All-drop, All-filter, All-head, All-nil, All-push, All-tail, All-take, All-weaker}
 use Rattle.std.proofs.lemmas.List.Folds.{find-append}
-use Rattle.std.proofs.lemmas.List.Splits.{join_with_byte-slice_split}
 use Rattle.std.proofs.lemmas.Slice.Eq.{bytes_eq-Decides}
 use Rattle.fuse_wire.specs.declared.reply.Reply.{Reply}
 use Rattle.fuse_wire.specs.declared.reply.Reply.TheVariants as replies
-use Rattle.trace_command.specs.Paths.{below_mount_point, instance_in, instance_of, mount_point, parts}
-use Rattle.trace_command.specs.Requests.{Emission, MakeInstance, ReadFile, RemoveInstance, Request, WriteFile, request_of}
-use Rattle.trace_command.specs.declared.command.CommandOf.TheVariants as commands
+use Rattle.trace_command.specs.Requests.{Emission, MakeInstance, ReadFile, RemoveInstance, Request, WriteFile}
 use Rattle.trace_command.specs.declared.command.Reply.{Reply as Answer}
 use Rattle.trace_command.specs.declared.refusal.Refusal.{Refusal}
 use Rattle.tracer_specification.specs.Settings.{made, removed}

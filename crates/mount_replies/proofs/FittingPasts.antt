@@ -4,8 +4,7 @@ use Rattle.std.specs.List.{All}
 use Rattle.std.proofs.lemmas.List.Elements.{All-cons, All-head, All-nil, All-tail}
 use Rattle.fuse_wire.specs.declared.reply.Reply.{Reply}
 use Rattle.trace_command.specs.Configs.{IsInRange}
-use Rattle.trace_command.specs.Requests.{FitsItsTypes, Request, request_of}
-use Rattle.trace_command.specs.declared.command.CommandOf.TheVariants as commands
+use Rattle.trace_command.specs.Requests.{FitsItsTypes, Request}
 use Rattle.trace_command.specs.declared.command.Reply.{Reply as Answer}
 use Rattle.trace_command.specs.declared.refusal.Refusal.{Refusal}
 use Rattle.mount_tree.specs.ScenesAfter.{scene_after}

@@ -17,6 +17,7 @@ pub mod TurnLemmas
 pub mod DoneLemmas
 pub mod AddressLemmas
 pub mod CallLemmas
+pub mod WatchLemmas
 pub mod SwitchLemmas
 pub mod ShownLemmas
 pub mod TimesLemmas

@@ -1,18 +1,15 @@
 -- Reads and writes of files that tools ask for, and `set_event` that is opened to be emptied.
-use Rattle.std.proofs.Common.{◌≡◌, ℕ, List, Option, Some, None, Result, refl, sym, ap, inl}
+use Rattle.std.proofs.Common.{◌≡◌, ℕ, List, Option, Some, None, refl, sym, ap, inl}
 use Rattle.fuse_wire.specs.Replies.{reply_bytes}
 use Rattle.fuse_wire.specs.declared.errno.Errno.TheVariants.{ENOENT, ENOMEM}
 use Rattle.fuse_wire.specs.declared.reply.Reply.{Reply}
 use Rattle.fuse_wire.specs.declared.reply.Reply.TheVariants as replies
 use Rattle.trace_command.specs.Requests.{Request}
-use Rattle.trace_command.specs.declared.command.Reply.{Reply as Answer}
-use Rattle.trace_command.specs.declared.refusal.Refusal.{Refusal}
 use Rattle.mount_replies.specs.Mounted.{HasLedTo, IsStep, IsTold, MountSeen}
 use Rattle.mount_replies.specs.Served.{given_tool, part_of}
 use Rattle.mount_replies.specs.Services.{OpenSeen, with_reading}
-use Rattle.mount_replies.specs.Steps.{AsksNoting, Noting, Outcome, Takes, taking, told}
-use Rattle.mount_replies.specs.private.Notings.{IsAskedNoting}
-use Rattle.mount_replies.proofs.Steps.{memory-step, noted-step, told-step}
+use Rattle.mount_replies.specs.Steps.{Takes, taking, told}
+use Rattle.mount_replies.proofs.Steps.{memory-step, told-step}
 
 -- nothing is asked, and memory was there
 pub takes-step : (past : List Request) (old : MountSeen) (reply : Reply) (files now : List (Option OpenSeen)) → HasLedTo past old → now ≡ files

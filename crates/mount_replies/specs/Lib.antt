@@ -9,6 +9,7 @@ pub mod Lines
 pub mod FileWrites
 pub mod Served
 pub mod Owed
+pub mod Watches
 pub mod Mounted
 pub mod Calls
 pub mod MountLaws

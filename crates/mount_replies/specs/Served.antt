@@ -1,13 +1,12 @@
 -- What a mounted tracer does at each request of a kernel: it asks the tracer one command, one for each of some lines, or none, and replies, or lets a
 -- read wait. A command that was refused changes nothing but what the step says of the open files and of the errors that are noted.
-use Rattle.std.specs.Prelude.{ℕ, ◌+◌, ◌/◌, ◌%◌, ◌==◌, Bool, true, false, not, ◌&&◌, ◌||◌, nat_lt, is_none, List, [], ◌++◌, take, drop, min, max, Option, Some, None, unwrap_or, Result, Ok, Err, codes, if◌then◌else◌}
+use Rattle.std.specs.Prelude.{ℕ, ◌+◌, ◌/◌, ◌%◌, ◌==◌, Bool, true, false, not, ◌&&◌, ◌||◌, nat_lt, is_none, List, [], take, drop, min, max, Option, Some, None, unwrap_or, Result, Ok, Err, codes, if◌then◌else◌}
 use Rattle.std.specs.Option.{option_and_then}
 use Rattle.fuse_wire.specs.declared.errno.Errno.TheVariants.{EPERM, ENOENT, EBADF, EAGAIN, EACCES, EISDIR, EINVAL, ENOSPC, ENOSYS}
 use Rattle.fuse_wire.specs.declared.reply.Reply.TheVariants as replies
 use Rattle.fuse_wire.specs.declared.request.Operation.{Operation}
 use Rattle.fuse_wire.specs.declared.request.Operation.TheVariants as operations
-use Rattle.trace_command.specs.Requests.{MakeInstance, RemoveInstance, request_of}
-use Rattle.trace_command.specs.declared.command.CommandOf.TheVariants as commands
+use Rattle.trace_command.specs.Requests.{MakeInstance, RemoveInstance}
 use Rattle.trace_command.specs.declared.command.Reply.{Reply as Answer}
 use Rattle.trace_command.specs.declared.file_name.TopFile.TheVariants as top_files
 use Rattle.trace_command.specs.declared.refusal.Refusal.{Refusal}

@@ -91,6 +91,13 @@ impl DryPipes {
         None
     }
 
+    /// The slots.
+    pub fn slots(&self) -> &[Option<DryPipe>]
+        ensures { result.now ≡ self.now }
+    {
+        &self.slots
+    }
+
     /// One more is known, if a slot is left.
     pub fn note(&mut self, pipe: DryPipe)
         ensures { All (λ slot. Contains self.old slot ⊎ (slot ≡ Some pipe)) self.new }

@@ -26,6 +26,7 @@ mod sizes;
 mod stream;
 mod telling;
 mod told;
+mod watch;
 mod writing;
 
 pub use counted::Counted;
@@ -34,3 +35,4 @@ pub use mount::{Mount, Owners};
 pub use parked::Parked;
 pub use polls::Polls;
 pub use stream::Stream;
+pub use watch::Watch;

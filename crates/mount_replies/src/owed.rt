@@ -3,7 +3,7 @@
 //!
 //! Whether it owes something is worked out after each request that may have changed it (`look_for_owed`), so that to be asked costs nothing. Where no
 //! read is parked and no poll is to be told, that is a look at two empty lists. Of the parked reads of one dry pipe the first asks the tracer
-//! (`dry_pipes.rt`).
+//! (`dry_pipes.rt`). After an emission by the program only the pipes that reads wait for are looked at, while all are dry (`watch.rt`).
 
 ghost use Rattle.std.specs.Prelude.{◌≡◌, ◌<◌, ◌≤◌, ℕ, true, [], List, length, Some, is_some, position, vec_capacity, IfSome};
 ghost use Rattle.trace_command.specs.Requests.{Request};
@@ -19,8 +19,8 @@ use crate::telling::{tell_error, tell_wakeup};
 use fuse_wire::Errno;
 
 impl Mount {
-    // Whether a parked read waits no more, where these pipes are known to be dry.
-    fn is_due(&self, read: &Parked, pipes: &mut DryPipes) -> bool
+    /// Whether a parked read waits no more, where these pipes are known to be dry.
+    pub(crate) fn is_due(&self, read: &Parked, pipes: &mut DryPipes) -> bool
         requires dry { AreDryNow self.now pipes.old }
         ensures is { (past : List Request) → HasLedTo past self.now
             → result ≡ is_due (terms_of self.now) (service_of past self.now) read.now }

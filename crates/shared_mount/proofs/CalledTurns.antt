@@ -15,6 +15,7 @@ use Rattle.mount_replies.specs.Mounted.{IsMounted, MountSeen, past_after, servic
 use Rattle.mount_replies.specs.Services.{Terms}
 use Rattle.mount_replies.specs.Steps.{errors_after}
 use Rattle.shared_mount.specs.MountHistories.{IsPromised}
+use Rattle.shared_mount.proofs.OwnAnswers.{unworn}
 
 pub promised : (limit : ℕ) (g : Config) (past : List Request) (new : LiveSeen) (request : Request) (answer : Result Reply Refusal) → new.config ≡ g
     → IsCallWithin limit past new request answer → IsPromised limit g past request answer
@@ -28,6 +29,7 @@ promised limit g past new request answer same call =
       early = subst Q same call.early;
       late_memory = subst R same call.late_memory;
       takes_none = subst S same call.takes_none;
+      unworn = unworn limit g past request answer (subst P same call.reply);
     }
 
 pub called-turned : (limit : ℕ) (past : List Request) (old new : MountSeen) (request : Request) (answer : Result Reply Refusal) → limit ≤ most_done → IsMounted past old

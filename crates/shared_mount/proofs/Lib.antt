@@ -1,3 +1,4 @@
+pub mod OwnAnswers
 pub mod HistoryLemmas
 pub mod ExchangeLemmas
 pub mod CalledTurns

@@ -17,4 +17,5 @@ pub record LiveMountSeen : Type 0 where
 -- what a lock sees of what it was made with: the numbers, which determine it
 abbrev pub numbers_of : SharedTerms → List ℕ
 numbers_of g =
-    g.mount.config.cpus ∷ g.mount.config.pages ∷ g.mount.config.page_bytes ∷ g.mount.config.history_limit ∷ g.mount.uid ∷ g.mount.gid ∷ g.mount.mode ∷ g.limit ∷ []
+    g.mount.config.cpus ∷ g.mount.config.pages ∷ g.mount.config.page_bytes ∷ g.mount.config.history_limit
+    ∷ g.mount.uid ∷ g.mount.gid ∷ g.mount.mode ∷ g.limit ∷ []

@@ -1,10 +1,11 @@
 -- The history of a mounted tracer that callers share: which turns were taken, one after another, and what they led to.
-use Rattle.std.specs.Prelude.{◌≡◌, ⊤, ℕ, ◌<◌, Bool, is_some, List, [], ◌∷◌, ◌++◌, All, AllPairs, Result, Err, IfErr}
+use Rattle.std.specs.Prelude.{◌≡◌, ◌≢◌, ⊤, ℕ, ◌<◌, Bool, is_some, List, [], ◌∷◌, ◌++◌, All, AllPairs, Result, Err, IfErr}
 use Rattle.trace_command.specs.Refusals.{OrMemory, IsFoundEarly}
 use Rattle.trace_command.specs.Requests.{Request}
 use Rattle.trace_command.specs.declared.command.Config.{Config}
 use Rattle.trace_command.specs.declared.command.Reply.{Reply}
 use Rattle.trace_command.specs.declared.refusal.Refusal.{Refusal}
+use Rattle.trace_command.specs.declared.refusal.Refusal.TheVariants.{Worn}
 use Rattle.tracer_specification.specs.LateMemory.{TakesMemoryLate}
 use Rattle.trace_instance.specs.MemoryTaken.{TakesNoMemory}
 use Rattle.tracer.specs.Lives.{limited_answer}
@@ -17,13 +18,15 @@ use Rattle.shared_mount.specs.MountEntries.{Deed, DidCall, DidExchange, EntrySee
 
 -- ---- one turn
 
--- The answer to a call is the one that the commands done before it give where no more than so many are done. Memory may stand in place of one that is not found early, but in place of no
--- refusal of a command that takes memory late, and of none where the command takes no memory.
+-- The answer to a call is the one that the commands done before it give where no more than so many are done. Memory may stand in place of one that is not
+-- found early, but in place of no refusal of a command that takes memory late, and of none where the command takes no memory. It never says that all
+-- tickets are drawn: who is told so had no turn.
 pub record IsPromised (limit : ℕ) (g : Config) (past : List Request) (request : Request) (answer : Result Reply Refusal) : Type 0 where
   pub reply : OrMemory answer (limited_answer limit g past request)
   pub early : IsFoundEarly (limited_answer limit g past request) → answer ≡ limited_answer limit g past request
   pub late_memory : TakesMemoryLate request → IfErr (limited_answer limit g past request) (λ refusal. answer ≡ Err refusal)
   pub takes_none : TakesNoMemory past request → answer ≡ limited_answer limit g past request
+  pub unworn : answer ≢ Err Worn
 
 -- what a mount's own words say of a turn is all that is said of an exchange, and less than what is promised of a call
 abbrev pub Promises : SharedTerms → List Request → Deed → Type 0

@@ -1,12 +1,13 @@
 //! A mounted tracer whose history is for clauses only.
 
-ghost use Rattle.std.specs.Prelude.{◌≡◌, ◌≢◌, ◌≤◌, true, false, List, [], ◌∷◌, ◌++◌, vec_capacity, IfOk, IfErr, OnOk};
+ghost use Rattle.std.specs.Prelude.{◌≡◌, ◌≢◌, ◌≤◌, true, false, List, [], ◌∷◌, ◌++◌, vec_capacity, IfOk, IfErr, IfSome, OnOk};
 ghost use Rattle.trace_command.specs.Configs.{IsInRange};
 ghost use Rattle.trace_command.specs.Requests.{FitsItsTypes, Request, request_of};
 ghost use Rattle.trace_command.specs.declared.refusal.Refusal.TheVariants as refusal;
 ghost use Rattle.tracer.specs.Lives.{IsLive, most_done};
 ghost use Rattle.mount_replies.specs.Calls.{IsCommanded};
 ghost use Rattle.mount_replies.specs.Mounted.{IsMounted, most_reply};
+ghost use Rattle.mount_replies.specs.Watches.{Covers};
 ghost use Rattle.shared_mount.specs.AskedRequests.{request_after};
 ghost use Rattle.shared_mount.specs.LiveMountSeen.{numbers_of};
 ghost use Rattle.shared_mount.specs.MountEntries.{DidCall, DidExchange, EntrySeen, caller_of, done_in, ticket_of};
@@ -17,7 +18,7 @@ use crate::entry::Entry;
 use crate::exchange::Exchange;
 use crate::history::{bytes_of, nothing_done, with_call, with_exchange};
 use ghost_list::GhostList;
-use mount_replies::{Mount, Owners};
+use mount_replies::{Mount, Owners, Watch};
 use std::alloc::Global;
 use std::marker::Model;
 use std::snapshot::Snapshot;
@@ -25,9 +26,11 @@ use ticket_lock::Logged;
 use trace_command::{Config, Refusal, Reply};
 use tracer::Tracer;
 
-/// A mounted tracer and the history of all turns, of which it keeps nothing in memory.
+/// A mounted tracer and the history of all turns, of which it keeps nothing in memory. While reads wait, also the pipes that they wait for: these stay the
+/// same over calls, so an emission costs a look at each pipe, and not at each read.
 pub struct LiveMount {
     mount: Mount,
+    watch: Option<Watch>,
     limit: u64,
     past: GhostList<Entry>,
 }
@@ -37,6 +40,7 @@ impl Drop for LiveMount {
     fn drop(self) {
         let LiveMount {
             mount: _,
+            watch: _,
             limit: _,
             past: _,
         } = self;
@@ -55,16 +59,26 @@ impl Model for LiveMount {
     ghost invariant = { IsSound };
 }
 
-// Has the mounted tracer run what is asked, unless so many commands were done.
+// Has the mounted tracer run what is asked, unless so many commands were done. Where the parked reads wait for some pipes, an emission by values looks at
+// these.
 #[inline(always)]
-fn run(mount: &mut Mount, limit: u64, asked: &Asked<'_>) -> Result<Reply, Refusal>
-    requires { limit ≤ most_done }
+fn run(
+    mount: &mut Mount,
+    watch: &Option<Watch>,
+    limit: u64,
+    asked: &Asked<'_>,
+) -> Result<Reply, Refusal>
+    requires limit { limit ≤ most_done }
+    requires covers { IfSome watch.now (Covers mount.old.files mount.old.parked) }
     ensures { (entries : List EntrySeen) → IsMounted (done_in entries) mount.old
         → IsCommanded limit (done_in entries) mount.old mount.new (request_after entries asked.now) result }
 {
     match asked {
         Asked::Command(command) => mount.call_within(limit, command),
-        Asked::Values(emission) => mount.call_values_within(limit, emission),
+        Asked::Values(emission) => match watch {
+            Some(watch) => mount.call_values_watched(limit, emission, watch),
+            None => mount.call_values_within(limit, emission),
+        },
     }
 }
 
@@ -93,6 +107,7 @@ impl LiveMount {
         let mount = Mount::new(alloc, config, owners)?;
         Ok(LiveMount {
             mount,
+            watch: None,
             limit,
             past: nothing_done(),
         })
@@ -109,7 +124,7 @@ impl LiveMount {
         ensures next { IsNext self.old.terms self.old.entries (DidCall (request_after self.old.entries asked.now) result) self.new.owes }
         ensures terms { self.new.terms ≡ self.old.terms }
     {
-        let answer = run(&mut self.mount, self.limit, asked);
+        let answer = run(&mut self.mount, &self.watch, self.limit, asked);
         self.past = with_call(&self.past, ticket, by, asked, &answer);
         answer
     }
@@ -129,6 +144,7 @@ impl LiveMount {
     {
         let before = Snapshot::of(&self.mount);
         self.mount.answer(asked, reply);
+        self.watch = self.mount.watch(); // A read may wait from now on.
         let exchange = Exchange {
             past: Snapshot::of(&self.past),
             before,
@@ -153,6 +169,7 @@ impl LiveMount {
     {
         let before = Snapshot::of(&self.mount);
         self.mount.tell_owed(reply);
+        self.watch = self.mount.watch();
         let exchange = Exchange {
             past: Snapshot::of(&self.past),
             before,

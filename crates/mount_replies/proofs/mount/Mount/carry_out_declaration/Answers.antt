@@ -1,4 +1,4 @@
-use Rattle.std.proofs.Common.{Ok, Err, sym}
+use Rattle.std.proofs.Common.{Ok, Err}
 use Rattle.tracer.specs.Lives.{most_done}
 use Rattle.tracer.proofs.Calls.{call-carried}
 use Rattle.mount_replies.specs.contracts.mount.Mount.{the_view}

@@ -1,4 +1,4 @@
-use Rattle.std.proofs.Common.{◌≡◌, Some, None, refl, rules, sym, ◌∙◌}
+use Rattle.std.proofs.Common.{◌≡◌, Some, None, refl, sym, ◌∙◌}
 use Rattle.trace_command.specs.Requests.{request_of}
 use Rattle.tracer_specification.specs.Settings.{declares}
 use Rattle.tracer.specs.Lives.{most_done}

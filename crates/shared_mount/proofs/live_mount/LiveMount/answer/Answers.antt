@@ -22,7 +22,7 @@ invariant_of-self c =
     exchange-stands c.self.inside.limit e c.self.inside.past.items c.self.inside.mount c.answer.new.self c.args.ticket c.args.by c.with_exchange-self-inside.result.items
     past c.of-before.ensures c.of-2.ensures (record { mounted = c.self.invariant.mounted; led = c.self.invariant.led })
     c.with_exchange-self-inside.ensures in
-    record { mounted = s.mounted; few = c.self.invariant.few; led = s.led }
+    record { mounted = s.mounted; few = c.self.invariant.few; covers = c.watch-self-inside.ensures; led = s.led }
 
 pub with_exchange-self-inside-requires : goal.with_exchange-self-inside-requires
 with_exchange-self-inside-requires c =

@@ -1,4 +1,5 @@
-use Rattle.std.proofs.Common.{subst}
+use Rattle.std.proofs.Common.{IfSome, subst}
+use Rattle.mount_replies.specs.Watches.{Covers}
 use Rattle.shared_mount.specs.AskedRequests.{request_after}
 use Rattle.shared_mount.specs.LiveMountSeen.{LiveMountSeen}
 use Rattle.shared_mount.specs.MountEntries.{DidCall}
@@ -13,7 +14,9 @@ invariant_of-self c =
     call-stands c.self.inside.limit entries c.self.inside.mount c.run-answer.new.mount (request_after entries c.args.asked.now) c.run-answer.result c.args.ticket c.args.by
     c.with_call-self-inside.result.items c.self.invariant.few (record { mounted = c.self.invariant.mounted; led = c.self.invariant.led })
     (c.run-answer.ensures entries c.self.invariant.mounted) c.with_call-self-inside.ensures in
-    record { mounted = s.mounted; few = c.self.invariant.few; led = s.led }
+    let is = c.run-answer.ensures entries c.self.invariant.mounted in
+    let covers : IfSome c.self.inside.watch (Covers c.run-answer.new.mount.files c.run-answer.new.mount.parked) = rw (is.files, is.parked) c.self.invariant.covers in
+    record { mounted = s.mounted; few = c.self.invariant.few; covers = covers; led = s.led }
 
 pub returns-clause-next : goal.returns-clause-next
 returns-clause-next c =
