@@ -1,0 +1,8 @@
+use Rattle.std.proofs.Common.{◌≡◌, ◌++◌, drop}
+use Rattle.std.specs.List.{flat_map}
+use Rattle.kernel_pages.specs.KernelFormats.{argument}
+use Rattle.kernel_pages.proofs.format.push_arguments.Given as goal
+
+-- what was written and what is left to write are all
+abbrev pub invariant-loop-field : goal.invariant-loop-field
+invariant-loop-field l = l.out.items ++ flat_map argument (drop l.field-index l.fields) ≡ l.initial.out.items ++ flat_map argument l.fields
