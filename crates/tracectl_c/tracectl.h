@@ -19,7 +19,7 @@
  *     cc -I PREFIX/include server.c PREFIX/lib/libtracectl.a -pthread
  *
  * The functions that a user calls are here, in tracectl.c and in tracectl_mount.c. Each tries until the call had its turn. What one try leaves, and its
- * status, is proved whatever was asked before it (crates/tracectl_c/src/lib.rt). Nothing checks the C side, so the proof holds only if these files, of
+ * status, is proved whatever was asked before it (crates/tracectl_c/src). Nothing checks the C side, so the proof holds only if these files, of
  * which that is said where they do it, and their caller uphold this:
  *
  *  - A handle is set to TRACECTL_CLOSED or TRACECTL_LEFT (all zeros) before it is first used. Only these functions change it, and it is not copied. That
@@ -443,7 +443,7 @@ TRACECTL_FUNCTION size_t tracectl_explain(tracectl_thread *thread, size_t from, 
     return length < room_length ? length : room_length;
 }
 
-/* How many commands were done by all threads. 0 if the call is refused. */
+/* How many commands were done by all threads, and by what was asked of the mount. 0 if the call is refused. */
 TRACECTL_FUNCTION uint64_t tracectl_entries(tracectl_thread *thread) {
     struct tracectl_mask mask = {0, 0};
     uint32_t tries = 0;
@@ -532,8 +532,8 @@ uint32_t tracectl_emit_here(tracectl_thread *thread, uint32_t event, const trace
  * tracectl_unmount, tracectl_close or `umount`. A thread of its own serves them, which takes one of the tracer's passes. What another program changes, as
  * `echo 1 > events/synthetic/tick/enable`, TRACECTL_EMIT heeds once that program's write has returned.
  *
- *  - Flags are 0, or TRACECTL_ALLOW_OTHER: other users get in, as far as the files' permissions (0750, of this process's user and group) let them. Others
- *    are refused with TRACECTL_BAD_VALUE.
+ *  - Flags are 0, or TRACECTL_ALLOW_OTHER: other users get in, as far as the files' permissions let them (0750, of the user and group that this process had
+ *    at tracectl_open). Others are refused with TRACECTL_BAD_VALUE.
  *  - It takes mount(2), and if this process has no right to that, the program fusermount3. What a program that ended has left on the folder is taken away.
  *  - A tracer has one mount at a time. Where something else is mounted on the folder, or it can't be, nothing changes: TRACECTL_FOLDER_BUSY and so on.
  *  - An emission makes no system call but where a read or a poll waits for it, and then one for all until the server has looked. (Where threads contend for
@@ -547,13 +547,16 @@ uint32_t tracectl_emit_here(tracectl_thread *thread, uint32_t event, const trace
  *  - A child has no mount, if fork made it, and began once a tracectl_open had returned: the calls of the tracer are refused with TRACECTL_FORKED, and it
  *    lets go of the device before fork returns in it, whatever other threads of its parent do then. A child that is made otherwise (vfork, clone) keeps
  *    the device until it ends or goes on by an exec. So if the parent is killed before, what asks the mount waits until then.
- *  - If the program closes descriptors that it did not open, as all but the first three, its mount ends, as if the server was killed. */
+ *  - If the program closes descriptors that it did not open, as all but the first three, its mount ends, as if the server was killed. What it opens then
+ *    under their numbers may be read, written and closed by the library.
+ *  - A thread is not cancelled (pthread_cancel) while it mounts, unmounts or closes. */
 uint32_t tracectl_mount(tracectl *tracer, const char *folder, uint32_t flags);
 
 enum { TRACECTL_ALLOW_OTHER = 1 };
 
 /* Takes the mount away, though programs have files of it open: these get errors from then on, and what waits in a read ends with one. What somebody else has
- * mounted on the folder since stays there. TRACECTL_NOT_MOUNTED: there is no mount. */
+ * mounted on the folder since stays there. Where the process has lost the right to unmount, as by setuid, the mount ends likewise, here and at `exit`, but
+ * leaves the folder with ENOTCONN. TRACECTL_NOT_MOUNTED: there is no mount. */
 uint32_t tracectl_unmount(tracectl *tracer);
 
 /* ---- Time. ---- */

@@ -22,6 +22,10 @@
 #include <sys/wait.h>
 #include <unistd.h>
 
+#ifndef STATX_ATTR_MOUNT_ROOT /* of linux/stat.h, which older systems don't have */
+#define STATX_ATTR_MOUNT_ROOT 0x2000
+#endif
+
 extern char **environ;
 
 enum { MOST_DEAD = 16, HELPERS_SOCKET = 3 };
@@ -29,8 +33,9 @@ enum { MOST_DEAD = 16, HELPERS_SOCKET = 3 };
 static const char DEVICE[] = "/dev/fuse", SOURCE[] = "#tracectl", HELPER[] = "fusermount3", SETTING[] = "_FUSE_COMMFD=3"; /* HELPERS_SOCKET */
 
 static pthread_mutex_t mounting = PTHREAD_ERRORCHECK_MUTEX_INITIALIZER_NP;
-static pthread_mutex_t devices = PTHREAD_MUTEX_INITIALIZER;
+static pthread_mutex_t devices = PTHREAD_ERRORCHECK_MUTEX_INITIALIZER_NP;
 static struct tracectl_mounted *all; /* of this process */
+static int cancels;                  /* whether the thread that has `mounting` could be cancelled before */
 
 /* ---- The program fusermount3, by which users mount who have no right to. ---- */
 
@@ -150,6 +155,16 @@ static void take_away(const char *folder) {
     if (umount2(folder, MNT_DETACH) && errno == EPERM) run_helper(words, -1);
 }
 
+/* Whether something is mounted on a folder, or it is `/`. A kernel before Linux 5.8 does not tell; then a folder of another file system than the one above
+ * it counts as mounted on. */
+static int is_taken(const char *folder, const struct stat *of, const struct stat *above) {
+    struct statx told;
+    if (of->st_dev == above->st_dev && of->st_ino == above->st_ino) return 1;
+    if (statx(AT_FDCWD, folder, AT_STATX_DONT_SYNC | AT_NO_AUTOMOUNT, 0, &told) || !(told.stx_attributes_mask & STATX_ATTR_MOUNT_ROOT))
+        return of->st_dev != above->st_dev;
+    return (told.stx_attributes & STATX_ATTR_MOUNT_ROOT) != 0;
+}
+
 /* Whether a folder can be mounted on: it is one, and nothing is mounted there. */
 static uint32_t check_folder(const char *folder) {
     struct stat of, above;
@@ -159,15 +174,15 @@ static uint32_t check_folder(const char *folder) {
     int is_folder = !stat(folder, &of) && S_ISDIR(of.st_mode) && !stat(parent, &above);
     free(parent);
     if (!is_folder) return TRACECTL_NO_FOLDER;
-    return of.st_dev != above.st_dev || of.st_ino == above.st_ino ? TRACECTL_FOLDER_BUSY : TRACECTL_DONE;
+    return is_taken(folder, &of, &above) ? TRACECTL_FOLDER_BUSY : TRACECTL_DONE;
 }
 
-/* Whether the kernel has the mount, and the server its device. */
+/* Whether the kernel has the mount, and the server its device. A fork of this thread may have the lock, if a handler of a signal that came then exits. */
 static int is_connected(const struct tracectl_mounted *mount) {
-    pthread_mutex_lock(&devices);
+    int is_locked = !pthread_mutex_lock(&devices);
     struct pollfd device = {mount->device, 0, 0};
     int is_connected = device.fd >= 0 && poll(&device, 1, 0) <= 0;
-    pthread_mutex_unlock(&devices);
+    if (is_locked) pthread_mutex_unlock(&devices);
     return is_connected;
 }
 
@@ -278,6 +293,16 @@ static uint32_t mount_anew(tracectl *tracer, const char *folder, uint32_t flags)
 
 /* ---- The process. ---- */
 
+/* Takes `mounting`, under which its thread is not cancelled: a thread that ended there would leave it locked, and each later fork waiting for `devices`. */
+static int has_failed_to_lock(int waits) {
+    int before;
+    pthread_setcancelstate(PTHREAD_CANCEL_DISABLE, &before);
+    int error = waits ? pthread_mutex_lock(&mounting) : pthread_mutex_trylock(&mounting);
+    if (error) pthread_setcancelstate(before, NULL);
+    else cancels = before;
+    return error;
+}
+
 static void before_fork(void) {
     pthread_mutex_lock(&devices);
 }
@@ -292,18 +317,17 @@ static void forget_all(void) {
     for (struct tracectl_mounted *mount = all; mount; mount = mount->next)
         if (mount->device >= 0) close(mount->device);
     all = NULL;
-    mounting = unlocked;
-    pthread_mutex_unlock(&devices);
+    mounting = devices = unlocked;
 }
 
 /* At exit. Within a call, from which a signal or malloc came here, nobody is awaited: the server perhaps waits for this thread. */
 static void unmount_all(void) {
     int waits = !tracectl_is_in_call();
-    if (waits ? pthread_mutex_lock(&mounting) : pthread_mutex_trylock(&mounting)) return;
+    if (has_failed_to_lock(waits)) return;
     while (waits && all) stop(all);
     for (struct tracectl_mounted *mount = all; mount; mount = mount->next)
         if (is_there(mount)) take_away(mount->folder);
-    pthread_mutex_unlock(&mounting);
+    tracectl_unlock_mounts();
 }
 
 int tracectl_heed_forks(void) {
@@ -322,13 +346,15 @@ static int heeds_exit(void) {
 uint32_t tracectl_lock_mounts(const tracectl *tracer) {
     uint32_t status = tracectl_check(tracer);
     if (status) return status;
-    if (pthread_mutex_lock(&mounting)) return TRACECTL_IN_CALL;
-    if ((status = tracectl_check(tracer))) pthread_mutex_unlock(&mounting);
+    if (has_failed_to_lock(1)) return TRACECTL_IN_CALL;
+    if ((status = tracectl_check(tracer))) tracectl_unlock_mounts();
     return status;
 }
 
 void tracectl_unlock_mounts(void) {
+    int before = cancels;
     pthread_mutex_unlock(&mounting);
+    pthread_setcancelstate(before, NULL);
 }
 
 int tracectl_end_mount(const tracectl *tracer) {

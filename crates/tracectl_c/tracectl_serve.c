@@ -19,7 +19,8 @@
 #include <unistd.h>
 
 /* Of linux/fuse.h, which not every system has. */
-enum { FUSE_SETATTR = 4, FUSE_MKDIR = 9, FUSE_RMDIR = 11, FUSE_OPEN = 14, FUSE_READ = 15, FUSE_WRITE = 16, FUSE_RELEASE = 18, FUSE_INTERRUPT = 36 };
+enum { FUSE_SETATTR = 4, FUSE_MKDIR = 9, FUSE_RMDIR = 11, FUSE_OPEN = 14, FUSE_READ = 15, FUSE_WRITE = 16, FUSE_RELEASE = 18 };
+enum { FUSE_INIT = 26, FUSE_INTERRUPT = 36 };
 
 struct in_header {
     uint32_t length, opcode;
@@ -184,9 +185,9 @@ static int may_change(uint32_t opcode) {
     return opcode == FUSE_WRITE || opcode == FUSE_OPEN || opcode == FUSE_SETATTR || opcode == FUSE_MKDIR || opcode == FUSE_RMDIR;
 }
 
-/* Whether a kernel heeds it if a request is refused. */
+/* Whether a kernel heeds it if a request is refused, and goes on. */
 static int can_be_refused(uint32_t opcode) {
-    return opcode != FUSE_RELEASE && opcode != FUSE_INTERRUPT;
+    return opcode != FUSE_INIT && opcode != FUSE_RELEASE && opcode != FUSE_INTERRUPT;
 }
 
 static void take_latest_mask(struct tracectl_mounted *mount) {

@@ -139,6 +139,33 @@ static void fork_while_mounting(const char *rest) {
     say_number(failed ? -1 : found);
 }
 
+static void *mount_until_cancelled(void *folder) {
+    for (;;) {
+        tracectl_mount(&tracer, folder, 0);
+        tracectl_unmount(&tracer);
+        pthread_testcancel();
+    }
+}
+
+/* Cancels a thread that mounts and unmounts, so many times: this thread can still unmount and fork. Tells whether there was no mount left. */
+static void cancel_while_mounting(const char *rest) {
+    char *folder;
+    long count = strtol(rest, &folder, 10);
+    uint32_t status = TRACECTL_NOT_MOUNTED;
+    for (long i = 0; status == TRACECTL_NOT_MOUNTED && i < count; i++) {
+        pthread_t mounter;
+        pthread_create(&mounter, NULL, mount_until_cancelled, folder + 1);
+        usleep((useconds_t)(i * 200));
+        pthread_cancel(mounter);
+        pthread_join(mounter, NULL);
+        status = tracectl_unmount(&tracer);
+        pid_t child = fork();
+        if (!child) _exit(0);
+        waitpid(child, NULL, 0);
+    }
+    say(status);
+}
+
 /* ---- Mounts. ---- */
 
 static void mount_on(const char *folder) { say(tracectl_mount(&tracer, folder, 0)); }
@@ -266,6 +293,21 @@ static void exit_in_call(const char *rest) {
     if (!tracectl_begin(&thread)) raise(SIGUSR1);
 }
 
+static int exits_in_fork;
+
+/* At the beginning of a fork, but after the library's own handler, which was registered later. */
+static void raise_in_fork(void) {
+    if (exits_in_fork) raise(SIGUSR1);
+}
+
+/* The signal comes while this thread forks. */
+static void exit_in_fork(const char *rest) {
+    (void)rest;
+    signal(SIGUSR1, interrupted);
+    exits_in_fork = 1;
+    if (!fork()) _exit(0);
+}
+
 static void go_on_as(const char *seconds) { execlp("sleep", "sleep", seconds, (char *)NULL); }
 
 /* Closes all descriptors but the first three, as who goes into the background may. */
@@ -343,10 +385,10 @@ static const struct {
 } WORDS[] = {
     {"mount", mount_on}, {"mount-by", mount_by}, {"unmount", unmount}, {"open-other", open_other}, {"mount-other", mount_other},
     {"close-other", close_other}, {"line", do_line_of_script}, {"emit", emit_marked}, {"each", set_each}, {"threads", emit_in_threads},
-    {"wanted", tell_wanted}, {"entries", tell_entries}, {"fork", have_child}, {"forks", fork_while_mounting}, {"often", mount_often},
-    {"without-memory", mount_without_memory}, {"apart", set_apart}, {"descriptors", tell_descriptors}, {"own", use_own}, {"race", race_all},
-    {"leave", tell_left}, {"join", tell_joined}, {"close", tell_closed}, {"open", open_with}, {"exec", go_on_as}, {"exit", end}, {"_exit", end_at_once},
-    {"exit-in-call", exit_in_call}, {"close-all", close_all}, {"kill", be_killed},
+    {"wanted", tell_wanted}, {"entries", tell_entries}, {"fork", have_child}, {"forks", fork_while_mounting}, {"cancels", cancel_while_mounting},
+    {"often", mount_often}, {"without-memory", mount_without_memory}, {"apart", set_apart}, {"descriptors", tell_descriptors}, {"own", use_own},
+    {"race", race_all}, {"leave", tell_left}, {"join", tell_joined}, {"close", tell_closed}, {"open", open_with}, {"exec", go_on_as}, {"exit", end},
+    {"_exit", end_at_once}, {"exit-in-call", exit_in_call}, {"exit-in-fork", exit_in_fork}, {"close-all", close_all}, {"kill", be_killed},
 };
 
 static void do_line(char *line) {
@@ -359,7 +401,7 @@ static void do_line(char *line) {
 
 int main(void) {
     char line[4096];
-    if (tracectl_open(&tracer, &settings) || tracectl_join(&tracer, &thread)) return 1;
+    if (pthread_atfork(raise_in_fork, NULL, NULL) || tracectl_open(&tracer, &settings) || tracectl_join(&tracer, &thread)) return 1;
     say(tracectl_line(&thread, declared, strlen(declared)));
     while (fgets(line, sizeof line, stdin)) {
         line[strcspn(line, "\n")] = 0;
