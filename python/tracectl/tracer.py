@@ -291,5 +291,5 @@ class Tracer:
         return decoded(self._ask("files"))
 
     def entries(self) -> int:
-        """How many commands were done, by all threads."""
+        """How many commands were done, by all threads and by what was asked of the mount."""
         return self._call("entries", result=c_uint64)

@@ -10,7 +10,7 @@ from types import SimpleNamespace
 import fuse
 from recording_cases.making import OPTIONS, PROGRAM, TICK, VERSION, Session, inject, records_of, recorded, recording, replay, replayed, server_of
 
-OTHER = "tracectl-mount 0.2.0, proved, commit ba9876543210"
+OTHER = "tracectl-mount 0.3.0, proved, commit ba9876543210"
 CUTS = 1_000
 CHANGED, REPLAYED = 1_000, 20
 SECONDS = 60
@@ -191,8 +191,8 @@ def other_versions():
         made = Session(folder)
         got = replayed(made.file, version=OTHER)
         assert got == (5, b"", ("tracectl-mount: %s was recorded by %s; this is %s\n" % (made.file, VERSION, OTHER)).encode()), got
-        assert replayed(made.file, version="tracectl-mount 0.3.0, proved").status == 5
-        for words, version in ((["--any-version"], OTHER), ([], VERSION.replace("proved", "unproved")), ([], "tracectl-mount 0.2.0, unproved")):
+        assert replayed(made.file, version="tracectl-mount 0.4.0, proved").status == 5
+        for words, version in ((["--any-version"], OTHER), ([], VERSION.replace("proved", "unproved")), ([], "tracectl-mount 0.3.0, unproved")):
             got = replayed(made.file, *words, version=version)
             assert got.status == 0 and b": as recorded; " in got.stdout and not got.stderr, got
         copied(made.file, made.folder / "other", ["--help"])

@@ -55,7 +55,7 @@ class Client:
         """Ends the pipe, and then, unless it ended by that, the program. Has its status."""
         put(self.folder + "tracing_on", "0\n")
         try:
-            return self.process.wait(3)
+            return self.process.wait(SECONDS)
         except subprocess.TimeoutExpired:
             return "it waits on"
 
