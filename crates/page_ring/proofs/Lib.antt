@@ -12,3 +12,4 @@ mod Readings
 mod Greedy
 mod Losses
 mod Counts
+mod CopyFacts

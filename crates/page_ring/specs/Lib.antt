@@ -15,6 +15,8 @@ pub mod Reads
 pub mod Unread
 pub mod Reading
 pub mod KeptRecords
+pub mod Copies
+pub mod RingCopies
 pub mod Laws
 pub mod Rows
 pub mod private

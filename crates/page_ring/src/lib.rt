@@ -11,8 +11,10 @@ mod kept_records;
 pub mod laws;
 mod page;
 mod pages;
+mod ring_copy;
 mod rings;
 
 pub use kept_records::KeptRecords;
+pub use ring_copy::RingCopy;
 pub use rings::{Kept, Put, Ring, RingStats};
 pub use trace_record::{Head, read_head, write_head};

@@ -78,6 +78,20 @@ impl Page {
         self.unread = 0;
     }
 
+    /// A page with the same number and the same unread records, and no more bytes than theirs. The only error is that memory is refused.
+    pub fn copy(&self, alloc: Global) -> Result<Page, AllocError>
+        ensures number { IfOk result (λ page. page.number ≡ self.now.number) }
+        ensures records { IfOk result (λ page. page.records ≡ self.now.records) }
+    {
+        Ok(Page {
+            number: self.number,
+            bytes: Vec::from_slice(alloc, &self.bytes[self.cursor..])?,
+            cursor: 0,
+            first: self.first,
+            unread: self.unread,
+        })
+    }
+
     /// The page's number.
     pub fn number(&self) -> u64
         ensures { result ≡ self.now.number }

@@ -1,9 +1,10 @@
 //! The pages of a ring: the reader page, the circle and the tail page. docs/RING.md has pictures.
 #![tactic(auto)]
 
-ghost use Rattle.std.specs.Prelude.{◌≡◌, ℕ, ◌+◌, ◌<◌, ◌≤◌, ◌^◌, [], ◌∷◌, ◌++◌, length, All, MatchOption, IfOk};
+ghost use Rattle.std.specs.Prelude.{◌≡◌, ℕ, ◌+◌, ◌<◌, ◌≤◌, ◌^◌, [], ◌∷◌, ◌++◌, length, flat_map, All, MatchOption, IfOk};
 ghost use Rattle.trace_record.specs.Record.{IsRecord};
 ghost use Rattle.page_ring.specs.Account.{is_reader_page};
+ghost use Rattle.page_ring.specs.Pages.{stored};
 ghost use Rattle.page_ring.specs.StoredPage.{empty_page};
 
 use crate::page::{Page, PageRecords, StoredRecord};
@@ -55,6 +56,18 @@ impl Pages {
             circle: VecDeque::with_capacity(alloc, pages as usize)?,
             tail: Page::new(alloc, page_bytes as usize)?,
             spare,
+        })
+    }
+
+    /// Pages with the same unread records, and no spare ones. The only error is that memory is refused.
+    pub fn copy(&self, alloc: Global) -> Result<Pages, AllocError>
+        ensures { IfOk result (λ copy. kept_in copy ≡ kept_in self.now) }
+    {
+        Ok(Pages {
+            reader: self.reader.copy(alloc)?,
+            circle: copied(alloc, &self.circle)?,
+            tail: self.tail.copy(alloc)?,
+            spare: VecDeque::new(alloc),
         })
     }
 
@@ -255,6 +268,17 @@ impl<'a> Unread<'a> {
             }
         }
     }
+}
+
+// Copies of pages in order.
+fn copied(alloc: Global, pages: &VecDeque<Page>) -> Result<VecDeque<Page>, AllocError>
+    ensures { IfOk result (λ copies. flat_map stored copies.items ≡ flat_map stored pages.now.items) }
+{
+    let mut copies = VecDeque::with_capacity(alloc, pages.len())?;
+    for page in pages.iter() {
+        copies.push_back(page.copy(alloc)?)?;
+    }
+    Ok(copies)
 }
 
 fn is_at(reader_page: Option<u64>, number: u64) -> bool

@@ -27,6 +27,7 @@ ghost use Rattle.std.specs.Option.{option_map};
 ghost use Rattle.trace_record.specs.Record.{IsRecord, timestamp};
 ghost use Rattle.page_ring.specs.Events as event;
 ghost use Rattle.page_ring.specs.Account.{put_answer, readings_of, stats_of, has_waiting, first, first_timestamp};
+ghost use Rattle.page_ring.specs.Copies.{copied_of};
 ghost use Rattle.page_ring.specs.Pages.{kept_in};
 ghost use Rattle.std.specs.List.{AllByRecursion};
 ghost use Rattle.page_ring.specs.Shown.{StandsFor, offered, most_offered};
@@ -34,6 +35,7 @@ ghost use Rattle.page_ring.specs.private.Step.{after_put, put_answer_shown, with
 
 use crate::kept_records::KeptRecords;
 use crate::pages::Pages;
+use crate::ring_copy::RingCopy;
 use std::alloc::{AllocError, Global};
 use std::marker::Model;
 use trace_record::timestamp;
@@ -332,6 +334,23 @@ impl Ring {
         ensures few { length result ≤ 2 ^ 32 }
     {
         KeptRecords::new(self.next, self.pages.unread())
+    }
+
+    /// A copy of what the ring shows, for a reader that lets go of the ring before it looks at the records. It takes memory for the bytes of the kept
+    /// records, at most those of the ring's pages. The only error is that memory is refused.
+    pub fn copy(&self, alloc: Global) -> Result<RingCopy, AllocError>
+        ensures { IfOk result (λ copy. (events : List event.Event) → StandsFor self.now events
+            → copy ≡ copied_of self.now.pages self.now.page_bytes events) }
+    {
+        self.copy_step(alloc)
+    }
+
+    fn copy_step(&self, alloc: Global) -> Result<RingCopy, AllocError>
+        ensures { IfOk result (λ copy. copy
+            ≡ record { stats = stats_shown self.now.shown; readings = readings_shown self.now.shown }) }
+    {
+        let pages = self.pages.copy(alloc)?;
+        Ok(RingCopy::new(self.stats_step(), self.next, pages))
     }
 
     /// Whether a record waits to be read: whether a consuming read would take one. Nothing is consumed.

@@ -7,3 +7,4 @@ pub mod TraceText
 pub mod Laws
 pub mod BufferText
 pub mod SnapshotText
+pub mod CopyText

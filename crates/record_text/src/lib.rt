@@ -14,10 +14,12 @@ mod record;
 mod snapshot;
 mod stats;
 mod trace;
+mod trace_copies;
 
 pub use declaration::declaration_text;
 pub use format::format_text;
 pub use pipe::pipe_text;
-pub use snapshot::snapshot_text;
+pub use snapshot::{copied_snapshot_text, snapshot_copy, snapshot_text};
 pub use stats::stats_text;
 pub use trace::trace_text;
+pub use trace_copies::{CpuCopy, TraceCopy, trace_copy};

@@ -1,8 +1,8 @@
 //! The `trace` file: its head, and a line for each record that is kept.
 //!
-//! The text is built in one vector, which becomes the reply. A record's bytes are read where the ring keeps them.
+//! The records are copied first, and the text is made of the copy (trace_copies.rt). It is built in one vector, which becomes the reply.
 
-ghost use Rattle.std.specs.Prelude.{◌≡◌, ◌+◌, ◌*◌, ◌^◌, ◌<◌, ◌≤◌, ◌++◌, List, map, IfOk, IfSome, OnOk};
+ghost use Rattle.std.specs.Prelude.{◌≡◌, ◌<◌, ◌++◌, List, map, IfOk, IfSome, OnOk};
 ghost use Rattle.std.specs.List.{flat_map};
 ghost use Rattle.page_ring.specs.Events.{Event};
 ghost use Rattle.page_ring.specs.Account.{Reading};
@@ -15,6 +15,7 @@ ghost use Rattle.record_text.specs.TraceText as texts;
 
 use crate::append::{push, push_number, push_with_number};
 use crate::record::push_record_line;
+use crate::trace_copies::trace_copy;
 use page_ring::{Kept, KeptRecords};
 use std::alloc::{AllocError, Global};
 use trace_buffer::Buffer;
@@ -49,34 +50,8 @@ pub(crate) fn push_trace_head(
     push(out, b"\n#\n")
 }
 
-/// How many records the rings keep, and how many were lost to overwriting.
-#[derive(Clone, Copy)]
-struct Counts {
-    kept: u128,
-    overrun: u128,
-}
-
-/// The counts of all CPUs.
-fn counts_of_all(buffer: &Buffer) -> Counts
-    ensures kept { (family : List (List Event)) → StandsFor buffer.now family
-        → result.kept ≡ files.entries_of_all buffer.now.pages buffer.now.page_bytes family }
-    ensures overrun { (family : List (List Event)) → StandsFor buffer.now family
-        → result.overrun ≡ files.overrun_of_all buffer.now.pages buffer.now.page_bytes family }
-    ensures small { (result.kept ≤ 8 * 2 ^ 64) × (result.overrun ≤ 8 * 2 ^ 64) }
-{
-    let cpus = buffer.cpus();
-    let mut kept = 0;
-    let mut overrun = 0;
-    for cpu in 0..cpus {
-        let counts = buffer.stats(cpu);
-        kept += u128::from(counts.entries);
-        overrun += u128::from(counts.overrun);
-    }
-    Counts { kept, overrun }
-}
-
 /// Appends the lines of records of several CPUs.
-fn push_merged(
+pub(crate) fn push_merged(
     out: &mut Vec<u8>,
     catalog: &Catalog,
     records: &[(u32, Kept<'_>)],
@@ -91,7 +66,7 @@ fn push_merged(
 }
 
 /// Appends the lines of records of one CPU.
-fn push_kept(
+pub(crate) fn push_kept(
     out: &mut Vec<u8>,
     catalog: &Catalog,
     cpu: u32,
@@ -104,42 +79,6 @@ fn push_kept(
         push_record_line(out, catalog, cpu, kept.rec)?;
     }
     Ok(())
-}
-
-/// Appends the trace of all CPUs.
-fn push_trace_of_all(
-    out: &mut Vec<u8>,
-    catalog: &Catalog,
-    buffer: &Buffer,
-) -> Result<(), AllocError>
-    ensures { OnOk result ((family : List (List Event)) → StandsFor buffer.now family
-        → out.new.items ≡ out.old.items
-        ++ files.trace_text catalog.now buffer.now.pages buffer.now.page_bytes family None) }
-{
-    let counts = counts_of_all(buffer);
-    let written = counts.kept + counts.overrun;
-    push_trace_head(out, counts.kept, written, buffer.cpus())?;
-    let records = buffer.merged()?;
-    push_merged(out, catalog, &records)
-}
-
-/// Appends the trace of one CPU.
-fn push_trace_of_cpu(
-    out: &mut Vec<u8>,
-    catalog: &Catalog,
-    buffer: &Buffer,
-    cpu: u32,
-) -> Result<(), AllocError>
-    requires { cpu < seen.cpus buffer.now }
-    ensures { OnOk result ((family : List (List Event)) → StandsFor buffer.now family
-        → out.new.items ≡ out.old.items
-        ++ files.trace_text catalog.now buffer.now.pages buffer.now.page_bytes family (Some cpu)) }
-{
-    let stats = buffer.stats(cpu);
-    let kept = u128::from(stats.entries);
-    let written = kept + u128::from(stats.overrun);
-    push_trace_head(out, kept, written, buffer.cpus())?;
-    push_kept(out, catalog, cpu, buffer.cpu_kept(cpu))
 }
 
 /// What `trace` shows of all CPUs, or `per_cpu/cpuN/trace` of one ("The File System" and "Output format" of ftrace.rst): the head,
@@ -155,10 +94,5 @@ pub fn trace_text(
     ensures { IfOk result (λ text. (family : List (List Event)) → StandsFor buffer.now family
         → text ≡ files.trace_text catalog.now buffer.now.pages buffer.now.page_bytes family cpu) }
 {
-    let mut text = Vec::new(alloc);
-    match cpu {
-        Some(cpu) => push_trace_of_cpu(&mut text, catalog, buffer, cpu)?,
-        None => push_trace_of_all(&mut text, catalog, buffer)?,
-    }
-    Ok(Text::from(text))
+    trace_copy(buffer, cpu)?.text(alloc, catalog)
 }

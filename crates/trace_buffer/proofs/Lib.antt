@@ -10,3 +10,4 @@ pub mod EachCpu
 pub mod OneCpu
 pub mod Bounds
 mod Waiting
+pub mod CopiesFacts

@@ -8,6 +8,7 @@ use Rattle.page_ring.specs.Events.{Event}
 use Rattle.trace_buffer.specs.Buffers.{Seen, StandsFor, cpus}
 use Rattle.trace_buffer.specs.Families.{CpuReading, on_cpu, events_of, any_has_waiting, cpu_has_waiting, cpu_readings, kept_count}
 use Rattle.trace_buffer.specs.Orders.{kept_from, merged, consume_any, taken_of_cpu, after_cpu_reads}
+use Rattle.trace_buffer.specs.Copies.{copies_of, copied_count, merged_copies}
 use Rattle.trace_buffer.specs.CpuCounts.{after_reads_of_each, count_of}
 
 -- a buffer stands for one list of events for each CPU
@@ -37,6 +38,18 @@ MergedIsInTimeOrder =
 -- there is one such list
 abbrev pub OneTimeOrder : Type 0
 OneTimeOrder = (all shown other : List CpuReading) → IsInTimeOrder all shown → IsInTimeOrder all other → other ≡ shown
+
+-- ---- copies
+
+-- a copy has as many records as the rings keep
+abbrev pub CopiesCountTheSame : Type 0
+CopiesCountTheSame =
+    (pages page_bytes : ℕ) (family : List (List Event)) → copied_count (copies_of pages page_bytes family) ≡ kept_count pages page_bytes family
+
+-- and they are the same by timestamp
+abbrev pub CopiesMergeTheSame : Type 0
+CopiesMergeTheSame =
+    (pages page_bytes : ℕ) (family : List (List Event)) → merged_copies (copies_of pages page_bytes family) ≡ merged pages page_bytes family
 
 -- ---- pipe order
 

@@ -1,5 +1,6 @@
 pub mod Families
 pub mod Orders
+pub mod Copies
 pub mod CpuCounts
 pub mod Buffers
 pub mod CpuReadings

@@ -5,7 +5,9 @@ ghost use Rattle.std.specs.Prelude.{◌≡◌, ℕ, ◌+◌, ◌<◌, ◌≤◌,
 ghost use Rattle.trace_record.specs.Record.{IsRecord};
 ghost use Rattle.page_ring.specs.Events as event;
 ghost use Rattle.page_ring.specs.Account.{put_answer, readings_of};
+ghost use Rattle.page_ring.specs.Copies.{copied_of};
 ghost use Rattle.page_ring.specs.Shown as shown;
+ghost use Rattle.trace_buffer.specs.Copies.{copies_of};
 ghost use Rattle.trace_buffer.specs.Families.{events_of, with_events, with_cleared, all_cleared, any_has_waiting, cpu_has_waiting, cpu_readings, cpu_stats, kept_count};
 ghost use Rattle.trace_buffer.specs.Orders as orders;
 ghost use Rattle.trace_buffer.specs.CpuCounts.{after_reads_of_each};
@@ -15,11 +17,12 @@ ghost use Rattle.trace_buffer.specs.CpuReadings.{kept_reading, taken_reading};
 ghost use Rattle.trace_buffer.specs.private.Nexts.{next_of};
 
 use crate::CPUS;
+use crate::buffer_copy::BufferCopy;
 use crate::cursor::{Cursor, read_in_order};
 use crate::merge::{push_kept, sort_by_time};
 use crate::taken::{Taken, push_taken};
 use crate::times::{Next, sooner};
-use page_ring::{Kept, KeptRecords, Put, Ring, RingStats};
+use page_ring::{Kept, KeptRecords, Put, Ring, RingCopy, RingStats};
 use std::alloc::{AllocError, Global};
 use std::marker::Model;
 
@@ -124,6 +127,28 @@ impl Buffer {
         ensures few { length result ≤ 2 ^ 32 }
     {
         self.ring(cpu).kept()
+    }
+
+    /// A copy of what the rings show, for a reader that lets go of the buffer before it looks at the records. It takes memory for the bytes of the kept
+    /// records, at most those of the rings' pages. The only error is that memory is refused.
+    pub fn copy(&self) -> Result<BufferCopy, AllocError>
+        ensures { IfOk result (λ copy. (family : List (List event.Event)) → StandsFor self.now family
+            → copy ≡ copies_of self.now.pages self.now.page_bytes family) }
+    {
+        let mut rings = Vec::with_capacity(self.alloc, self.rings.len())?;
+        for cpu in 0..self.cpus() {
+            rings.push(self.copy_cpu(cpu)?)?;
+        }
+        Ok(BufferCopy::new(rings))
+    }
+
+    /// A copy of what a CPU's ring shows. The only error is that memory is refused.
+    pub fn copy_cpu(&self, cpu: u32) -> Result<RingCopy, AllocError>
+        requires { cpu < seen.cpus self.now }
+        ensures { IfOk result (λ copy. (family : List (List event.Event)) → StandsFor self.now family
+            → copy ≡ copied_of self.now.pages self.now.page_bytes (events_of family cpu)) }
+    {
+        self.ring(cpu).copy(self.alloc)
     }
 
     /// Whether a record waits to be read in some ring: whether a consuming read of all CPUs would take one. Nothing is consumed.

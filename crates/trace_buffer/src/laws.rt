@@ -2,7 +2,7 @@
 //! contract is a theorem.
 #![tactic(auto)]
 
-ghost use Rattle.trace_buffer.specs.Laws.{OneListEach, AllAreByCpu, MergedIsInTimeOrder, OneTimeOrder, EachReadTakesEarliest, ReadsConsumeWhatTheyTake, CpuReadsConsumeWhatTheyTake, OtherCpusStay, ReadsOfEachLeaveTheSame, ReadsTakeSoMany, CpuReadsTakeSoMany, WaitingIsRead, CpuWaitingIsRead};
+ghost use Rattle.trace_buffer.specs.Laws.{OneListEach, AllAreByCpu, MergedIsInTimeOrder, OneTimeOrder, CopiesCountTheSame, CopiesMergeTheSame, EachReadTakesEarliest, ReadsConsumeWhatTheyTake, CpuReadsConsumeWhatTheyTake, OtherCpusStay, ReadsOfEachLeaveTheSame, ReadsTakeSoMany, CpuReadsTakeSoMany, WaitingIsRead, CpuWaitingIsRead};
 
 /// A buffer stands for one list of events for each CPU.
 pub fn one_list_each()
@@ -15,6 +15,12 @@ pub fn merged_is_in_time_order()
     ensures all { AllAreByCpu }
     ensures merged { MergedIsInTimeOrder }
     ensures only { OneTimeOrder }
+{}
+
+/// A copy shows what the buffer showed: as many records, and the same ones by timestamp.
+pub fn copies_show_the_same()
+    ensures count { CopiesCountTheSame }
+    ensures merged { CopiesMergeTheSame }
 {}
 
 /// A consuming read of all CPUs takes the first record of a ring; no ring's first record was earlier, and those of lower CPUs were later.

@@ -8,6 +8,7 @@
 #![tactic(auto)]
 
 mod buffer;
+mod buffer_copy;
 mod cursor;
 pub mod laws;
 mod merge;
@@ -15,6 +16,7 @@ mod taken;
 mod times;
 
 pub use buffer::Buffer;
+pub use buffer_copy::BufferCopy;
 pub use taken::{Taken, count_each};
 
 /// How many CPUs a buffer may have.

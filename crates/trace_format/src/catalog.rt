@@ -1,12 +1,12 @@
 //! The declared events.
 
-ghost use Rattle.std.specs.Prelude.{◌≡◌, ◌≤◌, List, ℕ, [], ◌∷◌, ◌++◌, OnOk, OnErr, IfSome, Some, length, map, option_copied, option_map, ◌==◌};
+ghost use Rattle.std.specs.Prelude.{◌≡◌, ◌<◌, ◌≤◌, slice_index_or, List, ℕ, [], ◌∷◌, ◌++◌, IfOk, OnOk, OnErr, IfSome, Some, length, map, option_copied, option_map, ◌==◌};
 
 use crate::event::EventDef;
 use crate::fault::CatalogFault;
 use crate::sizes::record_size;
 use indexmap::IndexMap;
-use std::alloc::Global;
+use std::alloc::{AllocError, Global};
 use std::marker::Model;
 
 /// An event has at most so many fields.
@@ -87,6 +87,20 @@ impl Catalog {
         Ok(id)
     }
 
+    /// A catalog with the same events. An error is that memory is refused.
+    pub fn copy(&self) -> Result<Catalog, AllocError>
+        ensures { IfOk result (λ copy. copy ≡ self.now) }
+    {
+        let mut copy = Catalog::new(self.alloc);
+        for index in 0..self.len() {
+            let event = event_at(self, index).copy(self.alloc)?;
+            if copy.add(event, usize::MAX).is_err() {
+                return Err(AllocError);
+            }
+        }
+        Ok(copy)
+    }
+
     /// The number of the event of a name, by its index in the table and without a scan of all events.
     pub fn find(&self, name: &[u8]) -> Option<u16>
         ensures id { result ≡ id_of self.now name.now }
@@ -128,4 +142,13 @@ impl Catalog {
     {
         self.events.is_empty()
     }
+}
+
+// The event at this index.
+fn event_at(catalog: &Catalog, index: usize) -> &EventDef
+    requires inside { index < length catalog.now }
+    requires few { length catalog.now ≤ 64 }
+    ensures { result.now ≡ slice_index_or catalog.now index result.now }
+{
+    catalog.def(index as u16 + 1).unwrap()
 }

@@ -7,7 +7,7 @@ use crate::fault::DefinitionFault;
 use crate::kind::Kind;
 use crate::reader::Reader;
 use crate::words::next_word;
-use std::alloc::Global;
+use std::alloc::{AllocError, Global};
 use std::marker::Model;
 use trace_lex::Text;
 
@@ -92,6 +92,17 @@ impl EventDef {
         }
     }
 
+    /// The same event. The only error is that memory is refused.
+    pub fn copy(&self, alloc: Global) -> Result<EventDef, AllocError>
+        ensures { IfOk result (λ event. event ≡ self.now) }
+    {
+        Ok(EventDef {
+            name: Text::from_slice(alloc, self.name.as_bytes())?,
+            fields: copied(alloc, &self.fields)?,
+            payload_size: self.payload_size,
+        })
+    }
+
     /// The event's name.
     pub fn name(&self) -> &[u8]
         ensures { result.now ≡ self.now.name }
@@ -114,6 +125,20 @@ impl EventDef {
     {
         self.payload_size
     }
+}
+
+/// The same fields.
+fn copied(alloc: Global, fields: &[Field]) -> Result<Vec<Field>, AllocError>
+    ensures { IfOk result (λ copies. copies.items ≡ fields.now) }
+{
+    let mut copies = Vec::with_capacity(alloc, fields.len())?;
+    for field in fields {
+        copies.push(Field {
+            name: Text::from_slice(alloc, field.name.as_bytes())?,
+            kind: field.kind,
+        })?;
+    }
+    Ok(copies)
 }
 
 /// How many bytes a payload of fields takes, if they are at most 16.
