@@ -29,3 +29,4 @@ pub mod Filtering
 pub mod UsableInstance
 pub mod TriggerLists
 pub mod TakingNone
+mod LateReads

@@ -8,6 +8,7 @@ pub mod Rows
 pub mod Deliveries
 pub mod Files
 pub mod FileAnswers
+pub mod LateReplies
 pub mod TriggerLists
 pub mod EventLists
 pub mod private

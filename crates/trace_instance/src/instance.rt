@@ -180,7 +180,7 @@ impl Instance {
     }
 
     /// The rings of the live side.
-    pub(crate) fn buffer(&self) -> &Buffer
+    pub fn buffer(&self) -> &Buffer
         ensures { result.now ≡ self.now.sides.live }
     {
         self.sides.live()

@@ -7,6 +7,7 @@ mod event;
 mod file;
 mod hists;
 mod instance;
+mod late_reply;
 mod plan;
 mod read;
 mod tables;
@@ -22,6 +23,7 @@ pub use change::{
 pub use file::{File, event_at};
 pub use hists::{AttachedHist, MOST_TRIGGERS, Passed};
 pub use instance::Instance;
+pub use late_reply::{Copied, LateReply, copy_file};
 pub use plan::{Plan, Touched};
 pub use read::{FileSource, Shown, declarations, read_file};
 pub use tables::Table;

@@ -1,5 +1,6 @@
 pub mod Limits
 pub mod Living
 pub mod Calls
+mod LateCalls
 pub mod BookAnswers
 mod LiveMasks

@@ -3,3 +3,4 @@ pub mod LiveSeen
 pub mod LiveFields
 pub mod LiveLaws
 pub mod LiveMasks
+pub mod LateReads

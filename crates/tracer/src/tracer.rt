@@ -16,11 +16,12 @@
 //! never looks at the command again: it makes a step of the state, and the first has shown that this is the step that the definitions give the command.
 //!
 //! The phases are public (`phases.rt`), for a caller that has something of its own to do between them, as a book writes its entry ahead. `ask.rt` has
-//! whole calls.
+//! whole calls, `late.rt` a read whose text is made after the call.
 //!
 //! No clause speaks of a history, since none is kept. Each holds for every list of requests of which `IsLive` held before the call.
 
 mod ask;
+mod late;
 mod phases;
 
 ghost use Rattle.std.specs.Prelude.{◌≡◌, ◌≢◌, ◌<◌, [], List, drop, length, is_some, IfOk, IfErr, IfSome, OnOk};
@@ -40,7 +41,7 @@ ghost use Rattle.tracer.specs.Lives.{IsLive, WasLedTo};
 use std::alloc::Global;
 use std::marker::Model;
 use trace_command::{Config, Refusal};
-use trace_format::EventDef;
+use trace_format::{Catalog, EventDef};
 use trace_instance::{Delivery, Instance, event_at};
 use tracer_state::{Named, State};
 
@@ -137,6 +138,14 @@ impl Tracer {
         ensures { (past : List Request) → IsLive self.now.config past self.now → result ≡ now_of past }
     {
         self.state.clock
+    }
+
+    /// The events, in order of declaration.
+    #[inline(always)]
+    pub fn catalog(&self) -> &Catalog
+        ensures { (past : List Request) → IsLive self.now.config past self.now → result.now ≡ declared_events past }
+    {
+        &self.state.catalog
     }
 
     /// The event at this index, from 0, in order of declaration; `None` beyond the last one.

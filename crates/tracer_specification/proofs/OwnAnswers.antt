@@ -51,7 +51,7 @@ IsOwn (Err refusals.Memory) = ⊥
 IsOwn (Err refusals.Worn) = ⊥
 IsOwn answered = Unit {0}
 
-either : (b : Bool) (x y : Result Reply Refusal) → IsOwn x → IsOwn y → IsOwn (if b then x else y)
+pub either : (b : Bool) (x y : Result Reply Refusal) → IsOwn x → IsOwn y → IsOwn (if b then x else y)
 either true x y p q = p
 either false x y p q = q
 
@@ -244,7 +244,7 @@ in_instance : (instance : Option (List ℕ)) (past : List Request) (answered : R
     → IsOwn (instance_answer instance past answered)
 in_instance instance past answered a = either (is_there instance past) _ _ a tt
 
-with_room : (g : Config) (past : List Request) (request : Request) → IsOwn (answer_with_room g past request)
+pub with_room : (g : Config) (past : List Request) (request : Request) → IsOwn (answer_with_room g past request)
 unfolding emission_answer
 with_room g past (Emission name cpu pid pairs) = either (nat_lt cpu g.cpus) _ _ (events (event_named name past) pairs) tt
 with_room g past (MakeInstance name) = made past name
@@ -254,7 +254,7 @@ with_room g past (WriteFile instance file append text) =
 with_room g past (ReadFile instance file limit) =
     in_instance instance past _ (on_file g past (read_answer g instance past limit) file (shown g instance past limit))
 
-unless_full_is : (limit count : ℕ) (r : Result Reply Refusal) → IsOwn r → IsOwn (unless_full limit count r)
+pub unless_full_is : (limit count : ℕ) (r : Result Reply Refusal) → IsOwn r → IsOwn (unless_full limit count r)
 unless_full_is limit count (Err refusal) a = a
 unless_full_is limit count (Ok reply) a = either (nat_lt count limit) _ _ a tt
 

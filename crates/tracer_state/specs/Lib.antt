@@ -2,5 +2,6 @@ pub mod AddressedRequests
 pub mod EventPlans
 pub mod WantedMasks
 pub mod States
+pub mod LateReads
 pub mod ValueEmissions
 pub mod private

@@ -3,6 +3,7 @@
 
 mod change;
 mod emission;
+mod late;
 mod make;
 mod plan;
 mod prepare;
@@ -15,5 +16,6 @@ mod wanted;
 
 pub use change::Change;
 pub use emission::ValuesEmission;
+pub use late::PreparedLate;
 pub use plan::EventPlan;
 pub use state::{Named, Prepared, State};

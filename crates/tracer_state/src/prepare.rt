@@ -152,7 +152,11 @@ impl State {
         }
     }
 
-    fn read_declarations(&self, alloc: Global, limit: Option<u64>) -> Result<Prepared, Refusal>
+    pub(crate) fn read_declarations(
+        &self,
+        alloc: Global,
+        limit: Option<u64>,
+    ) -> Result<Prepared, Refusal>
         requires { length self.now.catalog ≤ 64 }
         ensures { (g : Config) (past : List Request) (name : Option (List ℕ)) → StandsFor g self.now past → is_there name past ≡ true
             → IsPrepared g past (ReadFile name (Some paths.SyntheticEvents) limit) self.now result }

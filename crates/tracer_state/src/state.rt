@@ -63,7 +63,7 @@ impl Drop for Prepared {
 }
 
 impl Prepared {
-    fn into_parts(self) -> (Change, Reply)
+    pub(crate) fn into_parts(self) -> (Change, Reply)
         ensures { (result.0 ≡ self.change) × (result.1 ≡ self.reply) }
     {
         let Prepared { change, reply } = self;
