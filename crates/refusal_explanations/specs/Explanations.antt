@@ -2,23 +2,17 @@
 use Rattle.std.specs.Prelude.{◌≡◌, ℕ, List, [], Option, Some, None}
 use Rattle.trace_command.specs.Refusals.{name_of}
 use Rattle.trace_command.specs.declared.refusal.Refusal.{Refusal}
+use Rattle.trace_script.specs.Lines.{line_of}
 use Rattle.trace_script.specs.Rendering.{fault_name}
 use Rattle.trace_script.specs.declared.outcome.Outcome.{Outcome}
 use Rattle.trace_script.specs.declared.outcome.Outcome.TheVariants.{Replied, Refused, Fault}
-use Rattle.refusal_explanations.specs.Carets.{pair_offset, written_offset}
 use Rattle.refusal_explanations.specs.Layout.{shown}
-use Rattle.refusal_explanations.specs.Places.{blamed_pair, named_offset}
+use Rattle.refusal_explanations.specs.Places.{asked_command, refusal_place}
 
--- a caret is under the byte of what the line writes that a refusal names, or where the pair begins that it blames; if it does neither, and of a fault, the
--- caret is under any byte, or there is none
-abbrev pub IsUnderOne : List ℕ → Option ℕ → Option ℕ → Option ℕ → Type 0
-IsUnderOne line (Some at) pair caret = caret ≡ written_offset line at
-IsUnderOne line None (Some pair) caret = caret ≡ pair_offset line pair
-IsUnderOne line None None caret = Unit {0}
-
+-- of a refused line the caret is where its command is to blame, if it is anywhere; of a fault it is under any byte, or there is none
 abbrev pub IsUnder : List ℕ → Option Refusal → Option ℕ → Type 0
 IsUnder line None caret = Unit {0}
-IsUnder line (Some refusal) caret = IsUnderOne line (named_offset refusal) (blamed_pair refusal) caret
+IsUnder line (Some refusal) caret = caret ≡ refusal_place line (asked_command (line_of line)) refusal
 
 -- one explanation of the line of this number in the script of this name, by the name of this refusal, or of a fault
 pub record IsExplained (script : List ℕ) (number : ℕ) (line : List ℕ) (refusal : Option Refusal) (name text : List ℕ) : Type 0 where

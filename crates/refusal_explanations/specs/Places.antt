@@ -1,5 +1,5 @@
 -- Which byte of what is written, or which word of a line, is to blame for a refusal.
-use Rattle.std.specs.Prelude.{ℕ, ◌+◌, Bool, nat_lt, if◌then◌else◌, List, [], ◌∷◌, length, drop, codes, Option, Some, None, option_and_then, unwrap_or}
+use Rattle.std.specs.Prelude.{ℕ, ◌+◌, ◌-◌, Bool, nat_lt, if◌then◌else◌, List, [], ◌∷◌, length, drop, codes, slice_get, Option, Some, None, option_and_then, unwrap_or, Result, Ok}
 use Rattle.std.specs.List.{prefix_len}
 use Rattle.std.specs.Option.{option_or}
 use Rattle.std.specs.Str.{bytes_eq}
@@ -8,9 +8,14 @@ use Rattle.trace_trigger.specs.Frames.{is_unblank}
 use Rattle.trace_trigger.specs.TriggerTexts.{begins, word_of, after_word}
 use Rattle.trace_trigger.specs.declared.fault.TextCause.{TextCause}
 use Rattle.trace_trigger.specs.declared.fault.TextCause.TheVariants.{Kind, Count, AfterSnapshot, Condition, Filter}
+use Rattle.trace_command.specs.Commands.{Command}
+use Rattle.trace_command.specs.declared.command.CommandOf.TheVariants.{Emit, Mkdir, Write}
 use Rattle.trace_command.specs.declared.refusal.Refusal.{Refusal}
-use Rattle.trace_command.specs.declared.refusal.Refusal.TheVariants.{BadValue, BadTrigger, EventExists, BadDefinition, TooBig, FilterSyntax, NoSuchField, WrongOperator, HistSyntax, BadSize, TriggerExists, NoSuchTrigger, TooMany, Busy, BadRow}
-use Rattle.refusal_explanations.specs.Carets.{first_bare, word_at}
+use Rattle.trace_command.specs.declared.refusal.Refusal.TheVariants.{BadValue, BadTrigger, EventExists, BadDefinition, TooBig, FilterSyntax, NoSuchField, WrongOperator, HistSyntax, BadSize, TriggerExists, NoSuchTrigger, TooMany, Busy, NoSuchCpu, BadRow, HistoryFull, Memory, Worn}
+use Rattle.trace_script.specs.declared.fault.ScriptFault.{ScriptFault}
+use Rattle.trace_script.specs.declared.line.Line.{Line}
+use Rattle.trace_script.specs.declared.line.Line.TheVariants.{Ask}
+use Rattle.refusal_explanations.specs.Carets.{first_bare, pair_offset, starts_of, word_at, written_offset}
 
 -- ---- a trigger
 
@@ -104,3 +109,45 @@ blamed_word line (Some refusal) = option_and_then (word_at line) (blamed_pair re
 
 abbrev pub injection_offset : List ℕ → Option Refusal → ℕ
 injection_offset line refusal = unwrap_or (blamed_word line refusal) 0
+
+-- ---- a line of a script
+
+-- the command that a line asks for; of a line that asks for none, one that names no path
+abbrev pub asked_command : Result Line ScriptFault → Command
+asked_command (Ok (Ask command)) = command
+asked_command _ = Mkdir []
+
+-- where the last word begins, if there is one
+abbrev pub last_word : List ℕ → Option ℕ
+last_word line = slice_get (starts_of line) (length (starts_of line) - 1)
+
+-- of an emission its second word, if there is no such CPU, else the fourth, which is the event
+abbrev pub emission_place : List ℕ → Refusal → Option ℕ
+emission_place line NoSuchCpu = word_at line 1
+emission_place line _ = word_at line 3
+
+-- the byte of what is written that is to blame, if one is, else the last word, which is the path
+abbrev pub write_place : List ℕ → Option ℕ → Option ℕ
+write_place line (Some at) = written_offset line at
+write_place line None = last_word line
+
+abbrev pub command_place : List ℕ → Command → Refusal → Option ℕ
+command_place line (Emit event cpu pid pairs) refusal = emission_place line refusal
+command_place line (Write path append text) refusal = write_place line (other_offset text refusal)
+command_place line _ refusal = last_word line
+
+-- where it is wrong in the line of a command, if its refusal names neither an offset nor a pair; nowhere, if the tracer and not the line is to blame
+abbrev pub other_place : List ℕ → Command → Refusal → Option ℕ
+other_place line command HistoryFull = None
+other_place line command Memory = None
+other_place line command Worn = None
+other_place line command refusal = command_place line command refusal
+
+-- the offset that a refusal names, where the pair begins that it blames, or else where it is wrong otherwise
+abbrev pub place_by : List ℕ → Option ℕ → Option ℕ → Option ℕ → Option ℕ
+place_by line (Some at) pair other = written_offset line at
+place_by line None (Some pair) other = pair_offset line pair
+place_by line None None other = other
+
+abbrev pub refusal_place : List ℕ → Command → Refusal → Option ℕ
+refusal_place line command refusal = place_by line (named_offset refusal) (blamed_pair refusal) (other_place line command refusal)

@@ -1,9 +1,11 @@
 //! What is told of the lines of a script, one after the other.
 
-ghost use Rattle.std.specs.Prelude.{IfOk, None, Some};
+ghost use Rattle.std.specs.Prelude.{◌≡◌, IfOk, None, Some};
 ghost use Rattle.trace_command.specs.Refusals.{name_of as refusal_name};
+ghost use Rattle.trace_script.specs.Lines.{line_of};
 ghost use Rattle.trace_script.specs.Rendering.{fault_name};
 ghost use Rattle.refusal_explanations.specs.Explanations.{IsExplained, IsExplanation};
+ghost use Rattle.refusal_explanations.specs.Places.{asked_command};
 
 use crate::caret::starts;
 use crate::cut::{begins, last_part};
@@ -94,6 +96,7 @@ impl Explainer {
         command: &Command<'_>,
         refusal: &Refusal,
     ) -> Result<Vec<u8>, AllocError>
+        requires { command.now ≡ asked_command (line_of line.text.now) }
         ensures { IfOk result (λ text. IsExplained line.entry.script.now line.entry.number line.entry.text.now (Some refusal.now)
             (refusal_name refusal.now) text.items) }
     {

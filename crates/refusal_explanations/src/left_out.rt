@@ -85,7 +85,7 @@ pub const TRIGGERS: [(&[u8], &str); 7] = [
 ];
 
 /// Files: those of a mounted tracer, which scripts don't know, and those of a kernel alone.
-pub const FILES: [(&[u8], &str); 37] = [
+pub const FILES: [(&[u8], &str); 39] = [
     (b"inject", "only a mounted tracer has `inject`: use `emit`"),
     (
         b"set_event",
@@ -145,16 +145,18 @@ pub const FILES: [(&[u8], &str); 37] = [
         "only a mounted tracer has `tracing_thresh`",
     ),
     (
+        b"trace_pipe_raw",
+        "only a mounted tracer has `trace_pipe_raw`: read `trace_pipe`",
+    ),
+    (b"header_page", "only a mounted tracer has `header_page`"),
+    (b"header_event", "only a mounted tracer has `header_event`"),
+    (
         b"trace_marker",
         "`trace_marker` is left out: declare an event with a `char` field, and `emit` it",
     ),
     (
         b"trace_marker_raw",
         "`trace_marker_raw` is left out: declare an event, and `emit` it",
-    ),
-    (
-        b"trace_pipe_raw",
-        "`trace_pipe_raw` is left out: read `trace_pipe`",
     ),
     (
         b"snapshot_raw",

@@ -1,7 +1,6 @@
 //! Where in a line, or in what was to be written, it is wrong.
 
-ghost use Rattle.std.specs.Prelude.{◌≡◌, ◌≤◌, ◌<◌, ◌+◌, IfOk, IfSome, Some, length, option_copied};
-ghost use Rattle.refusal_explanations.specs.Explanations.{IsUnder};
+ghost use Rattle.std.specs.Prelude.{◌≡◌, ◌≤◌, ◌<◌, ◌+◌, IfOk, IfSome, length, option_copied};
 ghost use Rattle.refusal_explanations.specs.Places as places;
 
 use crate::caret::{first_bare, pair_offset, starts, word_at, written_offset};
@@ -160,7 +159,9 @@ fn other_place(
     line: &[u8],
     command: &Command<'_>,
     refusal: &Refusal,
-) -> Result<Option<usize>, AllocError> {
+) -> Result<Option<usize>, AllocError>
+    ensures { IfOk result (λ place. place ≡ places.other_place line.now command.now refusal.now) }
+{
     match (command, refusal) {
         (_, Refusal::HistoryFull | Refusal::Memory | Refusal::Worn) => Ok(None),
         (Command::Emit { .. }, Refusal::NoSuchCpu) => Ok(word_at(line, 1)),
@@ -173,7 +174,10 @@ fn other_place(
     }
 }
 
-fn last_word(alloc: Global, line: &[u8]) -> Result<Option<usize>, AllocError> {
+/// Where the last word of a line begins, if it has one.
+fn last_word(alloc: Global, line: &[u8]) -> Result<Option<usize>, AllocError>
+    ensures { IfOk result (λ place. place ≡ places.last_word line.now) }
+{
     Ok(starts(alloc, line)?.last().copied())
 }
 
@@ -184,7 +188,7 @@ pub(crate) fn refusal_offset(
     command: &Command<'_>,
     refusal: &Refusal,
 ) -> Result<Option<usize>, AllocError>
-    ensures { IfOk result (λ caret. IsUnder line.now (Some refusal.now) caret) }
+    ensures { IfOk result (λ place. place ≡ places.refusal_place line.now command.now refusal.now) }
 {
     match (named_offset(refusal), blamed_pair(refusal)) {
         (Some(at), _) => written_offset(alloc, line, at),

@@ -1,6 +1,8 @@
 //! What a command is about: its file, its path, its event, and what it writes.
 
-ghost use Rattle.std.specs.Prelude.{◌≡◌};
+ghost use Rattle.std.specs.Prelude.{◌≡◌, IfOk};
+ghost use Rattle.trace_script.specs.Lines.{line_of};
+ghost use Rattle.refusal_explanations.specs.Places.{asked_command};
 ghost use Rattle.refusal_explanations.specs.Words as words;
 
 use std::alloc::AllocError;
@@ -87,7 +89,9 @@ pub(crate) fn command_of<'a, 'p>(
     room: &'a mut LineRoom,
     pairs: &'p mut Vec<BorrowedPair<'a>>,
     line: &'a [u8],
-) -> Result<Command<'p>, AllocError> {
+) -> Result<Command<'p>, AllocError>
+    ensures { IfOk result (λ command. command ≡ asked_command (line_of line.now)) }
+{
     match prepare(room, pairs, line) {
         Ok(Line::Ask(command)) => Ok(command),
         Err(LineError::Memory) => Err(AllocError),
