@@ -15,7 +15,7 @@ own_folders = (refl, refl)
 
 pub inner_folders : InnerFolders
 unfolding line_of access_word
-inner_folders = (refl, refl, refl, refl, refl)
+inner_folders = (refl, refl, refl, refl, refl, refl, refl)
 
 pub names_of_tools : NamesOfTools
 names_of_tools = (refl, refl)

@@ -7,7 +7,7 @@ use Rattle.file_list.specs.FileTable.{file_row}
 use Rattle.file_list.specs.declared.access.Access.{Access}
 use Rattle.file_list.specs.declared.access.Access.TheVariants as access
 use Rattle.file_list.specs.declared.file.File.{File}
-use Rattle.file_list.specs.declared.file.File.TheVariants.{SyntheticEvents, OfInstance, SystemEnable, OfCpu, OfEvent, Inject, Tool, OfTop, CpuSize, EventId, ErrorLog}
+use Rattle.file_list.specs.declared.file.File.TheVariants.{SyntheticEvents, OfInstance, SystemEnable, OfCpu, OfEvent, Inject, Tool, OfTop, CpuSize, EventId, ErrorLog, Layout, RawPipe}
 use Rattle.file_list.specs.declared.file.FileKind.{FileKind}
 use Rattle.file_list.specs.declared.file.FileKind.TheVariants as kinds
 use Rattle.file_list.specs.declared.files.TheConstants.{FILES}
@@ -15,7 +15,8 @@ use Rattle.file_list.specs.declared.files.TheConstants.{FILES}
 abbrev pub access_of_file : File → Access
 access_of_file file = get_or (map (λ row. row.2) FILES) (file_row file) access.Read
 
--- a trace, which a write by `>` clears, a pipe, whose reads consume, the file that emits, one that commands do not know, or a text
+-- a trace, which a write by `>` clears, a pipe, whose reads consume and give lines or a binary page, the file that emits, one that a mount makes itself, or
+-- a text that a command reads
 abbrev pub kind_of_file : File → FileKind
 kind_of_file (OfInstance top.Trace) = kinds.Trace
 kind_of_file (OfInstance top.TracePipe) = kinds.Pipe
@@ -27,6 +28,9 @@ kind_of_file (OfTop file) = kinds.Tool
 kind_of_file (CpuSize cpu) = kinds.Tool
 kind_of_file (EventId event) = kinds.Tool
 kind_of_file ErrorLog = kinds.ErrorLog
+kind_of_file (Layout file) = kinds.Tool
+kind_of_file (RawPipe cpu) = kinds.RawPipe
+kind_of_file (OfEvent event per_event.Format) = kinds.Tool
 kind_of_file _ = kinds.Text
 
 -- whether a write of several lines is a command a line

@@ -7,15 +7,18 @@ use Rattle.trace_command.specs.contracts.file_name.EventFile.{the_type as event_
 use Rattle.trace_command.specs.contracts.file_name.TopFile.{the_type as top_type}
 use Rattle.trace_command.specs.declared.file_name.TopFile.{TopFile}
 use Rattle.trace_command.specs.declared.file_name.TopFile.TheVariants as top
+use Rattle.file_list.specs.contracts.files.LayoutFile.{the_type as layout_type}
 use Rattle.file_list.specs.contracts.files.ToolFile.{the_type as tool_type}
 use Rattle.file_list.specs.contracts.files.TopTool.{the_type as top_tool_type}
 use Rattle.file_list.specs.declared.file.File.{File}
-use Rattle.file_list.specs.declared.file.File.TheVariants.{SyntheticEvents, OfInstance, SystemEnable, OfCpu, OfEvent, Inject, Tool, OfTop, CpuSize, EventId, ErrorLog}
+use Rattle.file_list.specs.declared.file.File.TheVariants.{SyntheticEvents, OfInstance, SystemEnable, OfCpu, OfEvent, Inject, Tool, OfTop, CpuSize, EventId, ErrorLog, Layout, RawPipe}
+use Rattle.file_list.specs.declared.files.LayoutFile.{LayoutFile}
+use Rattle.file_list.specs.declared.files.LayoutFile.TheVariants as layouts
 use Rattle.file_list.specs.declared.files.Item.{Item}
 use Rattle.file_list.specs.declared.files.Item.TheVariants as items
-use Rattle.file_list.specs.declared.files.TheConstants.{CPU, EVENT, EVENTS, FILES, FOLDERS, OPTIONS, ROOT, SYNTHETIC}
+use Rattle.file_list.specs.declared.files.TheConstants.{CPU, EVENT, EVENTS, FILES, FOLDERS, FTRACE, FTRACE_PRINT, OPTIONS, ROOT, SYNTHETIC}
 use Rattle.file_list.specs.declared.folder.Folder.{Folder}
-use Rattle.file_list.specs.declared.folder.Folder.TheVariants.{Root, Instances, Options, PerCpu, Cpu, Events, Synthetic, Event}
+use Rattle.file_list.specs.declared.folder.Folder.TheVariants.{Root, Instances, Options, PerCpu, Cpu, Events, Synthetic, Event, Ftrace, FtracePrint}
 
 -- ---- rows
 
@@ -32,6 +35,8 @@ file_row (OfTop file) = 27 + tag_of top_tool_type file
 file_row (CpuSize cpu) = 32
 file_row (EventId event) = 33
 file_row ErrorLog = 34
+file_row (Layout file) = 35 + tag_of layout_type file
+file_row (RawPipe cpu) = 38
 
 abbrev pub folder_row : Folder → ℕ
 folder_row Root = 0
@@ -42,6 +47,8 @@ folder_row (Cpu cpu) = 4
 folder_row Events = 5
 folder_row Synthetic = 6
 folder_row (Event event) = 7
+folder_row Ftrace = 8
+folder_row FtracePrint = 9
 
 -- the file in a row, and the folder
 abbrev pub file_at : ℕ → Option File
@@ -66,6 +73,7 @@ file_index (OfEvent event file) = event
 file_index (Inject event) = event
 file_index (CpuSize cpu) = cpu
 file_index (EventId event) = event
+file_index (RawPipe cpu) = cpu
 file_index _ = 0
 
 abbrev pub folder_index : Folder → ℕ
@@ -80,6 +88,7 @@ file_of index (OfEvent event file) = OfEvent index file
 file_of index (Inject event) = Inject index
 file_of index (CpuSize cpu) = CpuSize index
 file_of index (EventId event) = EventId index
+file_of index (RawPipe cpu) = RawPipe index
 file_of index file = file
 
 abbrev pub folder_of : ℕ → Folder → Folder
@@ -95,6 +104,10 @@ top_file_parent top.EventsEnable = Events
 top_file_parent top.EventsFilter = Synthetic
 top_file_parent _ = Root
 
+abbrev pub layout_parent : LayoutFile → Folder
+layout_parent layouts.PrintFormat = FtracePrint
+layout_parent _ = Events
+
 abbrev pub file_parent : File → Folder
 file_parent SyntheticEvents = Root
 file_parent (OfInstance file) = top_file_parent file
@@ -107,11 +120,15 @@ file_parent (OfTop file) = Root
 file_parent (CpuSize cpu) = Cpu cpu
 file_parent (EventId event) = Event event
 file_parent ErrorLog = Root
+file_parent (Layout file) = layout_parent file
+file_parent (RawPipe cpu) = Cpu cpu
 
 abbrev pub folder_parent : Folder → Folder
 folder_parent (Cpu cpu) = PerCpu
 folder_parent Synthetic = Events
 folder_parent (Event event) = Synthetic
+folder_parent Ftrace = Events
+folder_parent FtracePrint = Ftrace
 folder_parent _ = Root
 
 -- ---- lists
@@ -136,6 +153,8 @@ items_of (Cpu cpu) is_top = CPU
 items_of Events is_top = EVENTS
 items_of Synthetic is_top = SYNTHETIC
 items_of (Event event) is_top = EVENT
+items_of Ftrace is_top = FTRACE
+items_of FtracePrint is_top = FTRACE_PRINT
 items_of _ is_top = []
 
 -- those that commands know
@@ -146,4 +165,6 @@ is_listed (OfTop file) = false
 is_listed (CpuSize cpu) = false
 is_listed (EventId event) = false
 is_listed ErrorLog = false
+is_listed (Layout file) = false
+is_listed (RawPipe cpu) = false
 is_listed _ = true

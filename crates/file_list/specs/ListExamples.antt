@@ -10,7 +10,7 @@ use Rattle.file_list.specs.declared.files.Item.{Item}
 use Rattle.file_list.specs.declared.files.Item.TheVariants as items
 use Rattle.file_list.specs.declared.files.ToolFile.TheVariants as tools
 use Rattle.file_list.specs.declared.files.TopTool.TheVariants as top_tools
-use Rattle.file_list.specs.declared.files.TheConstants.{CPU, EVENT, EVENTS, OPTIONS, ROOT, SYNTHETIC}
+use Rattle.file_list.specs.declared.files.TheConstants.{CPU, EVENT, EVENTS, FTRACE, FTRACE_PRINT, OPTIONS, ROOT, SYNTHETIC}
 
 -- with one CPU and the event `tick`
 abbrev pub AWholeList : Type 0
@@ -46,9 +46,11 @@ OwnFolders =
 abbrev pub InnerFolders : Type 0
 InnerFolders =
     (flat_map shown OPTIONS ≡ codes "rw overwrite\n")
-    × (flat_map shown EVENTS ≡ codes "rw enable\nsynthetic/\n")
+    × (flat_map shown EVENTS ≡ codes "rw enable\nsynthetic/\nftrace/\nr header_page\nr header_event\n")
+    × (flat_map shown FTRACE ≡ codes "print/\n")
+    × (flat_map shown FTRACE_PRINT ≡ codes "r format\n")
     × (flat_map shown SYNTHETIC ≡ codes "rw enable\nw filter\n")
-    × (flat_map shown CPU ≡ codes "r stats\nrw trace\nr trace_pipe\nrw buffer_size_kb\n")
+    × (flat_map shown CPU ≡ codes "r stats\nrw trace\nr trace_pipe\nrw buffer_size_kb\nr trace_pipe_raw\n")
     × (flat_map shown EVENT ≡ codes "r format\nrw enable\nrw filter\nrw trigger\nr hist\nw inject\nr id\n")
 
 -- which file has which name, of those that no command names

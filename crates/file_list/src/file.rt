@@ -5,7 +5,7 @@ ghost use Rattle.file_list.specs.FileKinds.{access_of_file, kind_of_file, takes_
 ghost use Rattle.file_list.specs.FileTable.{file_at, file_index, file_name, file_of, file_parent, is_listed};
 
 use crate::access::Access;
-use crate::files::{FILES, ToolFile, TopTool};
+use crate::files::{FILES, LayoutFile, ToolFile, TopTool};
 use crate::folder::Folder;
 use trace_command::{CpuFile, EventFile, TopFile};
 
@@ -34,6 +34,10 @@ pub enum File {
     EventId(u8),
     /// `error_log`: the last commands that were refused.
     ErrorLog,
+    /// A file that says how binary pages are laid out.
+    Layout(LayoutFile),
+    /// The file `trace_pipe_raw` of a CPU, by its number.
+    RawPipe(u8),
 }
 
 /// How a file is read and written.
@@ -45,9 +49,11 @@ pub enum FileKind {
     Trace,
     /// A read consumes records.
     Pipe,
+    /// A read consumes records, and gives them as a binary page.
+    RawPipe,
     /// A write emits an event.
     Inject,
-    /// One that tools ask for, and that commands don't know: read whole.
+    /// One that tools ask for, which a mount makes itself, so that no command reads it: read whole.
     Tool,
     /// The last commands that were refused: read whole, and cleared by opening it to be emptied.
     ErrorLog,
@@ -88,10 +94,12 @@ impl File {
             | File::Tool(_)
             | File::OfTop(_)
             | File::ErrorLog => Folder::Root,
-            File::OfCpu(cpu, _) | File::CpuSize(cpu) => Folder::Cpu(cpu),
+            File::OfCpu(cpu, _) | File::CpuSize(cpu) | File::RawPipe(cpu) => Folder::Cpu(cpu),
             File::OfEvent(event, _) | File::Inject(event) | File::EventId(event) => {
                 Folder::Event(event)
             }
+            File::Layout(LayoutFile::PrintFormat) => Folder::FtracePrint,
+            File::Layout(_) => Folder::Events,
         }
     }
 
@@ -100,14 +108,15 @@ impl File {
         ensures { result ≡ file_index self }
     {
         match self {
-            File::OfCpu(cpu, _) | File::CpuSize(cpu) => cpu,
+            File::OfCpu(cpu, _) | File::CpuSize(cpu) | File::RawPipe(cpu) => cpu,
             File::OfEvent(event, _) | File::Inject(event) | File::EventId(event) => event,
             File::SyntheticEvents
             | File::OfInstance(_)
             | File::SystemEnable
             | File::Tool(_)
             | File::OfTop(_)
-            | File::ErrorLog => 0,
+            | File::ErrorLog
+            | File::Layout(_) => 0,
         }
     }
 
@@ -121,12 +130,14 @@ impl File {
             File::Inject(_) => File::Inject(index),
             File::CpuSize(_) => File::CpuSize(index),
             File::EventId(_) => File::EventId(index),
+            File::RawPipe(_) => File::RawPipe(index),
             File::SyntheticEvents
             | File::OfInstance(_)
             | File::SystemEnable
             | File::Tool(_)
             | File::OfTop(_)
-            | File::ErrorLog => self,
+            | File::ErrorLog
+            | File::Layout(_) => self,
         }
     }
 
@@ -145,7 +156,9 @@ impl File {
             | File::OfTop(_)
             | File::CpuSize(_)
             | File::EventId(_)
-            | File::ErrorLog => false,
+            | File::ErrorLog
+            | File::Layout(_)
+            | File::RawPipe(_) => false,
         }
     }
 
@@ -159,9 +172,13 @@ impl File {
                 FileKind::Pipe
             }
             File::Inject(_) => FileKind::Inject,
-            File::Tool(_) | File::OfTop(_) | File::CpuSize(_) | File::EventId(_) => {
-                FileKind::Tool
-            }
+            File::RawPipe(_) => FileKind::RawPipe,
+            File::Tool(_)
+            | File::OfTop(_)
+            | File::CpuSize(_)
+            | File::EventId(_)
+            | File::Layout(_)
+            | File::OfEvent(_, EventFile::Format) => FileKind::Tool,
             File::ErrorLog => FileKind::ErrorLog,
             File::SyntheticEvents
             | File::OfInstance(_)

@@ -11,8 +11,8 @@ use crate::access::Access;
 use crate::access::Access::{Both, Read, Write};
 use crate::file::File;
 use crate::file::File::{
-    CpuSize, ErrorLog, EventId, Inject, OfCpu, OfEvent, OfInstance, OfTop, SyntheticEvents,
-    SystemEnable, Tool,
+    CpuSize, ErrorLog, EventId, Inject, Layout, OfCpu, OfEvent, OfInstance, OfTop, RawPipe,
+    SyntheticEvents, SystemEnable, Tool,
 };
 use crate::folder::Folder;
 use trace_command::{CpuFile, EventFile, TopFile};
@@ -53,6 +53,17 @@ pub enum TopTool {
     TracingThresh,
 }
 
+/// A file of each instance, below its `events`, that says how a ring's binary pages are laid out. Commands don't know it.
+#[derive(Clone, Copy)]
+pub enum LayoutFile {
+    /// `header_page`: where the time, the commit and the events of a page are.
+    HeaderPage,
+    /// `header_event`: the parts of an event's first word.
+    HeaderEvent,
+    /// `ftrace/print/format`: that of an event that Linux has itself.
+    PrintFormat,
+}
+
 /// What a folder always has: a folder or a file.
 #[derive(Clone, Copy)]
 pub enum Item {
@@ -61,7 +72,7 @@ pub enum Item {
 }
 
 /// The folders, and the names of those that have one of their own.
-pub const FOLDERS: [(Folder, &str); 8] = [
+pub const FOLDERS: [(Folder, &str); 10] = [
     (Folder::Root, ""),
     (Folder::Instances, "instances"),
     (Folder::Options, "options"),
@@ -70,10 +81,12 @@ pub const FOLDERS: [(Folder, &str); 8] = [
     (Folder::Events, "events"),
     (Folder::Synthetic, "synthetic"),
     (Folder::Event(0), ""),
+    (Folder::Ftrace, "ftrace"),
+    (Folder::FtracePrint, "print"),
 ];
 
 /// The files: the name of each, and how it can be used.
-pub const FILES: [(File, &str, Access); 35] = [
+pub const FILES: [(File, &str, Access); 39] = [
     (SyntheticEvents, "synthetic_events", Both),
     (OfInstance(TopFile::Trace), "trace", Both),
     (OfInstance(TopFile::TracePipe), "trace_pipe", Read),
@@ -113,6 +126,10 @@ pub const FILES: [(File, &str, Access); 35] = [
     (CpuSize(0), "buffer_size_kb", Both),
     (EventId(0), "id", Read),
     (ErrorLog, "error_log", Both),
+    (Layout(LayoutFile::HeaderPage), "header_page", Read),
+    (Layout(LayoutFile::HeaderEvent), "header_event", Read),
+    (Layout(LayoutFile::PrintFormat), "format", Read),
+    (RawPipe(0), "trace_pipe_raw", Read),
 ];
 
 /// What the mounted folder has. The folder of another instance has what is not of the top one alone.
@@ -145,10 +162,18 @@ pub const ROOT: [Item; 24] = [
 
 pub const OPTIONS: [Item; 1] = [Item::File(OfInstance(TopFile::Overwrite))];
 
-pub const EVENTS: [Item; 2] = [
+pub const EVENTS: [Item; 5] = [
     Item::File(OfInstance(TopFile::EventsEnable)),
     Item::Folder(Folder::Synthetic),
+    Item::Folder(Folder::Ftrace),
+    Item::File(Layout(LayoutFile::HeaderPage)),
+    Item::File(Layout(LayoutFile::HeaderEvent)),
 ];
+
+/// What `events/ftrace` has: the folder of an event that Linux has itself, and that clients of binary pages look for.
+pub const FTRACE: [Item; 1] = [Item::Folder(Folder::FtracePrint)];
+
+pub const FTRACE_PRINT: [Item; 1] = [Item::File(Layout(LayoutFile::PrintFormat))];
 
 /// What `events/synthetic` has before the folders of events.
 pub const SYNTHETIC: [Item; 2] = [
@@ -156,11 +181,12 @@ pub const SYNTHETIC: [Item; 2] = [
     Item::File(OfInstance(TopFile::EventsFilter)),
 ];
 
-pub const CPU: [Item; 4] = [
+pub const CPU: [Item; 5] = [
     Item::File(OfCpu(0, CpuFile::Stats)),
     Item::File(OfCpu(0, CpuFile::Trace)),
     Item::File(OfCpu(0, CpuFile::TracePipe)),
     Item::File(CpuSize(0)),
+    Item::File(RawPipe(0)),
 ];
 
 pub const EVENT: [Item; 7] = [
@@ -177,7 +203,7 @@ impl File {
     /// Its row in `FILES`.
     pub fn row(self) -> usize
         ensures row { result ≡ file_row self }
-        ensures bound { result < 35 }
+        ensures bound { result < 39 }
     {
         match self {
             File::SyntheticEvents => 0,
@@ -191,6 +217,8 @@ impl File {
             File::CpuSize(_) => 32,
             File::EventId(_) => 33,
             File::ErrorLog => 34,
+            File::Layout(file) => 35 + file as usize,
+            File::RawPipe(_) => 38,
         }
     }
 }
@@ -207,6 +235,8 @@ impl Folder {
             Folder::Events => &EVENTS,
             Folder::Synthetic => &SYNTHETIC,
             Folder::Event(_) => &EVENT,
+            Folder::Ftrace => &FTRACE,
+            Folder::FtracePrint => &FTRACE_PRINT,
             Folder::Instances | Folder::PerCpu => &[],
         }
     }

@@ -24,6 +24,10 @@ pub enum Folder {
     Synthetic,
     /// `events/synthetic/EVENT`, by the event's index.
     Event(u8),
+    /// `events/ftrace`.
+    Ftrace,
+    /// `events/ftrace/print`.
+    FtracePrint,
 }
 
 impl Folder {
@@ -33,8 +37,9 @@ impl Folder {
     {
         match self {
             Folder::Cpu(_) => Folder::PerCpu,
-            Folder::Synthetic => Folder::Events,
+            Folder::Synthetic | Folder::Ftrace => Folder::Events,
             Folder::Event(_) => Folder::Synthetic,
+            Folder::FtracePrint => Folder::Ftrace,
             Folder::Root | Folder::Instances | Folder::Options | Folder::PerCpu | Folder::Events =>
                 Folder::Root,
         }
@@ -52,14 +57,16 @@ impl Folder {
             | Folder::Options
             | Folder::PerCpu
             | Folder::Events
-            | Folder::Synthetic => 0,
+            | Folder::Synthetic
+            | Folder::Ftrace
+            | Folder::FtracePrint => 0,
         }
     }
 
     /// Its row in `FOLDERS`.
     pub fn row(self) -> usize
         ensures row { result ≡ folder_row self }
-        ensures bound { result < 8 }
+        ensures bound { result < 10 }
     {
         match self {
             Folder::Root => 0,
@@ -70,6 +77,8 @@ impl Folder {
             Folder::Events => 5,
             Folder::Synthetic => 6,
             Folder::Event(_) => 7,
+            Folder::Ftrace => 8,
+            Folder::FtracePrint => 9,
         }
     }
 
@@ -99,7 +108,9 @@ impl Folder {
             | Folder::Options
             | Folder::PerCpu
             | Folder::Events
-            | Folder::Synthetic => self,
+            | Folder::Synthetic
+            | Folder::Ftrace
+            | Folder::FtracePrint => self,
         }
     }
 }

@@ -11,6 +11,6 @@ mod names;
 
 pub use access::Access;
 pub use file::{File, FileKind};
-pub use files::{FILES, FOLDERS, Item, ToolFile, TopTool};
+pub use files::{FILES, FOLDERS, Item, LayoutFile, ToolFile, TopTool};
 pub use folder::Folder;
 pub use names::Names;

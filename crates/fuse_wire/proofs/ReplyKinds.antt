@@ -152,7 +152,7 @@ reply_in kind error body =
     if kind == 0 then replies.Error (errno_of (2 ^ 32 - error))
     else if kind == 1 then replies.Done
     else if kind == 2 then replies.Init (agreement_in body)
-    else if kind == 3 then replies.Entry (attributes_in (drop 40 body))
+    else if kind == 3 then replies.Entry (first_64 body) (attributes_in (drop 40 body))
     else if kind == 4 then replies.Attributes (attributes_in (drop 16 body))
     else if kind == 5 then replies.Opened (first_64 body) (first_32 (drop 8 body))
     else if kind == 6 then replies.Data body
@@ -166,15 +166,15 @@ reply_back replies.Done told = refl
 reply_back (replies.Init agreement) told =
     let are = written (init_out agreement) told.numbers in
     ap replies.Init (agreement_back agreement (bytes_of (init_out agreement)) are)
-reply_back (replies.Entry attributes) told =
-    let body = bytes_of (reply_body (replies.Entry attributes)) in
-    let node = long_at attributes.node _ body 0 8 refl (written (reply_body (replies.Entry attributes)) told.numbers) in
-    let generation = long_at 0 _ body 8 16 refl node.1 in
+reply_back (replies.Entry node attributes) told =
+    let body = bytes_of (reply_body (replies.Entry node attributes)) in
+    let named = long_at node _ body 0 8 refl (written (reply_body (replies.Entry node attributes)) told.numbers) in
+    let generation = long_at 0 _ body 8 16 refl named.1 in
     let entry_valid = long_at 0 _ body 16 24 refl generation.1 in
     let attr_valid = long_at 0 _ body 24 32 refl entry_valid.1 in
     let entry_nsec = number_at 0 _ body 32 36 refl attr_valid.1 in
     let attr_nsec = number_at 0 (attr attributes) body 36 40 refl entry_nsec.1 in
-    ap replies.Entry (attributes_back attributes (drop 40 body) told.permissions attr_nsec.1)
+    rw (named.0, attributes_back attributes (drop 40 body) told.permissions attr_nsec.1) refl
 reply_back (replies.Attributes attributes) told =
     let body = bytes_of (reply_body (replies.Attributes attributes)) in
     let attr_valid = long_at 0 _ body 0 8 refl (written (reply_body (replies.Attributes attributes)) told.numbers) in

@@ -51,7 +51,7 @@ abbrev pub kind_of : Reply → ℕ
 kind_of (replies.Error errno) = 0
 kind_of replies.Done = 1
 kind_of (replies.Init agreement) = 2
-kind_of (replies.Entry attributes) = 3
+kind_of (replies.Entry node attributes) = 3
 kind_of (replies.Attributes attributes) = 4
 kind_of (replies.Opened handle flags) = 5
 kind_of (replies.Data bytes) = 6
@@ -60,7 +60,7 @@ kind_of (replies.StatFs block_size name_length) = 8
 kind_of (replies.Poll events) = 9
 
 abbrev pub HasTwelveBits : Reply → Type 0
-HasTwelveBits (replies.Entry attributes) = attributes.permissions < 4096
+HasTwelveBits (replies.Entry node attributes) = attributes.permissions < 4096
 HasTwelveBits (replies.Attributes attributes) = attributes.permissions < 4096
 HasTwelveBits _ = Unit {0}
 

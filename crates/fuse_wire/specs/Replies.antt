@@ -60,7 +60,7 @@ reply_body (replies.Error errno) = []
 reply_body replies.Done = []
 reply_body (replies.Init init) = init_out init
 -- fuse_entry_out: nodeid, generation, entry_valid, attr_valid, entry_valid_nsec, attr_valid_nsec, attr
-reply_body (replies.Entry attributes) = U64 attributes.node ∷ U64 0 ∷ U64 0 ∷ U64 0 ∷ U32 0 ∷ U32 0 ∷ attr attributes
+reply_body (replies.Entry node attributes) = U64 node ∷ U64 0 ∷ U64 0 ∷ U64 0 ∷ U32 0 ∷ U32 0 ∷ attr attributes
 -- fuse_attr_out: attr_valid, attr_valid_nsec, dummy, attr
 reply_body (replies.Attributes attributes) = U64 0 ∷ U32 0 ∷ U32 0 ∷ attr attributes
 -- fuse_open_out: fh, open_flags, padding
@@ -105,7 +105,7 @@ abbrev pub reply_size : Reply → ℕ
 reply_size (replies.Error errno) = 16
 reply_size replies.Done = 16
 reply_size (replies.Init init) = 80
-reply_size (replies.Entry attributes) = 144
+reply_size (replies.Entry node attributes) = 144
 reply_size (replies.Attributes attributes) = 120
 reply_size (replies.Opened handle flags) = 32
 reply_size (replies.Data bytes) = 16 + length bytes

@@ -41,7 +41,7 @@ abbrev pub trace_attributes : Attributes
 trace_attributes = record { node = 2; size = 0; kind = Regular; permissions = 420; links = 1; uid = 0; gid = 0; block_size = 4096 }
 
 abbrev pub FoundTrace : Type 0
-FoundTrace = reply_bytes 16 (replies.Entry trace_attributes) ≡
+FoundTrace = reply_bytes 16 (replies.Entry trace_attributes.node trace_attributes) ≡
     144 ∷ 0 ∷ 0 ∷ 0 ∷ 0 ∷ 0 ∷ 0 ∷ 0
     ∷ 16 ∷ 0 ∷ 0 ∷ 0 ∷ 0 ∷ 0 ∷ 0 ∷ 0
     ∷ 2 ∷ 0 ∷ 0 ∷ 0 ∷ 0 ∷ 0 ∷ 0 ∷ 0

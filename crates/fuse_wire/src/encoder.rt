@@ -126,13 +126,18 @@ fn push_node(
     out.extend_from_slice(last.as_flattened())
 }
 
-fn push_entry(out: &mut Vec<u8>, unique: u64, attributes: &Attributes) -> Result<(), AllocError>
-    ensures ok { OnOk result (out.new.items ≡ out.old.items ++ reply_bytes unique (Reply.Entry attributes.now)) }
+fn push_entry(
+    out: &mut Vec<u8>,
+    unique: u64,
+    node: u64,
+    attributes: &Attributes,
+) -> Result<(), AllocError>
+    ensures ok { OnOk result (out.new.items ≡ out.old.items ++ reply_bytes unique (Reply.Entry node attributes.now)) }
     ensures len { OnOk result (vec_len out.new ≡ vec_len out.old + 144) }
     ensures full { OnErr result (vec_capacity out.old < vec_len out.old + 144) }
     ensures capacity { vec_capacity out.old ≤ vec_capacity out.new }
 {
-    let words = [word(attributes.node), word(0), word(0), word(0), pair(0, 0)];
+    let words = [word(node), word(0), word(0), word(0), pair(0, 0)];
     push_node(out, unique, &words, attributes)
 }
 
@@ -188,7 +193,7 @@ fn push_reply(unique: u64, reply: &Reply<'_>, out: &mut Vec<u8>) -> Result<(), A
         Reply::Error(errno) => push_message(out, errno.negated(), unique, &[]),
         Reply::Done => push_message(out, 0, unique, &[]),
         Reply::Init(agreement) => push_words(out, unique, &agreement_words(agreement)),
-        Reply::Entry(attributes) => push_entry(out, unique, attributes),
+        Reply::Entry { node, attributes } => push_entry(out, unique, *node, attributes),
         Reply::Attributes(attributes) => push_attributes(out, unique, attributes),
         Reply::Opened { handle, flags } => {
             push_words(out, unique, &[word(*handle), pair(*flags, 0)])

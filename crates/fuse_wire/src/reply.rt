@@ -26,8 +26,9 @@ pub enum Reply<'a> {
     /// It is done, and there is nothing more to tell.
     Done,
     Init(Agreement),
-    /// The node of the name that was looked up or made. The kernel is not to keep it, nor its attributes.
-    Entry(Attributes),
+    /// The node of the name that was looked up or made: the number by which it is asked for from now on, and its attributes, which have the number that
+    /// stat(2) shows. The kernel is not to keep either.
+    Entry { node: u64, attributes: Attributes },
     /// The attributes, which the kernel is not to keep.
     Attributes(Attributes),
     /// The number that names the opened file from now on, and flags (`FOPEN_..`).

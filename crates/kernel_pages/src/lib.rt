@@ -15,7 +15,7 @@ mod zeros;
 
 pub use format::{format_text, id_text};
 pub use headers::{header_event, header_page, print_format};
-pub use page::{Page, fill_page};
+pub use page::{PAGE_SIZE, Page, fill_page};
 pub use page_row::PageRow;
 pub use record::row_of_record;
 pub use taken::page_of_taken;

@@ -3,6 +3,7 @@
 ghost use Rattle.std.specs.Prelude.{◌≡◌, ℕ, ◌≤◌, ◌<◌, ◌++◌, take, length, slice_get, IfOk, IfSome, OnOk};
 ghost use Rattle.std.specs.Int.{w64, to_le_bytes};
 ghost use Rattle.kernel_pages.specs.Pages as pages;
+ghost use Rattle.kernel_pages.specs.Taking.{taken_of};
 
 use crate::event::push_events;
 use crate::page_row::PageRow;
@@ -101,6 +102,7 @@ fn page_of(alloc: Global, rows: &[PageRow]) -> Result<Vec<u8>, AllocError>
 /// records lost before them is told there.
 pub fn fill_page(alloc: Global, rows: &[PageRow]) -> Result<Page, AllocError>
     ensures bytes { IfOk result (λ page. page.bytes ≡ pages.page_of (take page.taken rows.now)) }
+    ensures taken { IfOk result (λ page. page.taken ≡ taken_of rows.now) }
     ensures rows { IfOk result (λ page. page.taken ≤ length rows.now) }
     ensures fits { IfOk result (λ page. pages.IsOnePage (take page.taken rows.now)) }
     // Nothing that fits is left out.

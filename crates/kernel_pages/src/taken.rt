@@ -4,6 +4,7 @@ ghost use Rattle.std.specs.Prelude.{◌≡◌, ℕ, ◌≤◌, ◌<◌, take, le
 ghost use Rattle.trace_buffer.specs.CpuReadings.{taken_reading};
 ghost use Rattle.kernel_pages.specs.Pages as pages;
 ghost use Rattle.kernel_pages.specs.Rows.{rows_of};
+ghost use Rattle.kernel_pages.specs.Taking.{taken_of};
 
 use crate::page::{Page, fill_page};
 use crate::page_row::PageRow;
@@ -38,6 +39,8 @@ pub fn page_of_taken(
 ) -> Result<Page, AllocError>
     ensures bytes { IfOk result (λ page. page.bytes
         ≡ pages.page_of (take page.taken (rows_of catalog.now (map taken_reading taken.now)))) }
+    ensures taken { IfOk result (λ page. page.taken
+        ≡ taken_of (rows_of catalog.now (map taken_reading taken.now))) }
     ensures rows { IfOk result (λ page. page.taken ≤ length taken.now) }
     ensures fits { IfOk result (λ page. pages.IsOnePage
         (take page.taken (rows_of catalog.now (map taken_reading taken.now)))) }

@@ -60,7 +60,7 @@ pub record TextExamples : Type 0 where
   -- what has a folder: not the event that is called as a file
   pub available : Shows Top (OfTop top_tools.AvailableEvents) (codes "synthetic:tick\nsynthetic:tock\n")
   pub not_there : HasNoText (Made 0) (OfTop top_tools.AvailableEvents)
-  pub id : Shows Top (EventId 2) (codes "3\n")
+  pub id : Shows Top (EventId 2) (codes "102\n")
   pub no_id : HasNoText Top (EventId 1)
   -- four pages of 4,080 bytes are 15 kilobytes and a rest
   pub size : Shows Top (Tool tools.BufferSizeKb) (codes "15\n")

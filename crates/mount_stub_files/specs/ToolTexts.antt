@@ -4,15 +4,23 @@ use Rattle.std.specs.Fmt.{decimal, digits}
 use Rattle.std.specs.List.{flat_map}
 use Rattle.trace_command.specs.Requests.{Request}
 use Rattle.trace_command.specs.declared.command.Config.{Config}
-use Rattle.tracer_specification.specs.Settings.{is_enabled}
+use Rattle.std.specs.Option.{option_map}
+use Rattle.trace_format.specs.Definitions.{Definition}
+use Rattle.trace_format.specs.Catalogs.{event_of}
+use Rattle.tracer_specification.specs.Settings.{declared_events, is_enabled}
+use Rattle.kernel_pages.specs.HeaderTexts.{header_event, header_page, print_format}
+use Rattle.kernel_pages.specs.KernelFormats.{format_text, id_text}
 use Rattle.mount_tree.specs.Children.{is_there}
 use Rattle.mount_tree.specs.NodePaths.{owner_name}
 use Rattle.mount_tree.specs.ScenesAfter.{events_after, scene_after}
 use Rattle.file_list.specs.declared.file.File.{File}
-use Rattle.file_list.specs.declared.file.File.TheVariants.{Tool, OfTop, CpuSize, EventId}
+use Rattle.file_list.specs.declared.file.File.TheVariants.{Tool, OfTop, OfEvent, CpuSize, EventId, Layout}
 use Rattle.mount_tree.specs.declared.node.Node.TheVariants as nodes
 use Rattle.mount_tree.specs.declared.node.Owner.{Owner}
 use Rattle.mount_tree.specs.declared.scene.Event.{Event}
+use Rattle.trace_command.specs.declared.file_name.EventFile.TheVariants as per_event
+use Rattle.file_list.specs.declared.files.LayoutFile.{LayoutFile}
+use Rattle.file_list.specs.declared.files.LayoutFile.TheVariants as layouts
 use Rattle.file_list.specs.declared.files.ToolFile.{ToolFile}
 use Rattle.file_list.specs.declared.files.ToolFile.TheVariants as tools
 use Rattle.file_list.specs.declared.files.TopTool.{TopTool}
@@ -86,12 +94,24 @@ top_tool_text past top_tools.SavedCmdlines = []
 top_tool_text past top_tools.PrintkFormats = []
 top_tool_text past top_tools.TracingThresh = codes "0\n"
 
+-- how binary pages are laid out
+abbrev pub layout_text : LayoutFile → List ℕ
+layout_text layouts.HeaderPage = header_page
+layout_text layouts.HeaderEvent = header_event
+layout_text layouts.PrintFormat = print_format
+
+-- `format` of the event at this index
+abbrev pub event_format : List Definition → ℕ → Option (List ℕ)
+event_format events event = option_map (format_text (event + 1)) (event_of events (event + 1))
+
 -- the number of an event is the one that its `format` shows
 abbrev pub text_there : Config → Option (List ℕ) → List Request → File → Option (List ℕ)
 text_there g instance past (Tool file) = Some (tool_file_text g instance past file)
 text_there g instance past (OfTop file) = Some (top_tool_text past file)
 text_there g instance past (CpuSize cpu) = Some (line (decimal (ring_kilobytes g)))
-text_there g instance past (EventId event) = Some (line (decimal (event + 1)))
+text_there g instance past (EventId event) = Some (id_text (event + 1))
+text_there g instance past (OfEvent event per_event.Format) = event_format (declared_events past) event
+text_there g instance past (Layout file) = Some (layout_text file)
 text_there g instance past _ = None
 
 -- what a file of an instance shows, if it is one of these and is there

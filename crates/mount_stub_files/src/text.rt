@@ -3,7 +3,7 @@
 ghost use Rattle.std.specs.Prelude.{◌≡◌, ◌++◌, List, Option, ℕ, is_some, true, false, IfOk, IfSome, OnOk};
 ghost use Rattle.std.specs.Fmt.{decimal};
 ghost use Rattle.trace_command.specs.Requests.{Request};
-ghost use Rattle.tracer_specification.specs.Settings.{is_there};
+ghost use Rattle.tracer_specification.specs.Settings.{declared_events, is_there};
 ghost use Rattle.trace_instance.specs.Instances.{InstanceStandsFor};
 ghost use Rattle.mount_tree.specs.Children.{owner_is_there};
 ghost use Rattle.mount_tree.specs.NodePaths.{owner_name};
@@ -13,9 +13,11 @@ ghost use Rattle.mount_stub_files.specs.private.Flags.{flagged_line, flagged_lin
 
 use crate::config::{cpu_mask, ring_kilobytes, total_kilobytes};
 use itoa::Buffer;
-use mount_tree::{Event, File, Node, Owner, Scene, ToolFile, TopTool};
+use kernel_pages::{format_text, header_event, header_page, id_text, print_format};
+use mount_tree::{Event, File, LayoutFile, Node, Owner, Scene, ToolFile, TopTool};
 use std::alloc::{AllocError, Global};
-use trace_command::Config;
+use trace_command::{Config, EventFile};
+use trace_format::Catalog;
 use trace_instance::Instance;
 use trace_lex::Text;
 
@@ -152,22 +154,48 @@ fn top_tool_text(alloc: Global, scene: &Scene, file: TopTool) -> Result<Text, Al
     }
 }
 
+/// What a file shows that says how binary pages are laid out.
+fn layout_text(file: LayoutFile) -> &'static [u8]
+    ensures { result.now ≡ texts.layout_text file }
+{
+    match file {
+        LayoutFile::HeaderPage => header_page(),
+        LayoutFile::HeaderEvent => header_event(),
+        LayoutFile::PrintFormat => print_format(),
+    }
+}
+
+/// What `format` of the event at this index shows, if there is one.
+fn event_format(alloc: Global, catalog: &Catalog, event: u8) -> Result<Option<Text>, AllocError>
+    ensures { IfOk result (λ text. text ≡ texts.event_format catalog.now event) }
+{
+    let number = u16::from(event) + 1;
+    match catalog.def(number) {
+        Some(def) => Ok(Some(format_text(alloc, number, def)?)),
+        None => Ok(None),
+    }
+}
+
 // What a file of an instance that is there shows, if it is one of these files.
 fn text_there(
     alloc: Global,
     config: &Config,
+    catalog: &Catalog,
     scene: &Scene,
     instance: &Instance,
     file: File,
 ) -> Result<Option<Text>, AllocError>
     ensures { (name : Option (List ℕ)) (past : List Request) → scene.now ≡ scene_after config.now.cpus past
+        → catalog.now ≡ declared_events past
         → InstanceStandsFor config.now name past instance.now → IfOk result (λ text. text ≡ texts.text_there config.now name past file) }
 {
     match file {
         File::Tool(file) => Ok(Some(tool_file_text(alloc, config, scene, instance, file)?)),
         File::OfTop(file) => Ok(Some(top_tool_text(alloc, scene, file)?)),
         File::CpuSize(_) => Ok(Some(number_line(alloc, ring_kilobytes(config))?)),
-        File::EventId(event) => Ok(Some(number_line(alloc, u64::from(event) + 1)?)),
+        File::EventId(event) => Ok(Some(id_text(alloc, u16::from(event) + 1)?)),
+        File::OfEvent(event, EventFile::Format) => event_format(alloc, catalog, event),
+        File::Layout(file) => Ok(Some(Text::from_slice(alloc, layout_text(file))?)),
         _ => Ok(None),
     }
 }
@@ -176,19 +204,21 @@ fn text_there(
 pub fn text_of(
     alloc: Global,
     config: &Config,
+    catalog: &Catalog,
     scene: &Scene,
     owner: Owner,
     instance: Option<&Instance>,
     file: File,
 ) -> Result<Option<Text>, AllocError>
     ensures { (past : List Request) → scene.now ≡ scene_after config.now.cpus past
+        → catalog.now ≡ declared_events past
         → (owner_is_there scene.now owner ≡ true → is_some instance.entry ≡ is_there (owner_name scene.now owner) past)
         → IfSome instance.entry (λ kept. InstanceStandsFor config.now (owner_name scene.now owner) past kept.now)
         → IfOk result (λ text. text ≡ texts.tool_text config.now past owner file) }
 {
     if scene.exists(Node::File(owner, file)) {
         match instance {
-            Some(instance) => text_there(alloc, config, scene, instance, file),
+            Some(instance) => text_there(alloc, config, catalog, scene, instance, file),
             None => Ok(None),
         }
     } else {

@@ -23,13 +23,15 @@ use Rattle.mount_tree.specs.Scenes.{SceneSeen, event_at, event_name, instance_at
 use Rattle.mount_tree.specs.TreeLaws.{IsSound}
 use Rattle.file_list.specs.FileTable.{file_name, file_parent}
 use Rattle.file_list.specs.declared.file.File.{File}
-use Rattle.file_list.specs.declared.file.File.TheVariants.{SyntheticEvents, OfInstance, SystemEnable, OfCpu, OfEvent, Inject, Tool, OfTop, CpuSize, EventId, ErrorLog}
+use Rattle.file_list.specs.declared.file.File.TheVariants.{SyntheticEvents, OfInstance, SystemEnable, OfCpu, OfEvent, Inject, Tool, OfTop, CpuSize, EventId, ErrorLog, Layout, RawPipe}
 use Rattle.mount_tree.specs.declared.node.Node.TheVariants as nodes
 use Rattle.mount_tree.specs.declared.node.Owner.{Owner}
 use Rattle.mount_tree.specs.declared.node.Owner.TheVariants.{Top, Made}
 use Rattle.mount_tree.specs.declared.scene.Event.{Event}
 use Rattle.mount_tree.specs.declared.scene.Instance.{Instance}
 use Rattle.mount_tree.proofs.ListLemmas.{found_one}
+use Rattle.file_list.specs.declared.files.LayoutFile.{LayoutFile}
+use Rattle.file_list.specs.declared.files.LayoutFile.TheVariants as layouts
 use Rattle.file_list.specs.declared.files.ToolFile.{ToolFile}
 use Rattle.file_list.specs.declared.files.ToolFile.TheVariants as tools
 use Rattle.file_list.specs.declared.files.TopTool.{TopTool}
@@ -169,6 +171,19 @@ top_tool-names scene top_tools.SavedCmdlines = record { first = codes "saved_cmd
 top_tool-names scene top_tools.PrintkFormats = record { first = codes "printk_formats"; rest = []; split = refl; plain = refl; below = refl; means = refl }
 top_tool-names scene top_tools.TracingThresh = record { first = codes "tracing_thresh"; rest = []; split = refl; plain = refl; below = refl; means = refl }
 
+layout-names : (scene : SceneSeen) (file : LayoutFile) → Names (item_path scene (Layout file)) None
+unfolding below_mount_point mount_point events_file system_file
+layout-names scene layouts.HeaderPage = record { first = codes "events"; rest = codes "header_page" ∷ []; split = refl; plain = refl; below = refl; means = refl }
+layout-names scene layouts.HeaderEvent = record { first = codes "events"; rest = codes "header_event" ∷ []; split = refl; plain = refl; below = refl; means = refl }
+layout-names scene layouts.PrintFormat = record {
+  first = codes "events";
+  rest = codes "ftrace" ∷ codes "print" ∷ codes "format" ∷ [];
+  split = refl;
+  plain = refl;
+  below = refl;
+  means = refl;
+}
+
 log-names : (scene : SceneSeen) → Names (item_path scene ErrorLog) None
 unfolding below_mount_point mount_point top_file
 log-names scene = record { first = codes "error_log"; rest = []; split = refl; plain = refl; below = refl; means = refl }
@@ -210,6 +225,20 @@ size-names scene cpu few = record {
   plain = refl;
   below = cpu-below cpu (codes "buffer_size_kb");
   means = rw (cpu-numbered cpu few, size-named) refl;
+}
+
+raw-named : cpu_file (codes "trace_pipe_raw") ≡ None
+unfolding cpu_file
+raw-named = refl
+
+raw-names : (scene : SceneSeen) (cpu : ℕ) → cpu < 8 → Names (item_path scene (RawPipe cpu)) None
+raw-names scene cpu few = record {
+  first = codes "per_cpu";
+  rest = cpu_name cpu ∷ codes "trace_pipe_raw" ∷ [];
+  split = cpu-parts cpu (codes "trace_pipe_raw") few;
+  plain = refl;
+  below = cpu-below cpu (codes "trace_pipe_raw");
+  means = rw (cpu-numbered cpu few, raw-named) refl;
 }
 
 event_file-named : (file : EventFile) → (event_file (file_name (OfEvent 0 file)) ≡ Some file) × (parts (file_name (OfEvent 0 file)) ≡ file_name (OfEvent 0 file) ∷ [])
@@ -282,6 +311,10 @@ item-names scene owner (EventId event) sound there =
     let called = event-called scene event sound there in
     rw called.is (event-named called.name (codes "id") None called.good inject-named.1 refl)
 item-names scene owner ErrorLog sound there = log-names scene
+item-names scene owner (Layout file) sound there = layout-names scene file
+item-names scene owner (RawPipe cpu) sound there =
+    let below = ltb-true cpu scene.cpus there in
+    raw-names scene cpu (omega (arith, below, sound.few_cpus))
 
 -- ---- addresses
 
@@ -326,6 +359,8 @@ kept-file scene serial (OfTop file) there = refl
 kept-file scene serial (CpuSize cpu) there = refl
 kept-file scene serial (EventId event) there = refl
 kept-file scene serial ErrorLog there = refl
+kept-file scene serial (Layout file) there = refl
+kept-file scene serial (RawPipe cpu) there = refl
 
 pub path-address : (scene : SceneSeen) (owner : Owner) (file : File) → IsSound scene → is_there scene (nodes.File owner file) ≡ true
     → address_of (path_of scene (nodes.File owner file)) ≡ address_meant scene owner file

@@ -44,15 +44,27 @@ fixed_joined scene owner folders.PerCpu = tt
 fixed_joined scene owner folders.Options = (file_join (owner_path scene owner ++ codes "options/") (codes "overwrite"), tt)
 fixed_joined scene owner folders.Events = (
   file_join (owner_path scene owner ++ codes "events/") (codes "enable"),
-  (folder_join (owner_path scene owner) (codes "events/") (codes "synthetic") (codes "events/synthetic/") refl, tt),
+  (
+    folder_join (owner_path scene owner) (codes "events/") (codes "synthetic") (codes "events/synthetic/") refl,
+    (
+      folder_join (owner_path scene owner) (codes "events/") (codes "ftrace") (codes "events/ftrace/") refl,
+      (
+        file_join (owner_path scene owner ++ codes "events/") (codes "header_page"),
+        (file_join (owner_path scene owner ++ codes "events/") (codes "header_event"), tt),
+      ),
+    ),
+  ),
 )
+fixed_joined scene owner folders.Ftrace =
+    (folder_join (owner_path scene owner) (codes "events/ftrace/") (codes "print") (codes "events/ftrace/print/") refl, tt)
+fixed_joined scene owner folders.FtracePrint = (file_join (owner_path scene owner ++ codes "events/ftrace/print/") (codes "format"), tt)
 fixed_joined scene owner folders.Synthetic = (
   file_join (owner_path scene owner ++ codes "events/synthetic/") (codes "enable"),
   (file_join (owner_path scene owner ++ codes "events/synthetic/") (codes "filter"), tt),
 )
 fixed_joined scene owner (folders.Cpu cpu) =
     let path = owner_path scene owner ++ cpu_folder cpu in
-    (file_join path (codes "stats"), (file_join path (codes "trace"), (file_join path (codes "trace_pipe"), (file_join path (codes "buffer_size_kb"), tt))))
+    (file_join path (codes "stats"), (file_join path (codes "trace"), (file_join path (codes "trace_pipe"), (file_join path (codes "buffer_size_kb"), (file_join path (codes "trace_pipe_raw"), tt)))))
 fixed_joined scene owner (folders.Event event) =
     let path = path_of scene (nodes.Folder owner (folders.Event event)) in (
       file_join path (codes "format"),
@@ -124,6 +136,8 @@ made_joined scene owner folders.Synthetic sound there = events_joined scene owne
 made_joined scene owner folders.Root sound there = tt
 made_joined scene owner folders.Options sound there = tt
 made_joined scene owner folders.Events sound there = tt
+made_joined scene owner folders.Ftrace sound there = tt
+made_joined scene owner folders.FtracePrint sound there = tt
 made_joined scene owner (folders.Cpu cpu) sound there = tt
 made_joined scene owner (folders.Event event) sound there = tt
 

@@ -11,13 +11,14 @@ use Rattle.file_list.specs.FileTable.{file_at, file_of, folder_at, folder_of}
 use Rattle.file_list.specs.declared.file.File.{File}
 use Rattle.file_list.specs.declared.files.TheConstants.{FILES}
 use Rattle.file_list.specs.declared.folder.Folder.{Folder}
-use Rattle.file_list.specs.declared.file.File.TheVariants.{SyntheticEvents, OfInstance, SystemEnable, OfCpu, OfEvent, Inject, Tool, OfTop, CpuSize, EventId, ErrorLog}
-use Rattle.file_list.specs.declared.folder.Folder.TheVariants.{Root, Instances, Options, PerCpu, Cpu, Events, Synthetic, Event}
+use Rattle.file_list.specs.declared.file.File.TheVariants.{SyntheticEvents, OfInstance, SystemEnable, OfCpu, OfEvent, Inject, Tool, OfTop, CpuSize, EventId, ErrorLog, Layout, RawPipe}
+use Rattle.file_list.specs.declared.folder.Folder.TheVariants.{Root, Instances, Options, PerCpu, Cpu, Events, Synthetic, Event, Ftrace, FtracePrint}
 use Rattle.mount_tree.specs.declared.node.Node.{Node}
 use Rattle.mount_tree.specs.declared.node.Node.TheVariants as nodes
 use Rattle.mount_tree.specs.declared.node.Owner.{Owner}
 use Rattle.mount_tree.specs.declared.node.Owner.TheVariants.{Top, Made}
 use Rattle.mount_tree.specs.private.KindPlaces.{node_at}
+use Rattle.file_list.specs.declared.files.LayoutFile.TheVariants as layouts
 use Rattle.file_list.specs.declared.files.ToolFile.TheVariants as tools
 use Rattle.file_list.specs.declared.files.TopTool.TheVariants as top_tools
 
@@ -40,6 +41,8 @@ at_place (nodes.Folder o (Cpu k)) = refl
 at_place (nodes.Folder o Events) = refl
 at_place (nodes.Folder o Synthetic) = refl
 at_place (nodes.Folder o (Event k)) = refl
+at_place (nodes.Folder o Ftrace) = refl
+at_place (nodes.Folder o FtracePrint) = refl
 at_place (nodes.File o SyntheticEvents) = refl
 at_place (nodes.File o (OfInstance top.Trace)) = refl
 at_place (nodes.File o (OfInstance top.TracePipe)) = refl
@@ -75,6 +78,10 @@ at_place (nodes.File o (OfTop top_tools.TracingThresh)) = refl
 at_place (nodes.File o (CpuSize k)) = refl
 at_place (nodes.File o (EventId k)) = refl
 at_place (nodes.File o ErrorLog) = refl
+at_place (nodes.File o (Layout layouts.HeaderPage)) = refl
+at_place (nodes.File o (Layout layouts.HeaderEvent)) = refl
+at_place (nodes.File o (Layout layouts.PrintFormat)) = refl
+at_place (nodes.File o (RawPipe k)) = refl
 
 -- so a kind's number is small
 row-below : {X : Type 0} (xs : List X) (i : ℕ) (x : X) → slice_get xs i ≡ Some x → i < length xs
@@ -83,13 +90,13 @@ row-below (y ∷ xs) zero x at = omega arith
 row-below (y ∷ xs) (suc i) x at = let rest = row-below xs i x at in omega arith
 
 pub place-below : (node : Node) → place_of node < 64
-place-below node = by (nat_lt (place_of node) 8) refl (file_at (place_of node - 8)) refl (at_place node)
+place-below node = by (nat_lt (place_of node) 10) refl (file_at (place_of node - 10)) refl (at_place node)
   where
-    by : (early : Bool) → nat_lt (place_of node) 8 ≡ early → (file : Option File) → file_at (place_of node - 8) ≡ file
+    by : (early : Bool) → nat_lt (place_of node) 10 ≡ early → (file : Option File) → file_at (place_of node - 10) ≡ file
         → (if early then option_map (λ (folder : Folder). nodes.Folder (owner_of node) (folder_of (index_of node) folder)) (folder_at (place_of node))
         else option_map (λ (f : File). nodes.File (owner_of node) (file_of (index_of node) f)) file) ≡ Some node → place_of node < 64
-    by true is file also at = let below = ltb-true (place_of node) 8 is in omega arith
-    by false is (Some f) also at = let below = row-below (map (λ r. r.0) FILES) (place_of node - 8) f also in omega arith
+    by true is file also at = let below = ltb-true (place_of node) 10 is in omega arith
+    by false is (Some f) also at = let below = row-below (map (λ r. r.0) FILES) (place_of node - 10) f also in omega arith
     by false is None also at = absurd (cc)
 
 -- the owner of a number is one

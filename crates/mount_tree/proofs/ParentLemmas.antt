@@ -48,10 +48,14 @@ fixed_in (Made serial) folders.Root = (refl, (refl, (refl, (refl, (refl, (refl, 
 fixed_in owner folders.Instances = tt
 fixed_in owner folders.PerCpu = tt
 fixed_in owner folders.Options = (refl, tt)
-fixed_in Top folders.Events = (refl, (refl, tt))
-fixed_in (Made serial) folders.Events = (refl, (refl, tt))
+fixed_in Top folders.Events = (refl, (refl, (refl, (refl, (refl, tt)))))
+fixed_in (Made serial) folders.Events = (refl, (refl, (refl, (refl, (refl, tt)))))
+fixed_in Top folders.Ftrace = (refl, tt)
+fixed_in (Made serial) folders.Ftrace = (refl, tt)
+fixed_in Top folders.FtracePrint = (refl, tt)
+fixed_in (Made serial) folders.FtracePrint = (refl, tt)
 fixed_in owner folders.Synthetic = (refl, (refl, tt))
-fixed_in owner (folders.Cpu cpu) = (refl, (refl, (refl, (refl, tt))))
+fixed_in owner (folders.Cpu cpu) = (refl, (refl, (refl, (refl, (refl, tt)))))
 fixed_in owner (folders.Event event) = (refl, (refl, (refl, (refl, (refl, (refl, (refl, tt)))))))
 
 cpu_in : (owner : Owner) (cpu : ℕ) → IsIn owner folders.PerCpu (cpu_child owner cpu)
@@ -84,6 +88,8 @@ made_in scene owner folders.Synthetic there = events_in owner scene.events
 made_in scene owner folders.Root there = tt
 made_in scene owner folders.Options there = tt
 made_in scene owner folders.Events there = tt
+made_in scene owner folders.Ftrace there = tt
+made_in scene owner folders.FtracePrint there = tt
 made_in scene owner (folders.Cpu cpu) there = tt
 made_in scene owner (folders.Event event) there = tt
 
@@ -121,6 +127,8 @@ folder_parent_there scene Top folder o = top_parent folder
     top_parent (folders.Cpu cpu) = refl
     top_parent folders.Events = refl
     top_parent folders.Synthetic = refl
+    top_parent folders.Ftrace = refl
+    top_parent folders.FtracePrint = refl
     top_parent (folders.Event event) = refl
 folder_parent_there scene (Made serial) folder o = made_parent folder
   where
@@ -132,6 +140,8 @@ folder_parent_there scene (Made serial) folder o = made_parent folder
     made_parent (folders.Cpu cpu) = own_there scene (Made serial) o
     made_parent folders.Events = own_there scene (Made serial) o
     made_parent folders.Synthetic = own_there scene (Made serial) o
+    made_parent folders.Ftrace = own_there scene (Made serial) o
+    made_parent folders.FtracePrint = own_there scene (Made serial) o
     made_parent (folders.Event event) = own_there scene (Made serial) o
 
 pub parents_there : (scene : SceneSeen) (node : Node) → is_there scene node ≡ true → is_there scene (node_parent node) ≡ true
@@ -151,6 +161,8 @@ steps_end Top folders.PerCpu = refl
 steps_end Top (folders.Cpu cpu) = refl
 steps_end Top folders.Events = refl
 steps_end Top folders.Synthetic = refl
+steps_end Top folders.Ftrace = refl
+steps_end Top folders.FtracePrint = refl
 steps_end Top (folders.Event event) = refl
 steps_end (Made serial) folders.Root = refl
 steps_end (Made serial) folders.Instances = refl
@@ -159,4 +171,6 @@ steps_end (Made serial) folders.PerCpu = refl
 steps_end (Made serial) (folders.Cpu cpu) = refl
 steps_end (Made serial) folders.Events = refl
 steps_end (Made serial) folders.Synthetic = refl
+steps_end (Made serial) folders.Ftrace = refl
+steps_end (Made serial) folders.FtracePrint = refl
 steps_end (Made serial) (folders.Event event) = refl

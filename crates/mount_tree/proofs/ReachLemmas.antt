@@ -13,7 +13,7 @@ use Rattle.file_list.specs.FileTable.{file_name, file_parent, own_items}
 use Rattle.file_list.specs.declared.files.TheConstants.{ROOT}
 use Rattle.mount_tree.specs.TreeNames.{node_parent}
 use Rattle.file_list.specs.declared.file.File.{File}
-use Rattle.file_list.specs.declared.file.File.TheVariants.{SyntheticEvents, OfInstance, SystemEnable, OfCpu, OfEvent, Inject, Tool, OfTop, CpuSize, EventId, ErrorLog}
+use Rattle.file_list.specs.declared.file.File.TheVariants.{SyntheticEvents, OfInstance, SystemEnable, OfCpu, OfEvent, Inject, Tool, OfTop, CpuSize, EventId, ErrorLog, Layout, RawPipe}
 use Rattle.file_list.specs.declared.folder.Folder.{Folder}
 use Rattle.file_list.specs.declared.folder.Folder.TheVariants as folders
 use Rattle.mount_tree.specs.declared.node.Node.{Node}
@@ -25,6 +25,7 @@ use Rattle.mount_tree.specs.declared.scene.Instance.{Instance}
 use Rattle.mount_tree.proofs.EntryLaws.{children_found}
 use Rattle.mount_tree.proofs.EntryLemmas.{named_first}
 use Rattle.mount_tree.proofs.ListLemmas.{all-unmapped, found_one, found_passes}
+use Rattle.file_list.specs.declared.files.LayoutFile.TheVariants as layouts
 use Rattle.file_list.specs.declared.files.ToolFile.TheVariants as tools
 use Rattle.file_list.specs.declared.files.TopTool.TheVariants as top_tools
 
@@ -84,6 +85,10 @@ file_found (Made serial) (OfTop file) scene there = absurd (false≢true there)
 file_found owner (CpuSize cpu) scene there = refl
 file_found owner (EventId event) scene there = refl
 file_found owner ErrorLog scene there = own_found owner ErrorLog refl refl
+file_found owner (Layout layouts.HeaderPage) scene there = refl
+file_found owner (Layout layouts.HeaderEvent) scene there = refl
+file_found owner (Layout layouts.PrintFormat) scene there = refl
+file_found owner (RawPipe cpu) scene there = refl
 
 pub parent_there : (scene : SceneSeen) (owner : Owner) (file : File) → file_is_there scene owner file ≡ true
     → folder_is_there scene owner (file_parent file) ≡ true
@@ -98,6 +103,8 @@ parent_there scene owner (OfTop file) there = refl
 parent_there scene owner (CpuSize cpu) there = there
 parent_there scene owner (EventId event) there = there
 parent_there scene owner ErrorLog there = there
+parent_there scene owner (Layout file) there = there
+parent_there scene owner (RawPipe cpu) there = there
 
 -- ---- CPUs, events and instances
 
@@ -200,6 +207,14 @@ folder_reached scene Top folders.Synthetic sound o f other =
     found_always scene Top folders.Events (codes "synthetic") (nodes.Folder Top folders.Synthetic) (own_there scene Top o) refl
 folder_reached scene (Made serial) folders.Synthetic sound o f other =
     found_always scene (Made serial) folders.Events (codes "synthetic") (nodes.Folder (Made serial) folders.Synthetic) (own_there scene (Made serial) o) refl
+folder_reached scene Top folders.Ftrace sound o f other =
+    found_always scene Top folders.Events (codes "ftrace") (nodes.Folder Top folders.Ftrace) (own_there scene Top o) refl
+folder_reached scene (Made serial) folders.Ftrace sound o f other =
+    found_always scene (Made serial) folders.Events (codes "ftrace") (nodes.Folder (Made serial) folders.Ftrace) (own_there scene (Made serial) o) refl
+folder_reached scene Top folders.FtracePrint sound o f other =
+    found_always scene Top folders.Ftrace (codes "print") (nodes.Folder Top folders.FtracePrint) (own_there scene Top o) refl
+folder_reached scene (Made serial) folders.FtracePrint sound o f other =
+    found_always scene (Made serial) folders.Ftrace (codes "print") (nodes.Folder (Made serial) folders.FtracePrint) (own_there scene (Made serial) o) refl
 folder_reached scene Top (folders.Cpu cpu) sound o f other = cpu_found scene Top cpu sound o f
 folder_reached scene (Made serial) (folders.Cpu cpu) sound o f other = cpu_found scene (Made serial) cpu sound o f
 folder_reached scene Top (folders.Event event) sound o f other = event_found scene Top event sound o f

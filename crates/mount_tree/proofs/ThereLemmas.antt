@@ -50,10 +50,12 @@ fixed_there scene (Made serial) folders.Root o f =
 fixed_there scene owner folders.Instances o f = tt
 fixed_there scene owner folders.PerCpu o f = tt
 fixed_there scene owner folders.Options o f = let w = own_there scene owner o in (w, tt)
-fixed_there scene owner folders.Events o f = let w = own_there scene owner o in (w, (w, tt))
+fixed_there scene owner folders.Events o f = let w = own_there scene owner o in (w, (w, (w, (w, (w, tt)))))
+fixed_there scene owner folders.Ftrace o f = let w = own_there scene owner o in (w, tt)
+fixed_there scene owner folders.FtracePrint o f = let w = own_there scene owner o in (w, tt)
 fixed_there scene owner folders.Synthetic o f = let w = own_there scene owner o in (w, (w, tt))
 fixed_there scene owner (folders.Cpu cpu) o f =
-    let w = and_from (owner_is_there scene owner) (nat_lt cpu scene.cpus) o f in (w, (w, (w, (w, tt))))
+    let w = and_from (owner_is_there scene owner) (nat_lt cpu scene.cpus) o f in (w, (w, (w, (w, (w, tt)))))
 fixed_there scene owner (folders.Event event) o f =
     let w = and_from (owner_is_there scene owner) (is_some (event_at event scene.events)) o f in (w, (w, (w, (w, (w, (w, (w, tt)))))))
 
@@ -89,6 +91,8 @@ made_there scene owner folders.Synthetic o = events_there scene owner o
 made_there scene owner folders.Root o = tt
 made_there scene owner folders.Options o = tt
 made_there scene owner folders.Events o = tt
+made_there scene owner folders.Ftrace o = tt
+made_there scene owner folders.FtracePrint o = tt
 made_there scene owner (folders.Cpu cpu) o = tt
 made_there scene owner (folders.Event event) o = tt
 

@@ -78,12 +78,22 @@ system_lines scene owner depth sound o =
     opened scene (suc (suc depth)) owner folders.Synthetic (own_there scene owner o)
     ∙ ap (λ (l : List ℕ). lines_in (owner_path scene owner) (codes "events/synthetic/") SYNTHETIC ++ l) (each_event_lines scene owner depth sound o)
 
+print_lines : (scene : SceneSeen) (owner : Owner) (depth : ℕ) → owner_is_there scene owner ≡ true
+    → lines_below scene (suc (suc depth)) (nodes.Folder owner folders.FtracePrint) ≡ []
+print_lines scene owner depth o = opened scene (suc depth) owner folders.FtracePrint (own_there scene owner o)
+
+-- no script knows what is there
+ftrace_lines : (scene : SceneSeen) (owner : Owner) (depth : ℕ) → owner_is_there scene owner ≡ true
+    → lines_below scene (suc (suc (suc depth))) (nodes.Folder owner folders.Ftrace) ≡ []
+ftrace_lines scene owner depth o =
+    opened scene (suc (suc depth)) owner folders.Ftrace (own_there scene owner o) ∙ (rw (print_lines scene owner depth o) refl)
+
 all_events_lines : (scene : SceneSeen) (owner : Owner) (depth : ℕ) → IsSound scene → owner_is_there scene owner ≡ true
     → lines_below scene (suc (suc (suc (suc depth)))) (nodes.Folder owner folders.Events)
     ≡ lines_of_events (scene_names scene).events (owner_path scene owner)
 all_events_lines scene owner depth sound o =
     opened scene (suc (suc (suc depth))) owner folders.Events (own_there scene owner o)
-    ∙ (rw (system_lines scene owner depth sound o) (simp (append_assoc, append-nil)))
+    ∙ (rw (system_lines scene owner depth sound o, ftrace_lines scene owner depth o) (simp (append_assoc, append-nil)))
 
 -- ---- CPUs
 

@@ -8,7 +8,7 @@ use Rattle.file_list.specs.Listings.{instance_folder}
 use Rattle.mount_tree.specs.Scenes.{SceneSeen, event_name, instance_name}
 use Rattle.file_list.specs.FileTable.{file_name, file_parent}
 use Rattle.file_list.specs.declared.file.File.{File}
-use Rattle.file_list.specs.declared.file.File.TheVariants.{SyntheticEvents, OfInstance, SystemEnable, OfCpu, OfEvent, Inject, Tool, OfTop, CpuSize, EventId, ErrorLog}
+use Rattle.file_list.specs.declared.file.File.TheVariants.{SyntheticEvents, OfInstance, SystemEnable, OfCpu, OfEvent, Inject, Tool, OfTop, CpuSize, EventId, ErrorLog, Layout, RawPipe}
 use Rattle.file_list.specs.declared.folder.Folder.{Folder}
 use Rattle.file_list.specs.declared.folder.Folder.TheVariants as folders
 use Rattle.mount_tree.specs.declared.node.Node.{Node}
@@ -25,6 +25,8 @@ folder_path scene folders.PerCpu = codes "per_cpu/"
 folder_path scene (folders.Cpu cpu) = cpu_folder cpu
 folder_path scene folders.Events = codes "events/"
 folder_path scene folders.Synthetic = codes "events/synthetic/"
+folder_path scene folders.Ftrace = codes "events/ftrace/"
+folder_path scene folders.FtracePrint = codes "events/ftrace/print/"
 folder_path scene (folders.Event event) = event_folder (unwrap_or (event_name event scene.events) [])
 
 -- an instance's own folder
@@ -57,6 +59,8 @@ file_meant scene (OfTop file) = None
 file_meant scene (CpuSize cpu) = None
 file_meant scene (EventId event) = None
 file_meant scene ErrorLog = None
+file_meant scene (Layout file) = None
+file_meant scene (RawPipe cpu) = None
 
 -- the instance and the file
 abbrev pub address_meant : SceneSeen → Owner → File → paths.Address

@@ -16,7 +16,7 @@ owner_number (Made serial) = serial + 1
 
 -- the kind: its row in the table of folders, or in that of files after those
 abbrev pub file_place : File → ℕ
-file_place file = 8 + file_row file
+file_place file = 10 + file_row file
 
 abbrev pub owner_of : Node → Owner
 owner_of (nodes.Folder owner folder) = owner

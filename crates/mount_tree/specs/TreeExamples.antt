@@ -99,8 +99,8 @@ LookUps =
 abbrev pub NumbersAndPaths : Type 0
 NumbersAndPaths =
     (number_of top ≡ 1)
-    × (number_of (nodes.File Top SyntheticEvents) ≡ 9)
-    × (number_of (nodes.File (Made 1) (OfCpu 1 per_cpu.Stats)) ≡ 32853)
+    × (number_of (nodes.File Top SyntheticEvents) ≡ 11)
+    × (number_of (nodes.File (Made 1) (OfCpu 1 per_cpu.Stats)) ≡ 32855)
     × (path_of scene (nodes.File (Made 1) (OfCpu 1 per_cpu.Stats)) ≡ codes "instances/b/per_cpu/cpu1/stats")
     × (path_of scene (nodes.File Top (OfEvent 1 per_event.Enable)) ≡ codes "events/synthetic/tick/enable")
     × (path_of scene (nodes.Folder (Made 2) folders.Root) ≡ codes "instances/a/")

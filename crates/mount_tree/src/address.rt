@@ -67,7 +67,9 @@ impl Scene {
             | File::OfTop(_)
             | File::CpuSize(_)
             | File::EventId(_)
-            | File::ErrorLog => None,
+            | File::ErrorLog
+            | File::Layout(_)
+            | File::RawPipe(_) => None,
         }
     }
 

@@ -128,8 +128,13 @@ impl Scene {
             Folder::Instances => instance_entry(&self.instances, index),
             Folder::PerCpu => cpu_folder_entry(owner, self.cpus, index),
             Folder::Synthetic => event_folder_entry(owner, &self.events, index - 2),
-            Folder::Root | Folder::Options | Folder::Cpu(_) | Folder::Events | Folder::Event(_) =>
-                None,
+            Folder::Root
+            | Folder::Options
+            | Folder::Cpu(_)
+            | Folder::Events
+            | Folder::Event(_)
+            | Folder::Ftrace
+            | Folder::FtracePrint => None,
         }
     }
 
@@ -140,8 +145,13 @@ impl Scene {
             Folder::Instances => instance_named(&self.instances, name),
             Folder::PerCpu => cpu_named(owner, self.cpus, name),
             Folder::Synthetic => event_named(owner, &self.events, name),
-            Folder::Root | Folder::Options | Folder::Cpu(_) | Folder::Events | Folder::Event(_) =>
-                None,
+            Folder::Root
+            | Folder::Options
+            | Folder::Cpu(_)
+            | Folder::Events
+            | Folder::Event(_)
+            | Folder::Ftrace
+            | Folder::FtracePrint => None,
         }
     }
 

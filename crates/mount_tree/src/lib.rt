@@ -11,6 +11,6 @@ mod path;
 mod scene;
 
 pub use entry::Entry;
-pub use file_list::{File, FileKind, Folder, ToolFile, TopTool};
+pub use file_list::{File, FileKind, Folder, LayoutFile, ToolFile, TopTool};
 pub use node::{Node, Owner};
 pub use scene::{Event, Instance, Scene};

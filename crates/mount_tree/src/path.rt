@@ -62,6 +62,8 @@ impl Scene {
             Folder::PerCpu => out.extend_from_slice(b"per_cpu/".as_slice()),
             Folder::Events => out.extend_from_slice(b"events/".as_slice()),
             Folder::Synthetic => out.extend_from_slice(b"events/synthetic/".as_slice()),
+            Folder::Ftrace => out.extend_from_slice(b"events/ftrace/".as_slice()),
+            Folder::FtracePrint => out.extend_from_slice(b"events/ftrace/print/".as_slice()),
             Folder::Cpu(cpu) => push_cpu(out, cpu),
             Folder::Event(event) => self.push_event(out, event),
         }

@@ -213,8 +213,13 @@ impl Scene {
             Folder::Instances => owner.is_top(),
             Folder::Cpu(cpu) => cpu < self.cpus,
             Folder::Event(event) => self.event_name(event).is_some(),
-            Folder::Root | Folder::Options | Folder::PerCpu | Folder::Events | Folder::Synthetic =>
-                true,
+            Folder::Root
+            | Folder::Options
+            | Folder::PerCpu
+            | Folder::Events
+            | Folder::Synthetic
+            | Folder::Ftrace
+            | Folder::FtracePrint => true,
         }
     }
 
@@ -231,7 +236,9 @@ impl Scene {
             | File::Tool(_)
             | File::CpuSize(_)
             | File::EventId(_)
-            | File::ErrorLog => self.folder_exists(owner, file.parent()),
+            | File::ErrorLog
+            | File::Layout(_)
+            | File::RawPipe(_) => self.folder_exists(owner, file.parent()),
         }
     }
 

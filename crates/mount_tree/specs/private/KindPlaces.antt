@@ -10,5 +10,5 @@ use Rattle.mount_tree.specs.declared.node.Owner.{Owner}
 
 abbrev pub node_at : Owner → ℕ → ℕ → Option Node
 node_at owner index place =
-    if nat_lt place 8 then option_map (λ (folder : Folder). nodes.Folder owner (folder_of index folder)) (folder_at place)
-    else option_map (λ (file : File). nodes.File owner (file_of index file)) (file_at (place - 8))
+    if nat_lt place 10 then option_map (λ (folder : Folder). nodes.Folder owner (folder_of index folder)) (folder_at place)
+    else option_map (λ (file : File). nodes.File owner (file_of index file)) (file_at (place - 10))
