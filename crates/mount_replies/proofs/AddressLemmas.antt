@@ -22,7 +22,7 @@ use Rattle.tracer.specs.LiveSeen.{LiveSeen}
 use Rattle.tracer.specs.Lives.{IsCall, live_answer}
 use Rattle.tracer_state.specs.AddressedRequests.{DeclaresAtTop, read_at, write_at}
 use Rattle.file_list.specs.declared.file.File.{File}
-use Rattle.file_list.specs.declared.file.File.TheVariants.{SyntheticEvents, OfInstance, SystemEnable, OfCpu, OfEvent, Inject, Tool, OfTop, CpuSize, EventId, ErrorLog}
+use Rattle.file_list.specs.declared.file.File.TheVariants.{SyntheticEvents, OfInstance, SystemEnable, OfCpu, OfEvent, Inject, Tool, OfTop, CpuSize, EventId, ErrorLog, Layout, RawPipe}
 use Rattle.mount_tree.proofs.AddressLaws.{path-address}
 use Rattle.mount_tree.proofs.AfterRequests.{declaring, leaving}
 use Rattle.mount_tree.proofs.SoundLemmas.{scene-sound}
@@ -87,6 +87,8 @@ meant-at-top scene (Made serial) (OfTop file) there some = refl
 meant-at-top scene (Made serial) (CpuSize cpu) there some = refl
 meant-at-top scene (Made serial) (EventId event) there some = refl
 meant-at-top scene (Made serial) ErrorLog there some = refl
+meant-at-top scene (Made serial) (Layout file) there some = refl
+meant-at-top scene (Made serial) (RawPipe cpu) there some = refl
 
 pub at-top : (scene : SceneSeen) (owner : Owner) (file : File) (address : Borrowed) → is_there scene (nodes.File owner file) ≡ true
     → address_at address ≡ address_meant scene owner file → DeclaresAtTop address
@@ -221,6 +223,8 @@ declares-none past mount owner file append text mounted there other =
     by (CpuSize cpu) unlike = refl
     by (EventId event) unlike = refl
     by ErrorLog unlike = refl
+    by (Layout own) unlike = refl
+    by (RawPipe cpu) unlike = refl
 
 -- one to that declares what its text says
 pub declares-text : (past : List Request) (mount : MountSeen) (owner : Owner) (append : Bool) (text : List ℕ) → HasLedTo past mount

@@ -1,5 +1,5 @@
 -- Each read is answered once.
-use Rattle.std.proofs.Common.{◌≡◌, inl, inr, ℕ, ◌+◌, ◌==◌, ◌&&◌, Bool, true, false, if◌then◌else◌, is_some, List, [], ◌∷◌, ◌++◌, map, Option, Some, None, Result, Ok, Err, refl, ap, ◌∙◌, arith}
+use Rattle.std.proofs.Common.{◌≡◌, inl, inr, ℕ, ◌+◌, ◌==◌, ◌&&◌, nat_lt, Bool, true, false, if◌then◌else◌, is_some, List, [], ◌∷◌, ◌++◌, map, Option, Some, None, Result, Ok, Err, refl, ap, ◌∙◌, arith}
 use Rattle.std.specs.List.{remove}
 use Rattle.fuse_wire.specs.declared.reply.Reply.{Reply}
 use Rattle.fuse_wire.specs.declared.request.Operation.{Operation}
@@ -8,17 +8,20 @@ use Rattle.trace_command.specs.declared.command.Reply.{Reply as Answer}
 use Rattle.trace_command.specs.declared.refusal.Refusal.{Refusal}
 use Rattle.mount_tree.specs.Children.{is_there}
 use Rattle.file_list.specs.FileKinds.{kind_of_file}
+use Rattle.file_list.specs.FileTable.{file_index}
 use Rattle.file_list.specs.declared.file.FileKind.{FileKind}
 use Rattle.file_list.specs.declared.file.FileKind.TheVariants as kinds
 use Rattle.mount_tree.specs.declared.node.Node.{Node}
 use Rattle.error_log.specs.Logs.{log_text}
 use Rattle.mount_stub_files.specs.ToolTexts.{tool_text}
-use Rattle.mount_replies.specs.Calls.{Called, Exchanged, IsTurned, Turn}
+use Rattle.mount_replies.proofs.ShownTurns.{shown-rests}
+use Rattle.mount_replies.specs.Calls.{Called, Exchanged, IsTurned, Shows, Turn}
 use Rattle.mount_replies.specs.Mounted.{AreServed, Does, IsExchanged, Right, TellsOwed, Unframed, Wrong}
 use Rattle.mount_replies.specs.Owed.{Owed, ReplyAt, WakeupAt, owed, step_of_parked}
 use Rattle.mount_replies.specs.ParkedLaws.{ReadsAreAnsweredOnce, answered_in, answered_once, asked_in, asked_once, number_answered, number_asked, number_told, numbers_of, read_number, reads_answered, reads_asked, times}
 use Rattle.mount_replies.specs.Pipes.{ends, is_dry, is_used_up}
-use Rattle.mount_replies.specs.Served.{given_counted, given_text, given_tool, is_cached, is_nonblocking, makes_text, read_dry, read_file, read_kind, read_log, read_new, read_pipe, read_shown, read_text, read_tool, step_of, taken_records, text_counted, unless_counted}
+use Rattle.mount_replies.specs.RawPages.{next_page}
+use Rattle.mount_replies.specs.Served.{given_counted, given_page, given_text, given_tool, is_cached, is_nonblocking, makes_text, read_dry, read_file, read_kind, read_log, read_new, read_new_page, read_no_page, read_page, read_pages, read_pipe, read_raw, read_shown, read_text, read_tool, read_whole_page, step_of, taken_records, text_counted, unless_counted}
 use Rattle.mount_replies.specs.Services.{OpenSeen, Service, Terms, file_at, interrupted_if, node_of, read_of_pipe, scene_of, without_read}
 use Rattle.mount_replies.specs.Steps.{Asks, AsksLines, AsksNoting, Counts, Interrupts, Parks, Plain, Step, Takes, Tells}
 use Rattle.mount_replies.specs.declared.parked.Parked.{Parked}
@@ -83,9 +86,39 @@ new-step g s read flags file =
 pipe-step : (g : Terms) (s : Service) (read : Parked) (flags : ℕ) (file : OpenSeen) → IsReadStep read.unique (read_pipe g s read flags file)
 pipe-step g s read flags file = either (IsReadStep read.unique) (is_used_up file) _ _ (new-step g s read flags file) refl
 
+page-reply : (handle size : ℕ) (page : List ℕ) (open_files : List (Option OpenSeen)) (answer : Result Answer Refusal)
+    → is_some (given_page handle size page open_files answer).reply ≡ true
+page-reply handle size page open_files (Ok answer) = refl
+page-reply handle size page open_files (Err refusal) = refl
+
+page-step : (g : Terms) (s : Service) (read : Parked) (file : OpenSeen) → IsReadStep read.unique (read_page g s read file)
+page-step g s read file = page-reply read.handle read.size (next_page g s file.owner (file_index file.file)) s.files
+
+no-page-step : (read : Parked) (file : OpenSeen) (open_files : List (Option OpenSeen)) → IsReadStep read.unique (read_no_page read file open_files)
+no-page-step read file open_files = either (IsReadStep read.unique) file.polls.told_ready _ _ refl refl
+
+whole-step : (g : Terms) (s : Service) (read : Parked) (file : OpenSeen) → IsReadStep read.unique (read_whole_page g s read file)
+whole-step g s read file =
+    either (IsReadStep read.unique) (nat_lt read.size 4096) _ _ refl
+    (either (IsReadStep read.unique) (is_dry g s file.owner file.file) _ _ (no-page-step read file s.files) (page-step g s read file))
+
+new-page-step : (g : Terms) (s : Service) (read : Parked) (flags : ℕ) (file : OpenSeen) → IsReadStep read.unique (read_new_page g s read flags file)
+new-page-step g s read flags file =
+    either (IsReadStep read.unique) (is_dry g s file.owner file.file) _ _ (dry-step read flags (ends g s file) s.files) (page-step g s read file)
+
+pages-step : (g : Terms) (s : Service) (read : Parked) (flags : ℕ) (file : OpenSeen) → IsReadStep read.unique (read_pages g s read flags file)
+pages-step g s read flags file = either (IsReadStep read.unique) (is_used_up file) _ _ (new-page-step g s read flags file) refl
+
+raw-step : (g : Terms) (s : Service) (read : Parked) (cached : Bool) (flags : ℕ) (file : OpenSeen)
+    → IsReadStep read.unique (read_raw g s read cached flags file)
+raw-step g s read cached flags file =
+    either (IsReadStep read.unique) cached _ _ (either (IsReadStep read.unique) (is_used_up file) _ _ (whole-step g s read file) refl)
+    (pages-step g s read flags file)
+
 kind-step : (g : Terms) (s : Service) (read : Parked) (offset : ℕ) (cached : Bool) (flags : ℕ) (file : OpenSeen) (kind : FileKind)
     → IsReadStep read.unique (read_kind g s read offset cached flags file kind)
 kind-step g s read offset cached flags file kinds.Pipe = either (IsReadStep read.unique) cached _ _ refl (pipe-step g s read flags file)
+kind-step g s read offset cached flags file kinds.RawPipe = raw-step g s read cached flags file
 kind-step g s read offset cached flags file kinds.Inject = refl
 kind-step g s read offset cached flags file kinds.Tool =
     counted-step s read cached offset file (read_tool g s read.handle offset read.size file)
@@ -237,6 +270,8 @@ in-turn : (g : Terms) (before : Service) (turn : Turn) (after : Service) (u : �
     ≡ times u (answered_in g before turn after one) + times u (numbers_of after.parked)
 in-turn g before (Exchanged asked bytes) after u one = once g before asked bytes after u one
 in-turn g before (Called limit request answer) after u one = rw (ap (λ (s : Service). s.parked) one.1) (omega arith)
+in-turn g before (Shows shown asked bytes) after u one =
+    rw (shown-rests g before one.request.unique shown one.request.operation one.reply after one.does).parked (omega arith)
 
 pub reads_are_answered_once : ReadsAreAnsweredOnce
 reads_are_answered_once g before [] after same u = rw (ap (λ (s : Service). s.parked) same) (omega arith)

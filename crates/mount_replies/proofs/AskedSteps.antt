@@ -1,7 +1,8 @@
 -- What steps ask and note: but for the removal of an instance such requests as reads, writes and emissions are, what is noted is of an instance that is
 -- there, and what is counted is the text of a file that is there.
-use Rattle.std.proofs.Common.{◌≡◌, ◌⊎◌, inl, inr, ℕ, ◌+◌, ◌%◌, ◌^◌, ◌==◌, nat_lt, Bool, true, false, not, ◌&&◌, if◌then◌else◌, List, [], ◌∷◌, ◌++◌, length, Option, Some, None, Result, Ok, Err, refl, sym, slice_get, unwrap_or}
-use Rattle.std.proofs.lemmas.Bool.{and_parts}
+use Rattle.std.proofs.Common.{◌≡◌, ◌⊎◌, inl, inr, ℕ, suc, ◌+◌, ◌-◌, ◌/◌, ◌%◌, ◌^◌, ◌<◌, ◌≤◌, ◌==◌, max, min, nat_le, nat_lt, Bool, true, false, not, ◌&&◌, if◌then◌else◌, List, [], ◌∷◌, ◌++◌, length, Option, Some, None, Result, Ok, Err, refl, sym, slice_get, unwrap_or, arith}
+use Rattle.std.proofs.lemmas.Bool.{and_parts, leb-true}
+use Rattle.std.specs.Option.{option_map_or}
 use Rattle.fuse_wire.specs.declared.errno.Errno.TheVariants.{EACCES, EAGAIN, EINVAL, EINTR, ENOENT, ENOSPC}
 use Rattle.fuse_wire.specs.declared.reply.Reply.TheVariants as replies
 use Rattle.fuse_wire.specs.declared.request.Operation.{Operation}
@@ -18,6 +19,10 @@ use Rattle.error_log.specs.Logs.{log_text}
 use Rattle.mount_tree.proofs.ThereLemmas.{found_there}
 use Rattle.mount_tree.specs.Children.{file_is_there, is_there, owner_is_there}
 use Rattle.file_list.specs.FileKinds.{access_of_file, kind_of_file, takes_lines}
+use Rattle.file_list.specs.FileTable.{file_index}
+use Rattle.kernel_pages.specs.Pages.{lost_bytes, page_of}
+use Rattle.kernel_pages.specs.Taking.{event_head_size, room_after, room_left, taken_after, taken_of}
+use Rattle.kernel_pages.specs.declared.page_row.PageRow.{PageRow}
 use Rattle.mount_tree.specs.NodePaths.{path_of}
 use Rattle.mount_tree.specs.Nodes.{number_of}
 use Rattle.mount_tree.specs.Scenes.{SceneSeen, most_made}
@@ -40,15 +45,17 @@ use Rattle.mount_replies.specs.Injections.{injection, pairs_of_line}
 use Rattle.mount_replies.specs.Lines.{asked_by_line, asked_by_pairs, command_lines, command_text, flushed, goes_on, has_newline, is_blank_line, line_command, lines_of, most_kept, noted_answer, noted_command, noted_if_first, noted_line, noted_refusal, one_command, pieces_of, released, stream_lines, too_long, without_newline}
 use Rattle.mount_replies.specs.Owed.{step_of_parked}
 use Rattle.mount_replies.specs.Pipes.{ends, is_dry, is_used_up}
-use Rattle.mount_replies.specs.Served.{AsksNone, AsksToWrite, Emptying, clears, emptying_of, forgotten_if_done, given_counted, given_records, given_tool, goes_on_in, handed_out, is_cached, is_nonblocking, made_folder, make_folder, makes_text, opened, opened_file, opened_unless_emptied, poll_file, poll_kind, read_anew, read_dry, read_file, read_kind, read_log, read_new, read_pipe, read_pipe_directly, read_records, read_shown, read_text, read_tool, records_for, remove_folder, step_of, text_counted, unless_counted}
+use Rattle.mount_replies.specs.RawPages.{next_count, next_rows, pipe_node}
+use Rattle.mount_replies.specs.Served.{AsksNone, AsksToWrite, Emptying, clears, emptying_of, forgotten_if_done, given_counted, given_records, given_tool, goes_on_in, handed_out, is_cached, is_nonblocking, made_folder, make_folder, makes_text, opened, opened_file, opened_unless_emptied, part_of, poll_file, poll_kind, read_anew, read_dry, read_file, read_kind, read_log, read_new, read_new_page, read_no_page, read_page, read_pages, read_pipe, read_pipe_directly, read_raw, read_records, read_shown, read_text, read_tool, read_whole_page, records_for, remove_folder, step_of, text_counted, unless_counted}
 use Rattle.mount_replies.specs.Services.{OpenSeen, Service, Terms, count_of, file_at, just_opened, node_of, read_of_pipe, scene_of, with_dry_read, without_file}
-use Rattle.mount_replies.specs.Sizes.{Telling, count_text, counted_now, get_attributes, is_recent, set_attributes, size_by_kind, size_counted, size_of_text, tell_attributes, tell_entry, tell_size}
-use Rattle.mount_replies.specs.Steps.{Asking, AsksNothing, Asks, AsksLines, AsksNoting, Counts, Forgets, IsTooLong, Keeps, LineRefused, Notes, Noting, Outcome, Parks, Plain, Ran, Step, Takes, Tells, failed, plain, read_of, write_of}
+use Rattle.mount_replies.specs.Sizes.{Telling, count_text, counted_now, entry_number, get_attributes, is_recent, set_attributes, size_by_kind, size_counted, size_of_text, tell_attributes, tell_entry, tell_size}
+use Rattle.mount_replies.specs.Steps.{Asking, AsksNothing, Asks, AsksLines, AsksNoting, Counts, Forgets, IsTooLong, Keeps, LineRefused, Notes, Noting, Outcome, Parks, Plain, Ran, Step, Takes, Tells, failed, plain, read_of, taking, write_of}
 use Rattle.mount_replies.specs.Told.{attributes_of, empties, found_in, known, may, sets_size, wants_read, wants_write}
 use Rattle.mount_replies.specs.declared.counted.Counted.{Counted}
 use Rattle.mount_replies.specs.declared.fault.LineFault.{LineFault}
 use Rattle.mount_replies.specs.declared.fault.LineFault.TheVariants.{NoCommand, Refused, TooLong}
 use Rattle.mount_replies.specs.declared.parked.Parked.{Parked}
+use Rattle.mount_replies.proofs.KeptTexts.{either}
 use Rattle.mount_replies.proofs.RunLemmas.{AllAsk, OnlyAsks}
 
 -- ---- what a step asks, notes and counts
@@ -56,7 +63,7 @@ use Rattle.mount_replies.proofs.RunLemmas.{AllAsk, OnlyAsks}
 -- what holds of each request that steps ask, but for the removal of an instance
 pub record IsOfEach (g : Terms) (P : Request → Type 0) : Type 0 where
   pub whole : (scene : SceneSeen) (node : Node) → P (read_of scene node None)
-  pub some : (scene : SceneSeen) (node : Node) (size : ℕ) → P (read_of scene node (Some (records_for size)))
+  pub some : (scene : SceneSeen) (node : Node) (most : ℕ) → most < 2 ^ 64 → P (read_of scene node (Some most))
   pub wrote : (scene : SceneSeen) (node : Node) (append : Bool) (text : List ℕ) → P (write_of scene node append text)
   pub made : (name : List ℕ) → P (MakeInstance (Some name))
   pub injected : (pid : ℕ) (event : Definition) (pairs : List Pair) → P (injection (pid % g.config.cpus) event (pid % 2 ^ 31) pairs)
@@ -122,6 +129,56 @@ first-notes scene noting notes done (Some line) = by (done == 0)
     by : (first : Bool) → NotesThere scene (if first then noting line.text line.fault else Keeps)
     by true = notes line.text line.fault
     by false = tt
+
+-- ---- how many records are asked for
+
+few-records : (size : ℕ) → max 1 (min size 131072 / 2048) < 2 ^ 64
+few-records size = let few : min size 131072 / 2048 ≤ min size 131072 = omega arith in omega (arith, few)
+
+-- a row takes four bytes of a page at least
+left-behind : (room delta size left : ℕ) → room_left room delta size ≡ Some left → left + 4 ≤ room
+unfolding room_left
+left-behind room delta size left = by (nat_le (event_head_size delta size + size) room) refl
+  where
+    head : 4 ≤ event_head_size delta size
+    head = either (λ (n : ℕ). 4 ≤ n + (if nat_le size 112 then 4 else 8)) (nat_lt delta (2 ^ 27)) 0 8
+        (either (λ (n : ℕ). 4 ≤ 0 + n) (nat_le size 112) 4 8 (omega arith) (omega arith))
+        (either (λ (n : ℕ). 4 ≤ 8 + n) (nat_le size 112) 4 8 (omega arith) (omega arith))
+
+    by : (fits : Bool) → nat_le (event_head_size delta size + size) room ≡ fits
+        → (if fits then Some (room - (event_head_size delta size + size)) else None) ≡ Some left → left + 4 ≤ room
+    by true fits is =
+        let within = leb-true (event_head_size delta size + size) room fits in
+        let same : room - (event_head_size delta size + size) ≡ left = cc in omega (arith, head, within, same)
+    by false fits is = absurd (let no : None ≡ Some left = is in cc)
+
+room-taken : (room time : ℕ) (row : PageRow) (left : ℕ) → room_after room time row ≡ Some left → left + 4 ≤ room
+unfolding room_after room_left
+room-taken room time row left = by ((row.lost == 0 && nat_le time row.time) && nat_lt (row.time - time) (2 ^ 59))
+  where
+    by : (fits : Bool) → (if fits then room_left room (row.time - time) (length row.bytes) else None) ≡ Some left → left + 4 ≤ room
+    by true is = left-behind room (row.time - time) (length row.bytes) left is
+    by false is = absurd (let no : None ≡ Some left = is in cc)
+
+few-after : (room time : ℕ) (rows : List PageRow) → taken_after room time rows ≤ room
+few-after room time [] = omega arith
+few-after room time (row ∷ rows) = by (room_after room time row) refl (λ left. few-after left row.time rows)
+  where
+    by : (left : Option ℕ) → room_after room time row ≡ left → ((l : ℕ) → taken_after l row.time rows ≤ l)
+        → option_map_or (λ (l : ℕ). suc (taken_after l row.time rows)) left 0 ≤ room
+    by None is few = omega arith
+    by (Some left) is few = let less = room-taken room time row left is in let more = few left in omega (arith, less, more)
+
+few-rows : (rows : List PageRow) → taken_of rows < 2 ^ 64
+few-rows [] = omega arith
+few-rows (row ∷ rows) = by (room_left (4080 - length (lost_bytes row.lost)) 0 (length row.bytes)) refl
+  where
+    by : (left : Option ℕ) → room_left (4080 - length (lost_bytes row.lost)) 0 (length row.bytes) ≡ left
+        → option_map_or (λ (l : ℕ). suc (taken_after l row.time rows)) left 0 < 2 ^ 64
+    by None is = omega arith
+    by (Some left) is =
+        let less = left-behind (4080 - length (lost_bytes row.lost)) 0 (length row.bytes) left is in
+        let more = few-after left row.time rows in omega (arith, less, more)
 
 -- ---- what is asked for lines
 
@@ -217,7 +274,8 @@ module _ (P : Request → Type 0) (C : Counted → Type 0) (g : Terms) (s : Serv
   new-is : (read : Parked) (flags : ℕ) (file : OpenSeen) → Is (read_new g s read flags file)
   new-is read flags file =
       if-either Is (is_dry g s file.owner file.file) (read_dry read flags (ends g s file) s.files)
-      (read_records (scene_of g s) read.handle read.size (node_of file) s.files) (λ is. dry-is read flags (ends g s file)) (λ is. each.some (scene_of g s) (node_of file) read.size)
+      (read_records (scene_of g s) read.handle read.size (node_of file) s.files) (λ is. dry-is read flags (ends g s file))
+      (λ is. each.some (scene_of g s) (node_of file) (records_for read.size) (few-records read.size))
 
   pipe-is : (read : Parked) (flags : ℕ) (file : OpenSeen) → Is (read_pipe g s read flags file)
   pipe-is read flags file =
@@ -227,8 +285,40 @@ module _ (P : Request → Type 0) (C : Counted → Type 0) (g : Terms) (s : Serv
   directly-is read true flags file = tt
   directly-is read false flags file = pipe-is read flags file
 
+  page-is : (read : Parked) (file : OpenSeen) → Is (read_page g s read file)
+  page-is read file =
+      each.some (scene_of g s) (pipe_node file) (next_count g s file.owner (file_index file.file)) (few-rows (next_rows g s file.owner (file_index file.file)))
+
+  no-page-is : (read : Parked) (file : OpenSeen) → Is (read_no_page read file s.files)
+  no-page-is read file =
+      if-either Is file.polls.told_ready (taking (replies.Data (part_of 0 read.size (page_of []))) (with_dry_read false read.handle s.files))
+      (failed EAGAIN (with_dry_read false read.handle s.files)) (λ is. tt) (λ is. tt)
+
+  whole-page-is : (read : Parked) (file : OpenSeen) → Is (read_whole_page g s read file)
+  whole-page-is read file =
+      if-either Is (nat_lt read.size 4096) (failed EINVAL s.files) (if is_dry g s file.owner file.file then read_no_page read file s.files else read_page g s read file)
+      (λ is. tt)
+      (λ is. if-either Is (is_dry g s file.owner file.file) (read_no_page read file s.files) (read_page g s read file)
+      (λ is. no-page-is read file) (λ is. page-is read file))
+
+  new-page-is : (read : Parked) (flags : ℕ) (file : OpenSeen) → Is (read_new_page g s read flags file)
+  new-page-is read flags file =
+      if-either Is (is_dry g s file.owner file.file) (read_dry read flags (ends g s file) s.files) (read_page g s read file)
+      (λ is. dry-is read flags (ends g s file)) (λ is. page-is read file)
+
+  pages-is : (read : Parked) (flags : ℕ) (file : OpenSeen) → Is (read_pages g s read flags file)
+  pages-is read flags file =
+      if-either Is (is_used_up file) (read_new_page g s read flags file) (Plain (given_records read.handle read.size (unwrap_or file.text []) s.files))
+      (λ is. new-page-is read flags file) (λ is. tt)
+
+  raw-is : (read : Parked) (cached : Bool) (flags : ℕ) (file : OpenSeen) → Is (read_raw g s read cached flags file)
+  raw-is read true flags file =
+      if-either Is (is_used_up file) (read_whole_page g s read file) (failed EINVAL s.files) (λ is. whole-page-is read file) (λ is. tt)
+  raw-is read false flags file = pages-is read flags file
+
   read-kind-is : (read : Parked) (offset : ℕ) (cached : Bool) (flags : ℕ) (file : OpenSeen) (kind : FileKind) → Is (read_kind g s read offset cached flags file kind)
   read-kind-is read offset cached flags file kinds.Pipe = directly-is read cached flags file
+  read-kind-is read offset cached flags file kinds.RawPipe = raw-is read cached flags file
   read-kind-is read offset cached flags file kinds.Inject = tt
   read-kind-is read offset cached flags file kinds.Tool =
       unless-is read cached offset file (read_tool g s read.handle offset read.size file)
@@ -276,6 +366,7 @@ module _ (P : Request → Type 0) (C : Counted → Type 0) (g : Terms) (s : Serv
   other-is handle file bytes kinds.Text there = write-text-is handle file bytes there
   other-is handle file bytes kinds.Trace there = write-text-is handle file bytes there
   other-is handle file bytes kinds.Pipe there = write-text-is handle file bytes there
+  other-is handle file bytes kinds.RawPipe there = write-text-is handle file bytes there
   other-is handle file bytes kinds.Inject there = write-text-is handle file bytes there
 
   injection-notes : (file : OpenSeen) (event : Definition) → owner_is_there (scene_of g s) file.owner ≡ true
@@ -383,22 +474,25 @@ module _ (P : Request → Type 0) (C : Counted → Type 0) (g : Terms) (s : Serv
       if-either Is (is_recent (length s.past) count) (plain (telling (size_counted count)) s.files) (count_text g s telling owner file)
       (λ is. tt) (λ is. counts owner file there)
 
-  size-is : CountsThere → (telling : Telling) (owner : Owner) (file : File) (kind : FileKind) → is_there (scene_of g s) (nodes.File owner file) ≡ true
-      → Is (size_by_kind g s telling owner file kind)
-  size-is counts telling owner file kinds.Pipe there = tt
-  size-is counts telling owner file kinds.Inject there = tt
-  size-is counts telling owner file kinds.ErrorLog there = counts owner file there
-  size-is counts telling owner file kinds.Tool there = recent-is counts telling owner file (count_of (number_of (nodes.File owner file)) s.counted) there
-  size-is counts telling owner file kinds.Text there = recent-is counts telling owner file (count_of (number_of (nodes.File owner file)) s.counted) there
-  size-is counts telling owner file kinds.Trace there = recent-is counts telling owner file (count_of (number_of (nodes.File owner file)) s.counted) there
+  size-is : CountsThere → (telling : Telling) (pages : ℕ) (owner : Owner) (file : File) (kind : FileKind)
+      → is_there (scene_of g s) (nodes.File owner file) ≡ true → Is (size_by_kind g s telling pages owner file kind)
+  size-is counts telling pages owner file kinds.Pipe there = tt
+  size-is counts telling pages owner file kinds.RawPipe there = tt
+  size-is counts telling pages owner file kinds.Inject there = tt
+  size-is counts telling pages owner file kinds.ErrorLog there = counts owner file there
+  size-is counts telling pages owner file kinds.Tool there = recent-is counts telling owner file (count_of (number_of (nodes.File owner file)) s.counted) there
+  size-is counts telling pages owner file kinds.Text there = recent-is counts telling owner file (count_of (number_of (nodes.File owner file)) s.counted) there
+  size-is counts telling pages owner file kinds.Trace there = recent-is counts telling owner file (count_of (number_of (nodes.File owner file)) s.counted) there
 
-  tell-is : CountsThere → (telling : Telling) (node : Node) → is_there (scene_of g s) node ≡ true → Is (tell_size g s telling node)
-  tell-is counts telling (nodes.Folder owner folder) there = tt
-  tell-is counts telling (nodes.File owner file) there = size-is counts telling owner file (kind_of_file file) there
+  tell-is : CountsThere → (telling : Telling) (pages : ℕ) (node : Node) → is_there (scene_of g s) node ≡ true → Is (tell_size g s telling pages node)
+  tell-is counts telling pages (nodes.Folder owner folder) there = tt
+  tell-is counts telling pages (nodes.File owner file) there = size-is counts telling pages owner file (kind_of_file file) there
 
-  entry-is : CountsThere → (found : Option Node) → ((node : Node) → found ≡ Some node → is_there (scene_of g s) node ≡ true) → Is (tell_entry g s found)
-  entry-is counts None there = tt
-  entry-is counts (Some node) there = tell-is counts (λ size. replies.Entry (attributes_of g node size)) node (there node refl)
+  entry-is : CountsThere → (unique : ℕ) (found : Option Node) → ((node : Node) → found ≡ Some node → is_there (scene_of g s) node ≡ true)
+      → Is (tell_entry g s unique found)
+  entry-is counts unique None there = tt
+  entry-is counts unique (Some node) there =
+      tell-is counts (λ size. replies.Entry (entry_number unique node) (attributes_of g node size)) (2 ^ 40) node (there node refl)
 
   found-is : (name : List ℕ) (folder : Option Node) (node : Node) → found_in (scene_of g s) name folder ≡ Some node → is_there (scene_of g s) node ≡ true
   found-is name None node is = absurd (let no : None ≡ Some node = is in cc)
@@ -406,7 +500,7 @@ module _ (P : Request → Type 0) (C : Counted → Type 0) (g : Terms) (s : Serv
 
   told-is : CountsThere → (found : Option Node) → ((node : Node) → found ≡ Some node → is_there (scene_of g s) node ≡ true) → Is (tell_attributes g s found)
   told-is counts None there = tt
-  told-is counts (Some node) there = tell-is counts (λ size. replies.Attributes (attributes_of g node size)) node (there node refl)
+  told-is counts (Some node) there = tell-is counts (λ size. replies.Attributes (attributes_of g node size)) 0 node (there node refl)
 
   attributes-is : CountsThere → (target : Option Node) → Is (get_attributes g s target)
   attributes-is counts target = told-is counts (known (scene_of g s) target) (known-there target)
@@ -426,6 +520,8 @@ module _ (P : Request → Type 0) (C : Counted → Type 0) (g : Terms) (s : Serv
   made-is name (Some (nodes.Folder Top folders.PerCpu)) = tt
   made-is name (Some (nodes.Folder Top folders.Events)) = tt
   made-is name (Some (nodes.Folder Top folders.Synthetic)) = tt
+  made-is name (Some (nodes.Folder Top folders.Ftrace)) = tt
+  made-is name (Some (nodes.Folder Top folders.FtracePrint)) = tt
   made-is name (Some (nodes.Folder Top (folders.Cpu cpu))) = tt
   made-is name (Some (nodes.Folder Top (folders.Event event))) = tt
   made-is name (Some (nodes.Folder Top folders.Instances)) =
@@ -442,6 +538,8 @@ module _ (P : Request → Type 0) (C : Counted → Type 0) (g : Terms) (s : Serv
   removed-is name (Some (nodes.Folder Top folders.PerCpu)) = tt
   removed-is name (Some (nodes.Folder Top folders.Events)) = tt
   removed-is name (Some (nodes.Folder Top folders.Synthetic)) = tt
+  removed-is name (Some (nodes.Folder Top folders.Ftrace)) = tt
+  removed-is name (Some (nodes.Folder Top folders.FtracePrint)) = tt
   removed-is name (Some (nodes.Folder Top (folders.Cpu cpu))) = tt
   removed-is name (Some (nodes.Folder Top (folders.Event event))) = tt
   removed-is name (Some (nodes.Folder Top folders.Instances)) = inr (record { name = name; is = refl; notes = refl })
@@ -452,6 +550,7 @@ module _ (P : Request → Type 0) (C : Counted → Type 0) (g : Terms) (s : Serv
     where
       by : (kind : FileKind) → Is (poll_kind g s handle wakeup flags file kind)
       by kinds.Pipe = tt
+      by kinds.RawPipe = tt
       by kinds.Text = tt
       by kinds.Trace = tt
       by kinds.Tool = tt
@@ -461,7 +560,7 @@ module _ (P : Request → Type 0) (C : Counted → Type 0) (g : Terms) (s : Serv
   -- ---- all
 
   pub step-is : CountsThere → (unique pid : ℕ) (target : Option Node) (operation : Operation) → Is (step_of g s unique pid target operation)
-  step-is counts unique pid target (operations.Lookup name) = entry-is counts (found_in (scene_of g s) name target) (found-is name target)
+  step-is counts unique pid target (operations.Lookup name) = entry-is counts unique (found_in (scene_of g s) name target) (found-is name target)
   step-is counts unique pid target operations.GetAttr = attributes-is counts target
   step-is counts unique pid target (operations.SetAttr valid size) = set-is counts target valid size
   step-is counts unique pid target (operations.MkDir name) = made-is name (known (scene_of g s) target)

@@ -1,5 +1,5 @@
 -- The sizes that are told are lengths: a text that was counted is what its file shows, as long as no command was done since then.
-use Rattle.std.proofs.Common.{◌≡◌, inl, inr, ℕ, ◌+◌, ◌-◌, ◌/◌, ◌%◌, ◌<◌, ◌≤◌, eqb, nat_le, nat_lt, Bool, true, false, not, ◌&&◌, cond, if◌then◌else◌, List, [], ◌∷◌, ◌++◌, All, length, drop, filter, find, is_some, Option, Some, None, IsOk, Result, Ok, Err, refl, sym, ap, subst, ◌∙◌, append-nil, length-append, arith, eqb-true, leb-false, ltb-true}
+use Rattle.std.proofs.Common.{◌≡◌, inl, inr, ℕ, ◌+◌, ◌-◌, ◌/◌, ◌%◌, ◌^◌, ◌<◌, ◌≤◌, eqb, nat_le, nat_lt, Bool, true, false, not, ◌&&◌, cond, if◌then◌else◌, List, [], ◌∷◌, ◌++◌, All, length, drop, filter, find, is_some, Option, Some, None, IsOk, Result, Ok, Err, refl, sym, ap, subst, ◌∙◌, append-nil, length-append, arith, eqb-true, leb-false, ltb-true}
 use Rattle.std.specs.Result.{result_ok}
 use Rattle.std.proofs.lemmas.Bool.{and_parts, false≢true}
 use Rattle.std.proofs.lemmas.List.Elements.{All-cons, All-drop, All-filter, All-head, All-nil, All-push, All-tail, All-weaker}
@@ -17,6 +17,8 @@ use Rattle.trace_format.specs.Cells.{record_size_of}
 use Rattle.trace_format.specs.Definitions.{Definition}
 use Rattle.trace_format.specs.Reading.{definition_of, cause_in}
 use Rattle.trace_format.specs.declared.fault.CatalogFault.TheVariants as catalog
+use Rattle.tracer.specs.Lives.{live_answer}
+use Rattle.trace_command.specs.declared.command.Reply.TheVariants as answers
 use Rattle.tracer_specification.proofs.LegalEvents.{asked-done}
 use Rattle.tracer_specification.specs.History.{added_answer, answer_with_room, declaration_answer, read_declaration_answer}
 use Rattle.tracer_specification.specs.Pasts.{AreDone}
@@ -31,7 +33,7 @@ use Rattle.mount_tree.specs.Nodes.{FitsItsTypes, file_place, number_from, number
 use Rattle.mount_tree.specs.Scenes.{event_at}
 use Rattle.mount_tree.specs.ScenesAfter.{events_after, scene_after}
 use Rattle.file_list.specs.declared.file.File.{File}
-use Rattle.file_list.specs.declared.file.File.TheVariants.{CpuSize, EventId, Inject, OfCpu, OfEvent}
+use Rattle.file_list.specs.declared.file.File.TheVariants.{CpuSize, EventId, Inject, OfCpu, OfEvent, RawPipe}
 use Rattle.file_list.specs.declared.file.FileKind.{FileKind}
 use Rattle.file_list.specs.declared.file.FileKind.TheVariants as kinds
 use Rattle.mount_tree.specs.declared.node.Node.{Node}
@@ -44,15 +46,18 @@ use Rattle.mount_replies.proofs.DoneLemmas.{turn-done}
 use Rattle.mount_replies.proofs.PartLaws.{does-adds}
 use Rattle.mount_replies.proofs.RunLemmas.{Adds}
 use Rattle.mount_replies.proofs.TurnLemmas.{call-keeps, call_step, turns-keep}
-use Rattle.mount_replies.specs.Calls.{Called, Exchanged, IsTurned, TakesTurns, Turn}
+use Rattle.mount_replies.proofs.ShownTurns.{shown-there, trace-kind}
+use Rattle.mount_replies.specs.Calls.{Called, Exchanged, IsTurned, Shows, TakesTurns, Turn}
 use Rattle.mount_replies.specs.Mounted.{AreServed, Does, IsExchanged, IsNamed, Right, TellsOwed, Unframed, Wrong, bytes_of_reply}
 use Rattle.mount_replies.specs.Owed.{Owed, ReplyAt, WakeupAt, owed, step_of_parked}
 use Rattle.mount_replies.specs.PastLaws.{SizesAreLengths, TellsLength, WasDone, is_shown, just_mounted}
 use Rattle.mount_replies.specs.Served.{step_of}
 use Rattle.mount_replies.specs.Services.{Service, Terms, count_of, is_of_node, latest_texts, most_counted, most_texts, scene_of, with_count, without_oldest, without_read}
-use Rattle.mount_replies.specs.Sizes.{Telling, count_text, counted_now, get_attributes, set_attributes, size_by_kind, size_of_text, tell_entry, tell_size, text_now, text_of_kind}
-use Rattle.mount_replies.specs.Steps.{Asks, AsksLines, AsksNoting, Counts, Interrupts, Parks, Plain, Step, Takes, Tells, plain}
+use Rattle.mount_replies.specs.Sizes.{Telling, count_text, counted_now, entry_number, get_attributes, set_attributes, size_by_kind, size_of_text, tell_entry, tell_size, text_now, text_of_kind, text_answered}
+use Rattle.mount_replies.specs.Steps.{Asks, AsksLines, AsksNoting, Counts, Interrupts, Parks, Plain, Step, Takes, Tells, plain, read_of}
+use Rattle.mount_replies.specs.ShownTexts.{WasShown, count_then, node_shown, shown_step}
 use Rattle.mount_replies.specs.Told.{attributes_of, found_in, sets_size}
+use Rattle.mount_replies.specs.declared.shown.ShownText.{ShownText}
 use Rattle.mount_replies.specs.declared.counted.Counted.{Counted}
 
 -- ---- few events
@@ -119,6 +124,7 @@ index-small : (cpus : ℕ) (past : List Request) (owner : Owner) (file : File) �
     → file_is_there (scene_after cpus past) owner file ≡ true → file_index file < 256
 index-small cpus past owner (OfCpu cpu file) few events there = let below = ltb-true cpu cpus there in omega (arith, few, below)
 index-small cpus past owner (CpuSize cpu) few events there = let below = ltb-true cpu cpus there in omega (arith, few, below)
+index-small cpus past owner (RawPipe cpu) few events there = let below = ltb-true cpu cpus there in omega (arith, few, below)
 index-small cpus past owner (OfEvent event file) few events there = event-small past event events there
 index-small cpus past owner (Inject event) few events there = event-small past event events there
 index-small cpus past owner (EventId event) few events there = event-small past event events there
@@ -158,6 +164,7 @@ text-same g s owner file kinds.Tool plain = refl
 text-same g s owner file kinds.Text plain = refl
 text-same g s owner file kinds.Trace plain = refl
 text-same g s owner file kinds.Pipe plain = refl
+text-same g s owner file kinds.RawPipe plain = refl
 text-same g s owner file kinds.Inject plain = refl
 text-same g s owner file kinds.ErrorLog plain = absurd (false≢true (sym plain))
 
@@ -255,7 +262,7 @@ any_request request = Unit {0}
 any-requests : (g : Terms) → IsOfEach g any_request
 any-requests g = record {
   whole = λ scene node. tt;
-  some = λ scene node size. tt;
+  some = λ scene node most few. tt;
   wrote = λ scene node append text. tt;
   made = λ path. tt;
   injected = λ pid event pairs. tt;
@@ -303,6 +310,38 @@ exchange-counted : (g : Terms) (before : Service) (asked bytes : List ℕ) (afte
 exchange-counted g before [] bytes after ranges was all is = owed-counted g before (owed g before) bytes after all is
 exchange-counted g before (byte ∷ asked) bytes after ranges was all is = served-counted g before (byte ∷ asked) bytes after ranges was all is.1
 
+no-commands : (past : List Request) → length past ≡ 0 → past ≡ []
+no-commands [] none = refl
+no-commands (request ∷ past) none = absurd (omega (arith, none))
+
+-- what a trace showed after earlier commands is exact as long as no other was done
+then-counted : (g : Terms) (past : List Request) → IsInRange g.config → WasDone g past → (shown : ShownText) → WasShown g past shown
+    → IsCounted g past (count_then shown)
+then-counted g past ranges was shown one = record {
+  within = omega (arith, one.was.after_is, long);
+  exact = λ recent. none-later (no-commands one.later (omega (arith, recent, one.was.after_is, long)));
+}
+  where
+    long : length past ≡ length one.later + length one.earlier
+    long = ap (λ (p : List Request). length p) one.is ∙ length-append one.later one.earlier
+
+    none-later : one.later ≡ [] → IsExact g past (count_then shown)
+    none-later none other fellow found number plain =
+        let now : past ≡ one.earlier = one.is ∙ ap (λ (later : List Request). later ++ one.earlier) none in
+        let there : is_there (scene_after g.config.cpus past) (node_shown shown) ≡ true = rw now one.was.there in
+        let shows : live_answer g.config past (read_of (scene_after g.config.cpus past) (node_shown shown) None) ≡ Ok (answers.Text shown.text) = rw now one.was.shows in
+        let few = few-events g.config past was.done in
+        let small = index-small g.config.cpus past shown.owner shown.file ranges.few_cpus few
+        (and_parts (owner_is_there (scene_after g.config.cpus past) shown.owner) (file_is_there (scene_after g.config.cpus past) shown.owner shown.file) there).1 in
+        let little = index-small g.config.cpus past other fellow ranges.few_cpus few
+        (and_parts (owner_is_there (scene_after g.config.cpus past) other) (file_is_there (scene_after g.config.cpus past) other fellow) found).1 in
+        let same = one-file shown.owner other shown.file fellow small little (sym number) in
+        let text : shown.text ≡ text_now g (only_past past) shown.owner shown.file =
+        trace-kind (λ (k : FileKind). shown.text ≡ text_of_kind g (only_past past) shown.owner shown.file k) shown.file one.was.trace
+        (sym (ap text_answered shows)) (sym (ap text_answered shows)) in
+        ap (λ (t : List ℕ). length t) text ∙ ap (λ (o : Owner). length (text_now g (only_past past) o shown.file)) same.0
+        ∙ ap (λ (f : File). length (text_now g (only_past past) other f)) same.1
+
 -- a call counts nothing
 turn-counted : (g : Terms) (before : Service) (turn : Turn) (after : Service) → IsInRange g.config → WasDone g before.past → HasCounted g before
     → IsTurned g before turn after → HasCounted g after
@@ -310,6 +349,10 @@ turn-counted g before (Exchanged asked bytes) after ranges was all is = exchange
 turn-counted g before (Called limit request answer) after ranges was all is =
     call-keeps g (HasCounted g) before limit request answer after all
     (λ does. same-counted g before (call_step g before request) (Some replies.Done) after all does (ap counted_of is.1)) is
+turn-counted g before (Shows shown asked bytes) after ranges was all is =
+    does-counted g before (shown_step g before is.request.unique shown is.request.operation) is.reply after
+    (shown-there any_request (IsCounted g before.past) (scene_after g.config.cpus before.past) g before is.request.unique shown is.request.operation
+    (then-counted g before.past ranges was shown is.was)) all is.does
 
 all-counted : (g : Terms) (turns : List Turn) (after : Service) → IsInRange g.config → TakesTurns g just_mounted turns after → HasCounted g after
 all-counted g turns after ranges is =
@@ -354,15 +397,16 @@ module _ (g : Terms) (before after : Service) (unique : ℕ) (bytes : List ℕ) 
       by false recent d = count-told d
 
   kind-told : HasCounted g before → is_there (scene_of g before) (nodes.File owner file) ≡ true → (kind : FileKind) → kind_of_file file ≡ kind → is_shown kind ≡ true
-      → Does g before (size_by_kind g before telling owner file kind) reply after → TellsLength g before telling owner file unique bytes
-  kind-told all there kinds.Pipe at shown does = absurd (false≢true shown)
-  kind-told all there kinds.Inject at shown does = absurd (false≢true shown)
-  kind-told all there kinds.ErrorLog at shown does = count-told does
-  kind-told all there kinds.Tool at shown does =
+      → (pages : ℕ) → Does g before (size_by_kind g before telling pages owner file kind) reply after → TellsLength g before telling owner file unique bytes
+  kind-told all there kinds.Pipe at shown pages does = absurd (false≢true shown)
+  kind-told all there kinds.RawPipe at shown pages does = absurd (false≢true shown)
+  kind-told all there kinds.Inject at shown pages does = absurd (false≢true shown)
+  kind-told all there kinds.ErrorLog at shown pages does = count-told does
+  kind-told all there kinds.Tool at shown pages does =
       counted-told all there (ap is_log at) (count_of (number_of (nodes.File owner file)) before.counted) refl does
-  kind-told all there kinds.Text at shown does =
+  kind-told all there kinds.Text at shown pages does =
       counted-told all there (ap is_log at) (count_of (number_of (nodes.File owner file)) before.counted) refl does
-  kind-told all there kinds.Trace at shown does =
+  kind-told all there kinds.Trace at shown pages does =
       counted-told all there (ap is_log at) (count_of (number_of (nodes.File owner file)) before.counted) refl does
 
 -- a number names one node
@@ -371,7 +415,7 @@ named-same number None node none named = absurd (none node named.0 named.1)
 named-same number (Some other) node one named = ap Some (same_number other node one.0 named.0 (one.1 ∙ sym named.1))
 
 known-same : (g : Terms) (s : Service) (node : Node) → is_there (scene_of g s) node ≡ true
-    → get_attributes g s (Some node) ≡ tell_size g s (λ size. replies.Attributes (attributes_of g node size)) node
+    → get_attributes g s (Some node) ≡ tell_size g s (λ size. replies.Attributes (attributes_of g node size)) 0 node
 known-same g s node there = rw there refl
 
 set-same : (g : Terms) (s : Service) (target : Option Node) (valid size : ℕ) → sets_size valid size ≡ false
@@ -383,24 +427,26 @@ sizes_are_lengths g turns before after request bytes owner file ranges served is
   λ asks named. attributes-told (attributes-step named) (rw asks at is.does),
   λ valid asked asks sets named. attributes-told (set-same g before is.node valid asked sets ∙ attributes-step named) (rw asks at is.does),
   λ name folder asks named found.
-      let step = ap (λ (target : Option Node). tell_entry g before (found_in (scene_of g before) name target))
-      (named-same request.node is.node folder is.named named) ∙ ap (tell_entry g before) found in
-      kind-told g before after request.unique bytes is.reply owner file (λ size. replies.Entry (attributes_of g (nodes.File owner file) size)) is.told all there
-      (kind_of_file file) refl shown (subst (λ (s : Step). Does g before s is.reply after) step (rw asks at is.does)),
+      let step = ap (λ (target : Option Node). tell_entry g before request.unique (found_in (scene_of g before) name target))
+      (named-same request.node is.node folder is.named named) ∙ ap (tell_entry g before request.unique) found in
+      kind-told g before after request.unique bytes is.reply owner file
+      (λ size. replies.Entry (entry_number request.unique (nodes.File owner file)) (attributes_of g (nodes.File owner file) size)) is.told all there
+      (kind_of_file file) refl shown (2 ^ 40) (subst (λ (s : Step). Does g before s is.reply after) step (rw asks at is.does)),
 )
   where
     all : HasCounted g before
     all = all-counted g turns before ranges served
 
     attributes-step : IsNamed request.node (Some (nodes.File owner file))
-        → get_attributes g before is.node ≡ tell_size g before (λ size. replies.Attributes (attributes_of g (nodes.File owner file) size)) (nodes.File owner file)
+        → get_attributes g before is.node
+        ≡ tell_size g before (λ size. replies.Attributes (attributes_of g (nodes.File owner file) size)) 0 (nodes.File owner file)
     attributes-step named =
         ap (get_attributes g before) (named-same request.node is.node (nodes.File owner file) is.named named)
         ∙ known-same g before (nodes.File owner file) there
 
-    attributes-told : {step : Step} → step ≡ tell_size g before (λ size. replies.Attributes (attributes_of g (nodes.File owner file) size)) (nodes.File owner file)
+    attributes-told : {step : Step} → step ≡ tell_size g before (λ size. replies.Attributes (attributes_of g (nodes.File owner file) size)) 0 (nodes.File owner file)
         → Does g before step is.reply after
         → TellsLength g before (λ size. replies.Attributes (attributes_of g (nodes.File owner file) size)) owner file request.unique bytes
     attributes-told same does =
         kind-told g before after request.unique bytes is.reply owner file (λ size. replies.Attributes (attributes_of g (nodes.File owner file) size)) is.told all there
-        (kind_of_file file) refl shown (subst (λ (s : Step). Does g before s is.reply after) same does)
+        (kind_of_file file) refl shown 0 (subst (λ (s : Step). Does g before s is.reply after) same does)

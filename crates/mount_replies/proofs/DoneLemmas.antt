@@ -17,11 +17,12 @@ use Rattle.mount_replies.proofs.AnswerLemmas.{may-noting}
 use Rattle.mount_replies.proofs.NewEvents.{declared-new}
 use Rattle.mount_replies.proofs.RunLemmas.{any-lines, lines-keep}
 use Rattle.mount_replies.proofs.TurnLemmas.{call-keeps, call_step, room-within, turns-keep}
-use Rattle.mount_replies.specs.Calls.{Called, Exchanged, IsTurned, Turn}
+use Rattle.mount_replies.specs.Calls.{Called, Exchanged, IsTurned, Shows, Turn}
 use Rattle.mount_replies.specs.Mounted.{AreServed, Does, IsExchanged, MayAnswer, Right, TellsOwed, Unframed, Wrong, past_after}
 use Rattle.mount_replies.specs.Owed.{Owed, ReplyAt, WakeupAt, owed}
 use Rattle.mount_replies.specs.PastLaws.{PastsAreDone, WasDone, just_mounted}
 use Rattle.mount_replies.specs.Services.{Service, Terms}
+use Rattle.mount_replies.specs.ShownTexts.{shown_step}
 use Rattle.mount_replies.specs.Steps.{Asks, AsksLines, AsksNoting, Counts, Interrupts, Parks, Plain, Step, Takes, Tells}
 
 -- ---- answers
@@ -84,6 +85,8 @@ turn-done g before (Exchanged asked bytes) after was is = exchange-done g before
 turn-done g before (Called limit request answer) after was is =
     call-keeps g (λ (s : Service). WasDone g s.past) before limit request answer after was
     (does-done g before (call_step g before request) (Some replies.Done) after was) is
+turn-done g before (Shows shown asked bytes) after was is =
+    does-done g before (shown_step g before is.request.unique shown is.request.operation) is.reply after was is.does
 
 pub pasts_are_done : PastsAreDone
 pasts_are_done g turns after is =

@@ -31,12 +31,14 @@ use Rattle.mount_replies.proofs.AskedSteps.{IsOfEach, IsOfThere, NotesThere, par
 use Rattle.mount_replies.proofs.DoneLemmas.{turn-done}
 use Rattle.mount_replies.proofs.RunLemmas.{lines-keep}
 use Rattle.mount_replies.proofs.TurnLemmas.{call-keeps, call_step, turns-keep}
-use Rattle.mount_replies.specs.Calls.{Called, Exchanged, IsTurned, Turn}
+use Rattle.mount_replies.proofs.ShownTurns.{shown-there}
+use Rattle.mount_replies.specs.Calls.{Called, Exchanged, IsTurned, Shows, Turn}
 use Rattle.mount_replies.specs.Mounted.{AreServed, Does, IsExchanged, Right, TellsOwed, Unframed, Wrong, past_after}
 use Rattle.mount_replies.specs.Owed.{Owed, ReplyAt, WakeupAt, owed, step_of_parked}
 use Rattle.mount_replies.specs.PastLaws.{ErrorsAreOfInstances, WasDone, just_mounted}
 use Rattle.mount_replies.specs.Served.{forgotten, step_of}
 use Rattle.mount_replies.specs.Services.{Service, Terms, without_read}
+use Rattle.mount_replies.specs.ShownTexts.{shown_step}
 use Rattle.mount_replies.specs.Steps.{Asks, AsksLines, AsksNoting, Counts, Forgets, Interrupts, Keeps, Notes, Noting, Parks, Plain, Step, Takes, Tells, errors_after}
 use Rattle.mount_replies.specs.Told.{found_in}
 use Rattle.mount_replies.specs.declared.counted.Counted.{Counted}
@@ -214,7 +216,7 @@ Owned g s = AreOwned g s.past s.errors
 all-leave : (g : Terms) → IsOfEach g LeavesAll
 all-leave g = record {
   whole = λ scene node. refl;
-  some = λ scene node size. refl;
+  some = λ scene node most few. refl;
   wrote = λ scene node append text. refl;
   made = λ name. refl;
   injected = λ pid event pairs. refl;
@@ -294,6 +296,9 @@ turn-owned g before (Exchanged asked bytes) after was all is = exchange-owned g 
 turn-owned g before (Called limit request answer) after was all is =
     call-keeps g (Owned g) before limit request answer after all
     (does-owned g before (call_step g before request) (Some replies.Done) after was (call-leaves g before request) all) is
+turn-owned g before (Shows shown asked bytes) after was all is =
+    does-owned g before (shown_step g before is.request.unique shown is.request.operation) is.reply after was
+    (shown-there LeavesAll any_count (scene_after g.config.cpus before.past) g before is.request.unique shown is.request.operation tt) all is.does
 
 pub errors_are_of_instances : ErrorsAreOfInstances
 errors_are_of_instances g turns after is =

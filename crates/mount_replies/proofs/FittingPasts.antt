@@ -1,5 +1,5 @@
 -- The numbers of what a mounted tracer did fit their types.
-use Rattle.std.proofs.Common.{inl, inr, ℕ, ◌/◌, ◌%◌, ◌^◌, ◌<◌, ◌≤◌, max, min, List, [], ◌∷◌, Option, Some, None, Result, Ok, Err, sym, subst, arith}
+use Rattle.std.proofs.Common.{inl, inr, ℕ, ◌%◌, ◌^◌, ◌<◌, ◌≤◌, List, [], ◌∷◌, Option, Some, None, Result, Ok, Err, sym, subst, arith}
 use Rattle.std.specs.List.{All}
 use Rattle.std.proofs.lemmas.List.Elements.{All-cons, All-head, All-nil, All-tail}
 use Rattle.fuse_wire.specs.declared.reply.Reply.{Reply}
@@ -10,7 +10,8 @@ use Rattle.trace_command.specs.declared.refusal.Refusal.{Refusal}
 use Rattle.mount_tree.specs.ScenesAfter.{scene_after}
 use Rattle.mount_replies.proofs.AskedSteps.{IsOfEach, IsOfThere, parked-is, step-is}
 use Rattle.mount_replies.proofs.RunLemmas.{lines-keep}
-use Rattle.mount_replies.specs.Calls.{CallFits, Called, Exchanged, IsTurned, TakesTurns, Turn}
+use Rattle.mount_replies.proofs.ShownTurns.{shown-rests}
+use Rattle.mount_replies.specs.Calls.{CallFits, Called, Exchanged, IsTurned, Shows, TakesTurns, Turn}
 use Rattle.mount_replies.specs.Mounted.{AreServed, Does, IsExchanged, Right, TellsOwed, Unframed, Wrong, past_after}
 use Rattle.mount_replies.specs.Owed.{Owed, ReplyAt, WakeupAt, owed, step_of_parked}
 use Rattle.mount_replies.specs.PastLaws.{PastsFitTheirTypes, just_mounted}
@@ -21,16 +22,13 @@ use Rattle.mount_replies.specs.declared.counted.Counted.{Counted}
 
 -- ---- what steps ask
 
-few-records : (size most : ℕ) → max 1 (min size 131072 / 2048) < 2 ^ 64
-few-records size most = let few : min size 131072 / 2048 ≤ min size 131072 = omega arith in omega (arith, few)
-
 cpu-fits : (pid cpus : ℕ) → 1 ≤ cpus → cpus ≤ 8 → pid % cpus < 2 ^ 32
 cpu-fits pid cpus some few = omega arith
 
 each-fits : (g : Terms) → IsInRange g.config → IsOfEach g FitsItsTypes
 each-fits g range = record {
   whole = λ scene node. tt;
-  some = λ scene node size. few-records size 0;
+  some = λ scene node most few. few;
   wrote = λ scene node append text. tt;
   made = λ name. tt;
   injected = λ pid event pairs. (cpu-fits pid g.config.cpus range.some_cpus range.few_cpus, record { sfits = omega arith });
@@ -93,6 +91,8 @@ module _ (g : Terms) (range : IsInRange g.config) where
   turn-fits before (Exchanged asked bytes) after fits all is = exchange-fits before asked bytes after all is
   turn-fits before (Called limit request answer) after fits all is =
       subst (λ (s : Service). Fit s.past) (sym is.1) (one-fits before.past request answer fits all)
+  turn-fits before (Shows shown asked bytes) after fits all is =
+      subst Fit (sym (shown-rests g before is.request.unique shown is.request.operation is.reply after is.does).past) all
 
   all-fit : (before : Service) (turns : List Turn) (after : Service) → All CallFits turns → Fit before.past → TakesTurns g before turns after → Fit after.past
   all-fit before [] after fit all is = subst (λ (s : Service). Fit s.past) (sym is) all

@@ -1,5 +1,5 @@
 -- What open files keep of what was written to them: no newline, and nothing where no newline was ever written.
-use Rattle.std.proofs.Common.{◌≡◌, inl, inr, ℕ, ◌==◌, zero, suc, Bool, true, false, not, ◌&&◌, ◌||◌, if◌then◌else◌, cond, nat_lt, List, [], ◌∷◌, ◌++◌, length, set, Option, Some, None, option_map, Result, Ok, Err, refl, sym, ap, subst, ◌∙◌, slice_get}
+use Rattle.std.proofs.Common.{◌≡◌, inl, inr, ℕ, ◌^◌, ◌==◌, zero, suc, Bool, true, false, not, ◌&&◌, ◌||◌, if◌then◌else◌, cond, nat_lt, List, [], ◌∷◌, ◌++◌, length, set, Option, Some, None, option_map, Result, Ok, Err, refl, sym, ap, subst, ◌∙◌, slice_get}
 use Rattle.std.proofs.Math.Dec.{eqb-suc-zero}
 use Rattle.std.proofs.lemmas.Bool.{false≢true}
 use Rattle.std.specs.List.{list_any, onto_first}
@@ -14,6 +14,7 @@ use Rattle.tracer_specification.specs.Settings.{declared_events, now_of}
 use Rattle.error_log.specs.Logs.{log_text}
 use Rattle.mount_tree.specs.Children.{is_there}
 use Rattle.file_list.specs.FileKinds.{access_of_file, kind_of_file}
+use Rattle.file_list.specs.FileTable.{file_index}
 use Rattle.mount_tree.specs.Nodes.{number_of}
 use Rattle.mount_tree.specs.Scenes.{most_made}
 use Rattle.file_list.specs.declared.file.File.{File}
@@ -34,17 +35,20 @@ use Rattle.mount_replies.proofs.KeptTexts.{either}
 use Rattle.mount_replies.specs.FileWrites.{event_of_file, flush_file, flush_line, has_rest, inject, release, release_line, switched, write_file, write_kind, write_other, write_tool}
 use Rattle.mount_replies.specs.Lines.{flushed, goes_on, has_newline, injected, injected_at_once, is_memory, is_newline, last_piece, pieces_of, released, stream_after, written}
 use Rattle.mount_replies.proofs.TurnLemmas.{turns-keep}
-use Rattle.mount_replies.specs.Calls.{Called, Exchanged, IsTurned, Turn}
+use Rattle.mount_replies.specs.Calls.{Called, Exchanged, IsTurned, Shows, Turn}
 use Rattle.mount_replies.specs.Mounted.{AreServed, Does, IsExchanged, Right, TellsOwed, Unframed, Wrong}
 use Rattle.mount_replies.specs.Owed.{Owed, ReplyAt, WakeupAt, owed, step_of_parked}
 use Rattle.mount_replies.specs.PastLaws.{just_mounted}
-use Rattle.mount_replies.specs.Pipes.{ends, is_dry, is_used_up, would_wait}
-use Rattle.mount_replies.specs.Served.{AsksNone, AsksToWrite, Emptying, clears, emptied_first, emptying_of, given_counted, given_text, given_tool, handed_out, is_cached, is_nonblocking, made_folder, make_folder, makes_text, opened, opened_unless_emptied, poll_file, poll_kind, read_dry, read_file, read_kind, read_log, read_new, read_pipe, read_pipe_directly, read_shown, read_text, read_tool, remove_folder, removed_folder, step_of, taken_records, text_counted, unless_counted, wants_wakeup, with_going_on}
+use Rattle.mount_replies.specs.Pipes.{ends, has_nothing, is_dry, is_used_up, would_wait}
+use Rattle.mount_replies.specs.RawPages.{next_page}
+use Rattle.mount_replies.specs.Served.{AsksNone, AsksToWrite, Emptying, clears, emptied_first, emptying_of, given_counted, given_page, given_text, given_tool, handed_out, is_cached, is_nonblocking, made_folder, make_folder, makes_text, opened, opened_unless_emptied, poll_file, poll_kind, read_dry, read_file, read_kind, read_log, read_new, read_no_page, read_page, read_pipe, read_pipe_directly, read_raw, read_shown, read_text, read_tool, remove_folder, removed_folder, step_of, taken_records, text_counted, unless_counted, wants_wakeup, with_going_on, with_wanted_poll}
 use Rattle.mount_replies.specs.ServedErrors.{KeepsLine, OpenFilesKeepLines}
-use Rattle.mount_replies.specs.Services.{OpenSeen, Service, Terms, after_reading, armed, count_of, drop_rest, file_at, free_handle, is_read_out, just_opened, node_of, polled_by, read_of_pipe, scene_of, with_change, with_dry_read, with_file, with_poll, with_reading, with_records, with_stream, with_write, without_file, without_read, without_rest, without_wakeup}
-use Rattle.mount_replies.specs.Sizes.{Telling, is_recent, set_attributes, size_by_kind, size_of_text, tell_attributes, tell_entry, tell_size}
+use Rattle.mount_replies.specs.Services.{OpenSeen, Service, Terms, after_reading, armed, count_of, drop_rest, file_at, free_handle, is_read_out, just_opened, node_of, polled_by, read_of_pipe, scene_of, with_change, with_dry_read, with_file, with_poll, with_reading, with_records, with_stream, with_told_ready, with_write, without_file, without_read, without_rest, without_wakeup}
+use Rattle.mount_replies.specs.Sizes.{Telling, entry_number, is_recent, set_attributes, size_by_kind, size_of_text, tell_attributes, tell_entry, tell_size}
+use Rattle.mount_replies.specs.ShownTexts.{shown_step}
 use Rattle.mount_replies.specs.Steps.{Asks, AsksLines, AsksNoting, Counts, Interrupts, LineRefused, Outcome, Parks, Plain, Ran, Step, Takes, Tells}
 use Rattle.mount_replies.specs.Told.{attributes_of, empties, found_in, known, may, sets_size, wants_read, wants_write}
+use Rattle.mount_replies.specs.declared.shown.ShownText.{ShownText}
 use Rattle.mount_replies.specs.declared.counted.Counted.{Counted}
 use Rattle.mount_replies.specs.declared.parked.Parked.{Parked}
 use Rattle.mount_replies.specs.declared.stream.Stream.{Stream}
@@ -130,9 +134,13 @@ dry-none ended files handle none = change-none (λ (file : OpenSeen). record fil
 poll-none : (wakeup : ℕ) (waits : Bool) (files : List (Option OpenSeen)) (handle : ℕ) → NoneKeepsMore files → NoneKeepsMore (with_poll wakeup waits handle files)
 poll-none wakeup waits files handle none = change-none (λ (file : OpenSeen). record file { polls = polled_by wakeup waits file.polls }) (λ file h. h) files handle none
 
+ready-none : (ready : Bool) (files : List (Option OpenSeen)) (handle : ℕ) → NoneKeepsMore files → NoneKeepsMore (with_told_ready ready handle files)
+ready-none ready files handle none =
+    change-none (λ (file : OpenSeen). record file { polls = record file.polls { told_ready = ready } }) (λ file h. h) files handle none
+
 wakeup-none : (files : List (Option OpenSeen)) (handle : ℕ) → NoneKeepsMore files → NoneKeepsMore (without_wakeup handle files)
 wakeup-none files handle none =
-    change-none (λ (file : OpenSeen). record file { polls = record { asked = file.polls.asked; wakeup = None; told_end = file.polls.told_end } }) (λ file h. h) files handle none
+    change-none (λ (file : OpenSeen). record file { polls = record file.polls { wakeup = None } }) (λ file h. h) files handle none
 
 drop-none : (files : List (Option OpenSeen)) (handle : ℕ) → NoneKeepsMore files → NoneKeepsMore (drop_rest handle files)
 drop-none files handle none =
@@ -235,8 +243,30 @@ module _ (g : Terms) (s : Service) (none : NoneKeepsMore s.files) where
   directly-none read true flags file = none
   directly-none read false flags file = pipe-none read flags file
 
+  page-none : (handle size : ℕ) (page : List ℕ) (answer : Result Answer Refusal) → KeepsNone (given_page handle size page s.files answer)
+  page-none handle size page (Ok answer) = records-none _ s.files handle none
+  page-none handle size page (Err refusal) = none
+
+  new-page-none : (read : Parked) (file : OpenSeen) → LeavesNone (read_page g s read file)
+  new-page-none read file = page-none read.handle read.size (next_page g s file.owner (file_index file.file))
+
+  no-page-none : (read : Parked) (file : OpenSeen) → LeavesNone (read_no_page read file s.files)
+  no-page-none read file = either LeavesNone file.polls.told_ready _ _ (dry-none false s.files read.handle none) (dry-none false s.files read.handle none)
+
+  raw-none : (read : Parked) (cached : Bool) (flags : ℕ) (file : OpenSeen) → LeavesNone (read_raw g s read cached flags file)
+  raw-none read true flags file =
+      either LeavesNone (is_used_up file) _ _
+      (either LeavesNone (nat_lt read.size 4096) _ _ none
+      (either LeavesNone (is_dry g s file.owner file.file) _ _ (no-page-none read file) (new-page-none read file)))
+      none
+  raw-none read false flags file =
+      either LeavesNone (is_used_up file) _ _
+      (either LeavesNone (is_dry g s file.owner file.file) _ _ (read-dry-none read flags (ends g s file)) (new-page-none read file))
+      (records-none _ s.files read.handle none)
+
   read-kind-none : (read : Parked) (offset : ℕ) (cached : Bool) (flags : ℕ) (file : OpenSeen) (kind : FileKind) → LeavesNone (read_kind g s read offset cached flags file kind)
   read-kind-none read offset cached flags file kinds.Pipe = directly-none read cached flags file
+  read-kind-none read offset cached flags file kinds.RawPipe = raw-none read cached flags file
   read-kind-none read offset cached flags file kinds.Inject = none
   read-kind-none read offset cached flags file kinds.Tool =
       unless-none read cached offset file (read_tool g s read.handle offset read.size file)
@@ -360,23 +390,24 @@ module _ (g : Terms) (s : Service) (none : NoneKeepsMore s.files) where
   size-none : (telling : Telling) (owner : Owner) (file : File) (count : Option Counted) → LeavesNone (size_of_text g s telling owner file count)
   size-none telling owner file count = either LeavesNone (is_recent (length s.past) count) _ _ none none
 
-  by-kind-none : (telling : Telling) (owner : Owner) (file : File) (kind : FileKind) → LeavesNone (size_by_kind g s telling owner file kind)
-  by-kind-none telling owner file kinds.Pipe = none
-  by-kind-none telling owner file kinds.Inject = none
-  by-kind-none telling owner file kinds.ErrorLog = none
-  by-kind-none telling owner file _ = size-none telling owner file (count_of (number_of (nodes.File owner file)) s.counted)
+  by-kind-none : (telling : Telling) (pages : ℕ) (owner : Owner) (file : File) (kind : FileKind) → LeavesNone (size_by_kind g s telling pages owner file kind)
+  by-kind-none telling pages owner file kinds.Pipe = none
+  by-kind-none telling pages owner file kinds.RawPipe = none
+  by-kind-none telling pages owner file kinds.Inject = none
+  by-kind-none telling pages owner file kinds.ErrorLog = none
+  by-kind-none telling pages owner file _ = size-none telling owner file (count_of (number_of (nodes.File owner file)) s.counted)
 
-  tell-none : (telling : Telling) (node : Node) → LeavesNone (tell_size g s telling node)
-  tell-none telling (nodes.Folder owner folder) = none
-  tell-none telling (nodes.File owner file) = by-kind-none telling owner file (kind_of_file file)
+  tell-none : (telling : Telling) (pages : ℕ) (node : Node) → LeavesNone (tell_size g s telling pages node)
+  tell-none telling pages (nodes.Folder owner folder) = none
+  tell-none telling pages (nodes.File owner file) = by-kind-none telling pages owner file (kind_of_file file)
 
-  entry-none : (found : Option Node) → LeavesNone (tell_entry g s found)
-  entry-none None = none
-  entry-none (Some node) = tell-none (λ size. replies.Entry (attributes_of g node size)) node
+  entry-none : (unique : ℕ) (found : Option Node) → LeavesNone (tell_entry g s unique found)
+  entry-none unique None = none
+  entry-none unique (Some node) = tell-none (λ size. replies.Entry (entry_number unique node) (attributes_of g node size)) (2 ^ 40) node
 
   attributes-none : (found : Option Node) → LeavesNone (tell_attributes g s found)
   attributes-none None = none
-  attributes-none (Some node) = tell-none (λ size. replies.Attributes (attributes_of g node size)) node
+  attributes-none (Some node) = tell-none (λ size. replies.Attributes (attributes_of g node size)) 0 node
 
   set-none : (target : Option Node) (valid size : ℕ) → LeavesNone (set_attributes g s target valid size)
   set-none target valid size = either LeavesNone (sets_size valid size) _ _ none (attributes-none (known (scene_of g s) target))
@@ -404,6 +435,10 @@ module _ (g : Terms) (s : Service) (none : NoneKeepsMore s.files) where
   polled-none handle wakeup flags file kinds.Pipe =
       either NoneKeepsMore (wants_wakeup flags) (with_poll wakeup (would_wait g s file) handle s.files) s.files
       (poll-none wakeup (would_wait g s file) s.files handle none) none
+  polled-none handle wakeup flags file kinds.RawPipe =
+      ready-none (not (has_nothing g s file)) (with_wanted_poll (wants_wakeup flags) wakeup (has_nothing g s file) handle s.files) handle
+      (either NoneKeepsMore (wants_wakeup flags) (with_poll wakeup (has_nothing g s file) handle s.files) s.files
+      (poll-none wakeup (has_nothing g s file) s.files handle none) none)
   polled-none handle wakeup flags file _ = none
 
   poll-file-none : (handle wakeup flags : ℕ) (slot : Option OpenSeen) → LeavesNone (poll_file g s handle wakeup flags slot)
@@ -411,7 +446,7 @@ module _ (g : Terms) (s : Service) (none : NoneKeepsMore s.files) where
   poll-file-none handle wakeup flags (Some file) = polled-none handle wakeup flags file (kind_of_file file.file)
 
   step-none : (unique pid : ℕ) (target : Option Node) (operation : Operation) → LeavesNone (step_of g s unique pid target operation)
-  step-none unique pid target (operations.Lookup name) = entry-none (found_in (scene_of g s) name target)
+  step-none unique pid target (operations.Lookup name) = entry-none unique (found_in (scene_of g s) name target)
   step-none unique pid target operations.GetAttr = attributes-none (known (scene_of g s) target)
   step-none unique pid target (operations.SetAttr valid size) = set-none target valid size
   step-none unique pid target (operations.MkDir name) = made-none name (known (scene_of g s) target)
@@ -468,10 +503,19 @@ exchange-none : (g : Terms) (before : Service) (asked bytes : List ℕ) (after :
 exchange-none g before [] bytes after none told = told-none g before (owed g before) bytes after none told
 exchange-none g before (byte ∷ asked) bytes after none (quiet, served) = asked-none g before (byte ∷ asked) bytes after none served
 
+text-shown-none : (g : Terms) (s : Service) → NoneKeepsMore s.files → (unique : ℕ) (shown : ShownText) (operation : Operation)
+    → LeavesNone (shown_step g s unique shown operation)
+text-shown-none g s none unique shown (operations.Lookup name) = none
+text-shown-none g s none unique shown (operations.Read handle offset size read_flags flags) = reading-none 0 size shown.text s.files handle none
+text-shown-none g s none unique shown _ = none
+
 turn-none : (g : Terms) (before : Service) (turn : Turn) (after : Service) → NoneKeepsMore before.files → IsTurned g before turn after
     → NoneKeepsMore after.files
 turn-none g before (Exchanged asked bytes) after none is = exchange-none g before asked bytes after none is
 turn-none g before (Called limit request answer) after none is = subst (λ (s : Service). NoneKeepsMore s.files) (sym is.1) none
+turn-none g before (Shows shown asked bytes) after none is =
+    does-none g before (shown_step g before is.request.unique shown is.request.operation) is.reply after none
+    (text-shown-none g before none is.request.unique shown is.request.operation) is.does
 
 pub open_files_keep_lines : OpenFilesKeepLines
 open_files_keep_lines g turns after is handle file opened =

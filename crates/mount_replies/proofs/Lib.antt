@@ -4,6 +4,8 @@ pub mod Steps
 pub mod FileLemmas
 pub mod PipeLemmas
 pub mod ReadLemmas
+pub mod PageReads
+pub mod PageLaws
 pub mod OpenLemmas
 pub mod LineLemmas
 pub mod ListingLemmas
@@ -17,6 +19,7 @@ pub mod TurnLemmas
 pub mod DoneLemmas
 pub mod AddressLemmas
 pub mod CallLemmas
+pub mod CopyLemmas
 pub mod WatchLemmas
 pub mod SwitchLemmas
 pub mod ShownLemmas
@@ -24,6 +27,7 @@ pub mod TimesLemmas
 pub mod AnsweredOnce
 pub mod WaitLaws
 pub mod RecordsKept
+pub mod PagesKept
 pub mod ToolLemmas
 pub mod PieceLemmas
 pub mod StreamLemmas
@@ -32,8 +36,11 @@ pub mod CommandLemmas
 pub mod StreamSteps
 pub mod QuietLemmas
 pub mod SizeLemmas
+pub mod EntryNumbers
 pub mod RunLemmas
 pub mod AskedSteps
+pub mod ShownTurns
+pub mod ShownServing
 pub mod ErrorOwners
 pub mod FittingPasts
 pub mod CountedLemmas

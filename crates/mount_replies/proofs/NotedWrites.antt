@@ -50,7 +50,7 @@ use Rattle.mount_replies.specs.Owed.{Owed, ReplyAt, WakeupAt, owed, step_of_park
 use Rattle.mount_replies.specs.Served.{AsksNone, AsksToWrite, Emptying, clears, emptied, emptying_of, forgotten, forgotten_if_done, handed_out, is_cached, make_folder, made_folder, opened, opened_file, opened_unless_emptied, poll_file, poll_kind, remove_folder, removed_folder, step_of}
 use Rattle.mount_replies.specs.ServedErrors.{EndsLines, IsBlamed, IsFileOf, IsFirstRefused, IsNoted, IsRefusedWrite, KeepLines, KeepsLine, NotedWritesWereRefused, OfCommand, OfEvent, OfLongLine, OfNothing, OfSwitch, OfWord, Opens, Writes, bytes_written, event_injected, first_not_done, not_done, noting_asked, noting_by, noting_told, writer_of}
 use Rattle.mount_replies.specs.Services.{OpenSeen, Service, Terms, count_of, drop_rest, file_at, just_opened, node_of, read_of_pipe, scene_of, with_stream, with_write, without_file, without_read, without_rest}
-use Rattle.mount_replies.specs.Sizes.{Telling, count_text, is_recent, set_attributes, get_attributes, size_by_kind, size_counted, size_of_text, tell_attributes, tell_entry, tell_size}
+use Rattle.mount_replies.specs.Sizes.{Telling, count_text, entry_number, is_recent, set_attributes, get_attributes, size_by_kind, size_counted, size_of_text, tell_attributes, tell_entry, tell_size}
 use Rattle.mount_replies.specs.Steps.{Asking, Asks, AsksFor, AsksLines, AsksNothing, AsksNoting, Counts, Forgets, Interrupts, IsTooLong, IsWrongLine, Keeps, LineAsked, LineRefused, Notes, Noting, Outcome, Parks, Plain, Ran, Step, Takes, Tells, failed, plain, told}
 use Rattle.mount_replies.specs.Told.{attributes_of, empties, found_in, known, may, sets_size, wants_read, wants_write}
 use Rattle.mount_replies.specs.declared.counted.Counted.{Counted}
@@ -296,6 +296,7 @@ module _ (g : Terms) (s : Service) (pid : ℕ) (operation : Operation) (F : Open
   other-notes handle file bytes kinds.Text by written is = text-notes handle file bytes by written
   other-notes handle file bytes kinds.Trace by written is = text-notes handle file bytes by written
   other-notes handle file bytes kinds.Pipe by written is = text-notes handle file bytes by written
+  other-notes handle file bytes kinds.RawPipe by written is = text-notes handle file bytes by written
   other-notes handle file bytes kinds.Inject by written is = text-notes handle file bytes by written
 
   -- what its open file keeps, where open files keep lines
@@ -482,23 +483,24 @@ module _ (g : Terms) (s : Service) (pid : ℕ) (operation : Operation) (F : Open
   size-notes telling owner file count =
       either StepNotes (is_recent (length s.past) count) (plain (telling (size_counted count)) s.files) (count_text g s telling owner file) tt tt
 
-  by-kind-notes : (telling : Telling) (owner : Owner) (file : File) (kind : FileKind) → StepNotes (size_by_kind g s telling owner file kind)
-  by-kind-notes telling owner file kinds.Pipe = tt
-  by-kind-notes telling owner file kinds.Inject = tt
-  by-kind-notes telling owner file kinds.ErrorLog = tt
-  by-kind-notes telling owner file _ = size-notes telling owner file (count_of (number_of (nodes.File owner file)) s.counted)
+  by-kind-notes : (telling : Telling) (pages : ℕ) (owner : Owner) (file : File) (kind : FileKind) → StepNotes (size_by_kind g s telling pages owner file kind)
+  by-kind-notes telling pages owner file kinds.Pipe = tt
+  by-kind-notes telling pages owner file kinds.RawPipe = tt
+  by-kind-notes telling pages owner file kinds.Inject = tt
+  by-kind-notes telling pages owner file kinds.ErrorLog = tt
+  by-kind-notes telling pages owner file _ = size-notes telling owner file (count_of (number_of (nodes.File owner file)) s.counted)
 
-  tell-notes : (telling : Telling) (node : Node) → StepNotes (tell_size g s telling node)
-  tell-notes telling (nodes.Folder owner folder) = tt
-  tell-notes telling (nodes.File owner file) = by-kind-notes telling owner file (kind_of_file file)
+  tell-notes : (telling : Telling) (pages : ℕ) (node : Node) → StepNotes (tell_size g s telling pages node)
+  tell-notes telling pages (nodes.Folder owner folder) = tt
+  tell-notes telling pages (nodes.File owner file) = by-kind-notes telling pages owner file (kind_of_file file)
 
-  entry-notes : (found : Option Node) → StepNotes (tell_entry g s found)
-  entry-notes None = tt
-  entry-notes (Some node) = tell-notes (λ size. replies.Entry (attributes_of g node size)) node
+  entry-notes : (unique : ℕ) (found : Option Node) → StepNotes (tell_entry g s unique found)
+  entry-notes unique None = tt
+  entry-notes unique (Some node) = tell-notes (λ size. replies.Entry (entry_number unique node) (attributes_of g node size)) (2 ^ 40) node
 
   attributes-notes : (found : Option Node) → StepNotes (tell_attributes g s found)
   attributes-notes None = tt
-  attributes-notes (Some node) = tell-notes (λ size. replies.Attributes (attributes_of g node size)) node
+  attributes-notes (Some node) = tell-notes (λ size. replies.Attributes (attributes_of g node size)) 0 node
 
   set-notes : (target : Option Node) (valid size : ℕ) → StepNotes (set_attributes g s target valid size)
   set-notes target valid size =
@@ -530,6 +532,7 @@ module _ (g : Terms) (s : Service) (pid : ℕ) (operation : Operation) (F : Open
 
   polled-notes : (handle wakeup flags : ℕ) (file : OpenSeen) (kind : FileKind) → StepNotes (poll_kind g s handle wakeup flags file kind)
   polled-notes handle wakeup flags file kinds.Pipe = tt
+  polled-notes handle wakeup flags file kinds.RawPipe = tt
   polled-notes handle wakeup flags file _ = tt
 
   poll-notes : (handle wakeup flags : ℕ) (slot : Option OpenSeen) → StepNotes (poll_file g s handle wakeup flags slot)
@@ -540,7 +543,7 @@ module _ (g : Terms) (s : Service) (pid : ℕ) (operation : Operation) (F : Open
 
 request-notes : (g : Terms) (s : Service) (unique pid : ℕ) (target : Option Node) (operation : Operation)
     → StepNotes g s pid operation (IsFileOf g s target operation) (step_of g s unique pid target operation)
-request-notes g s unique pid target (operations.Lookup name) = entry-notes g s pid (operations.Lookup name) (λ file. ⊥) (found_in (scene_of g s) name target)
+request-notes g s unique pid target (operations.Lookup name) = entry-notes g s pid (operations.Lookup name) (λ file. ⊥) unique (found_in (scene_of g s) name target)
 request-notes g s unique pid target operations.GetAttr = attributes-notes g s pid operations.GetAttr (λ file. ⊥) (known (scene_of g s) target)
 request-notes g s unique pid target (operations.SetAttr valid size) = set-notes g s pid (operations.SetAttr valid size) (λ file. ⊥) target valid size
 request-notes g s unique pid target (operations.MkDir name) = made-notes g s pid (operations.MkDir name) (λ file. ⊥) name (known (scene_of g s) target)

@@ -1,5 +1,5 @@
 -- What requests other than READs come to: none parks a read, and the open files keep the texts that their reads give.
-use Rattle.std.proofs.Common.{◌≡◌, ℕ, ◌==◌, ◌&&◌, nat_lt, Bool, true, false, List, length, Option, Some, None, Result, Ok, Err, refl, sym}
+use Rattle.std.proofs.Common.{◌≡◌, ℕ, ◌^◌, ◌==◌, ◌&&◌, nat_lt, Bool, true, false, not, List, length, Option, Some, None, Result, Ok, Err, refl, sym, ◌∙◌}
 use Rattle.std.proofs.lemmas.Bool.{false≢true}
 use Rattle.std.specs.List.{slice_get}
 use Rattle.fuse_wire.specs.declared.reply.Reply.TheVariants as replies
@@ -28,15 +28,15 @@ use Rattle.mount_stub_files.specs.declared.write.ToolWrite.TheVariants.{Missing,
 use Rattle.mount_stub_files.specs.declared.write.ToolWrite.TheVariants as writes
 use Rattle.mount_replies.specs.FileWrites.{event_of_file, flush_file, flush_line, has_rest, inject, release, release_line, switched, write_file, write_kind, write_other, write_tool}
 use Rattle.mount_replies.specs.Lines.{flushed, goes_on, injected, injected_at_once, is_memory, released, stream_after, written}
-use Rattle.mount_replies.specs.Pipes.{would_wait}
-use Rattle.mount_replies.specs.Served.{AsksNone, AsksToWrite, Emptying, clears, emptied_first, emptying_of, made_folder, make_folder, make_instance, opened, opened_unless_emptied, poll_file, poll_kind, remove_folder, removed_folder, step_of, wants_wakeup}
-use Rattle.mount_replies.specs.Services.{OpenSeen, Service, Terms, count_of, drop_rest, file_at, just_opened, node_of, polled_by, scene_of, with_poll, with_stream, with_write, without_rest}
-use Rattle.mount_replies.specs.Sizes.{Telling, is_recent, set_attributes, size_by_kind, size_of_text, tell_attributes, tell_entry, tell_size}
+use Rattle.mount_replies.specs.Pipes.{has_nothing, would_wait}
+use Rattle.mount_replies.specs.Served.{AsksNone, AsksToWrite, Emptying, clears, emptied_first, emptying_of, made_folder, make_folder, make_instance, opened, opened_unless_emptied, poll_file, poll_kind, remove_folder, removed_folder, step_of, wants_wakeup, with_wanted_poll}
+use Rattle.mount_replies.specs.Services.{OpenSeen, Service, Terms, count_of, drop_rest, file_at, just_opened, node_of, polled_by, scene_of, text_at, with_poll, with_stream, with_told_ready, with_write, without_rest}
+use Rattle.mount_replies.specs.Sizes.{Telling, entry_number, is_recent, set_attributes, size_by_kind, size_of_text, tell_attributes, tell_entry, tell_size}
 use Rattle.mount_replies.specs.Steps.{Asks, AsksLines, AsksNoting, Counts, Interrupts, LineRefused, Outcome, Parks, Plain, Ran, Step, Takes, Tells}
 use Rattle.mount_replies.specs.Told.{attributes_of, empties, found_in, known, may, sets_size, wants_read, wants_write}
 use Rattle.mount_replies.specs.declared.counted.Counted.{Counted}
 use Rattle.mount_replies.specs.declared.stream.Stream.{Stream}
-use Rattle.mount_replies.proofs.KeptTexts.{IsKept, change-kept, closed-kept, either, opened-kept, same-kept}
+use Rattle.mount_replies.proofs.KeptTexts.{IsKept, change-kept, changed-text, closed-kept, either, opened-kept, same-kept}
 
 -- it parks no read, and whatever is answered, an open file keeps its text
 abbrev pub IsStill : ℕ → List (Option OpenSeen) → Step → Type 0
@@ -60,24 +60,27 @@ counted-still : (handle : ℕ) (g : Terms) (s : Service) (telling : Telling) (ow
 counted-still handle g s telling owner file count =
     either (IsStill handle s.files) (is_recent (length s.past) count) _ _ (same-kept handle s.files) (same-kept handle s.files)
 
-kind-sized : (handle : ℕ) (g : Terms) (s : Service) (telling : Telling) (owner : Owner) (file : File) (kind : FileKind)
-    → IsStill handle s.files (size_by_kind g s telling owner file kind)
-kind-sized handle g s telling owner file kinds.Pipe = same-kept handle s.files
-kind-sized handle g s telling owner file kinds.Inject = same-kept handle s.files
-kind-sized handle g s telling owner file kinds.ErrorLog = same-kept handle s.files
-kind-sized handle g s telling owner file _ = counted-still handle g s telling owner file (count_of (number_of (nodes.File owner file)) s.counted)
+kind-sized : (handle : ℕ) (g : Terms) (s : Service) (telling : Telling) (pages : ℕ) (owner : Owner) (file : File) (kind : FileKind)
+    → IsStill handle s.files (size_by_kind g s telling pages owner file kind)
+kind-sized handle g s telling pages owner file kinds.Pipe = same-kept handle s.files
+kind-sized handle g s telling pages owner file kinds.RawPipe = same-kept handle s.files
+kind-sized handle g s telling pages owner file kinds.Inject = same-kept handle s.files
+kind-sized handle g s telling pages owner file kinds.ErrorLog = same-kept handle s.files
+kind-sized handle g s telling pages owner file _ =
+    counted-still handle g s telling owner file (count_of (number_of (nodes.File owner file)) s.counted)
 
-sized-still : (handle : ℕ) (g : Terms) (s : Service) (telling : Telling) (node : Node) → IsStill handle s.files (tell_size g s telling node)
-sized-still handle g s telling (nodes.Folder owner folder) = same-kept handle s.files
-sized-still handle g s telling (nodes.File owner file) = kind-sized handle g s telling owner file (kind_of_file file)
+sized-still : (handle : ℕ) (g : Terms) (s : Service) (telling : Telling) (pages : ℕ) (node : Node) → IsStill handle s.files (tell_size g s telling pages node)
+sized-still handle g s telling pages (nodes.Folder owner folder) = same-kept handle s.files
+sized-still handle g s telling pages (nodes.File owner file) = kind-sized handle g s telling pages owner file (kind_of_file file)
 
-entry-still : (handle : ℕ) (g : Terms) (s : Service) (node : Option Node) → IsStill handle s.files (tell_entry g s node)
-entry-still handle g s None = same-kept handle s.files
-entry-still handle g s (Some node) = sized-still handle g s (λ size. replies.Entry (attributes_of g node size)) node
+entry-still : (handle : ℕ) (g : Terms) (s : Service) (unique : ℕ) (node : Option Node) → IsStill handle s.files (tell_entry g s unique node)
+entry-still handle g s unique None = same-kept handle s.files
+entry-still handle g s unique (Some node) =
+    sized-still handle g s (λ size. replies.Entry (entry_number unique node) (attributes_of g node size)) (2 ^ 40) node
 
 attributes-still : (handle : ℕ) (g : Terms) (s : Service) (node : Option Node) → IsStill handle s.files (tell_attributes g s node)
 attributes-still handle g s None = same-kept handle s.files
-attributes-still handle g s (Some node) = sized-still handle g s (λ size. replies.Attributes (attributes_of g node size)) node
+attributes-still handle g s (Some node) = sized-still handle g s (λ size. replies.Attributes (attributes_of g node size)) 0 node
 
 set-still : (handle : ℕ) (g : Terms) (s : Service) (node : Option Node) (valid size : ℕ) → IsStill handle s.files (set_attributes g s node valid size)
 set-still handle g s node valid size =
@@ -245,11 +248,21 @@ poll-kept : (handle wakeup : ℕ) (waits : Bool) (other : ℕ) (files : List (Op
 poll-kept handle wakeup waits other files =
     change-kept (λ (file : OpenSeen). record file { polls = polled_by wakeup waits file.polls }) (λ file. refl) handle other files
 
+raw-text : (handle : ℕ) (wanted : Bool) (wakeup : ℕ) (waits : Bool) (other : ℕ) (files : List (Option OpenSeen))
+    → text_at handle (with_told_ready (not waits) other (with_wanted_poll wanted wakeup waits other files)) ≡ text_at handle files
+raw-text handle wanted wakeup waits other files =
+    changed-text (λ (file : OpenSeen). record file { polls = record file.polls { told_ready = not waits } }) (λ file. refl)
+    (with_wanted_poll wanted wakeup waits other files) handle other
+    ∙ either (λ (now : List (Option OpenSeen)). text_at handle now ≡ text_at handle files) wanted (with_poll wakeup waits other files) files
+    (changed-text (λ (file : OpenSeen). record file { polls = polled_by wakeup waits file.polls }) (λ file. refl) files handle other) refl
+
 kind-polled : (handle : ℕ) (g : Terms) (s : Service) (other wakeup flags : ℕ) (file : OpenSeen) (kind : FileKind)
     → IsStill handle s.files (poll_kind g s other wakeup flags file kind)
 kind-polled handle g s other wakeup flags file kinds.Pipe =
     either (IsKept handle s.files) (wants_wakeup flags) (with_poll wakeup (would_wait g s file) other s.files) s.files
     (poll-kept handle wakeup (would_wait g s file) other s.files) (same-kept handle s.files)
+kind-polled handle g s other wakeup flags file kinds.RawPipe =
+    λ old new was is. raw-text handle (wants_wakeup flags) wakeup (has_nothing g s file) other s.files
 kind-polled handle g s other wakeup flags file _ = same-kept handle s.files
 
 polled-still : (handle : ℕ) (g : Terms) (s : Service) (other wakeup flags : ℕ) (slot : Option OpenSeen)
@@ -266,7 +279,7 @@ is_read _ = false
 pub others-still : (handle : ℕ) (g : Terms) (s : Service) (unique pid : ℕ) (target : Option Node) (operation : Operation) → is_read operation ≡ false
     → IsStill handle s.files (step_of g s unique pid target operation)
 others-still handle g s unique pid target (operations.Read other offset size read_flags flags) apart = absurd (false≢true (sym apart))
-others-still handle g s unique pid target (operations.Lookup name) apart = entry-still handle g s (found_in (scene_of g s) name target)
+others-still handle g s unique pid target (operations.Lookup name) apart = entry-still handle g s unique (found_in (scene_of g s) name target)
 others-still handle g s unique pid target operations.GetAttr apart = attributes-still handle g s (known (scene_of g s) target)
 others-still handle g s unique pid target (operations.SetAttr valid size) apart = set-still handle g s target valid size
 others-still handle g s unique pid target (operations.MkDir name) apart = made-still handle g (scene_of g s) name s.files (known (scene_of g s) target)

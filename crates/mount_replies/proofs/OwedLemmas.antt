@@ -1,16 +1,18 @@
 -- What telling what is owed comes to.
-use Rattle.std.proofs.Common.{◌≡◌, ◌≢◌, inl, inr, ℕ, ◌<◌, ◌==◌, zero, suc, Bool, true, false, not, ◌&&◌, ◌||◌, if◌then◌else◌, is_some, List, [], ◌∷◌, length, get_or, Option, Some, None, unwrap_or, Ok, Err, Result, refl, sym, ap, ◌∙◌, arith}
+use Rattle.std.proofs.Common.{◌≡◌, ◌≢◌, inl, inr, ℕ, ◌<◌, ◌==◌, nat_lt, zero, suc, Bool, true, false, not, ◌&&◌, ◌||◌, if◌then◌else◌, is_some, List, [], ◌∷◌, length, get_or, Option, Some, None, unwrap_or, Ok, Err, Result, refl, sym, ap, ◌∙◌, arith}
 use Rattle.std.proofs.lemmas.List.Quantifiers.{position-Some}
 use Rattle.std.specs.List.{position, remove, slice_get, slice_index_or}
 use Rattle.std.specs.Option.{option_and_then}
 use Rattle.fuse_wire.specs.Replies.{reply_bytes}
-use Rattle.fuse_wire.specs.declared.errno.Errno.TheVariants.{EINTR, ENOENT}
+use Rattle.fuse_wire.specs.declared.errno.Errno.TheVariants.{EAGAIN, EINTR, EINVAL, ENOENT}
 use Rattle.fuse_wire.specs.declared.reply.Reply.{Reply}
 use Rattle.fuse_wire.specs.declared.reply.Reply.TheVariants as replies
 use Rattle.mount_tree.specs.Children.{is_there}
 use Rattle.file_list.specs.declared.file.FileKind.{FileKind}
 use Rattle.file_list.specs.declared.file.FileKind.TheVariants as kinds
 use Rattle.file_list.specs.FileKinds.{kind_of_file}
+use Rattle.file_list.specs.FileTable.{file_index}
+use Rattle.kernel_pages.specs.Pages.{page_of}
 use Rattle.trace_command.specs.Requests.{Request}
 use Rattle.trace_command.specs.declared.command.Reply.{Reply as Answer}
 use Rattle.trace_command.specs.declared.refusal.Refusal.{Refusal}
@@ -19,9 +21,10 @@ use Rattle.mount_stub_files.specs.ToolTexts.{tool_text}
 use Rattle.mount_replies.specs.Mounted.{Does, HasLedTo, IsMounted, IsOwedCalled, IsReplying, IsTold, IsWaking, MountSeen, bytes_of_reply, service_of, terms_of}
 use Rattle.mount_replies.specs.Owed.{first_owed, is_due, is_ready, owed, step_of_parked}
 use Rattle.mount_replies.specs.Pipes.{ends, has_news, is_dry, is_used_up, waits_at, would_wait}
-use Rattle.mount_replies.specs.Served.{given_counted, given_records, given_text, given_tool, goes_on_in, makes_text, read_anew, read_dry, read_file, read_kind, read_log, read_pipe, read_pipe_directly, read_records, read_shown, read_text, read_there, read_tool, taken_records, text_counted, unless_counted}
+use Rattle.mount_replies.specs.RawPages.{next_page}
+use Rattle.mount_replies.specs.Served.{given_counted, given_page, given_records, given_text, given_tool, goes_on_in, makes_text, part_of, read_anew, read_dry, read_file, read_kind, read_log, read_no_page, read_page, read_pages, read_pipe, read_pipe_directly, read_raw, read_records, read_shown, read_text, read_there, read_tool, read_whole_page, taken_records, text_counted, unless_counted}
 use Rattle.mount_replies.specs.Services.{OpenSeen, Service, Terms, file_at, node_of, scene_of, wakeup_at, with_dry_read, without_read}
-use Rattle.mount_replies.specs.Steps.{Asks, Outcome, Plain, Step, failed}
+use Rattle.mount_replies.specs.Steps.{Asks, Outcome, Plain, Step, failed, taking}
 use Rattle.mount_replies.specs.declared.parked.Parked.{Parked}
 
 -- ---- a read that would not wait has a reply
@@ -102,10 +105,64 @@ directly-replies : (g : Terms) (s before after : Service) (read : Parked) (cache
 directly-replies g s before after read true flags file reply waits does = (_, does.0)
 directly-replies g s before after read false flags file reply waits does = pipe-replies g s before after read flags file reply waits does
 
+-- of binary pages
+page-always : (handle size : ℕ) (page : List ℕ) (files : List (Option OpenSeen)) → AlwaysReplies (given_page handle size page files)
+page-always handle size page files (Ok answer) = (_, refl)
+page-always handle size page files (Err refusal) = (_, refl)
+
+page-replies : (g : Terms) (s before after : Service) (read : Parked) (file : OpenSeen) (reply : Option Reply)
+    → Does g before (read_page g s read file) reply after → HasReply reply
+page-replies g s before after read file reply does =
+    asks-reply g before after _ _ reply (page-always read.handle read.size (next_page g s file.owner (file_index file.file)) s.files) does
+
+no-page-replies : (g : Terms) (s before after : Service) (read : Parked) (file : OpenSeen) (reply : Option Reply)
+    → Does g before (read_no_page read file s.files) reply after → HasReply reply
+no-page-replies g s before after read file reply = by file.polls.told_ready
+  where
+    by : (t : Bool) → Does g before (if t then taking (replies.Data (part_of 0 read.size (page_of []))) (with_dry_read false read.handle s.files)
+        else failed EAGAIN (with_dry_read false read.handle s.files)) reply after → HasReply reply
+    by true (inl does) = (_, does.0)
+    by true (inr does) = (_, does.0)
+    by false does = (_, does.0)
+
+whole-replies : (g : Terms) (s before after : Service) (read : Parked) (file : OpenSeen) (reply : Option Reply)
+    → Does g before (read_whole_page g s read file) reply after → HasReply reply
+whole-replies g s before after read file reply = by (nat_lt read.size 4096) (is_dry g s file.owner file.file)
+  where
+    by : (small dry : Bool) → Does g before (if small then failed EINVAL s.files
+        else if dry then read_no_page read file s.files else read_page g s read file) reply after → HasReply reply
+    by true dry does = (_, does.0)
+    by false true does = no-page-replies g s before after read file reply does
+    by false false does = page-replies g s before after read file reply does
+
+pages-replies : (g : Terms) (s before after : Service) (read : Parked) (flags : ℕ) (file : OpenSeen) (reply : Option Reply)
+    → (is_used_up file && is_dry g s file.owner file.file && not (ends g s file)) ≡ false
+    → Does g before (read_pages g s read flags file) reply after → HasReply reply
+pages-replies g s before after read flags file reply = by (is_used_up file) (is_dry g s file.owner file.file) (ends g s file)
+  where
+    by : (used dry ended : Bool) → (used && dry && not ended) ≡ false
+        → Does g before (if used then (if dry then read_dry read flags ended s.files else read_page g s read file)
+        else Plain (given_records read.handle read.size (unwrap_or file.text []) s.files)) reply after → HasReply reply
+    by false dry ended waits does = (_, does.0)
+    by true false ended waits does = page-replies g s before after read file reply does
+    by true true true waits does = (_, does.0)
+    by true true false waits does = absurd (cc)
+
+raw-replies : (g : Terms) (s before after : Service) (read : Parked) (cached : Bool) (flags : ℕ) (file : OpenSeen) (reply : Option Reply)
+    → would_wait g s file ≡ false → Does g before (read_raw g s read cached flags file) reply after → HasReply reply
+raw-replies g s before after read true flags file reply waits does = by (is_used_up file) does
+  where
+    by : (used : Bool) → Does g before (if used then read_whole_page g s read file else failed EINVAL s.files) reply after → HasReply reply
+    by true does' = whole-replies g s before after read file reply does'
+    by false does' = (_, does'.0)
+raw-replies g s before after read false flags file reply waits does = pages-replies g s before after read flags file reply waits does
+
 kind-replies : (g : Terms) (s before after : Service) (read : Parked) (offset : ℕ) (cached : Bool) (flags : ℕ) (file : OpenSeen) (kind : FileKind)
     (reply : Option Reply) → would_wait g s file ≡ false → Does g before (read_kind g s read offset cached flags file kind) reply after → HasReply reply
 kind-replies g s before after read offset cached flags file kinds.Pipe reply waits does =
     directly-replies g s before after read cached flags file reply waits does
+kind-replies g s before after read offset cached flags file kinds.RawPipe reply waits does =
+    raw-replies g s before after read cached flags file reply waits does
 kind-replies g s before after read offset cached flags file kinds.Inject reply waits does = (_, does.0)
 kind-replies g s before after read offset cached flags file kinds.Tool reply waits does =
     counted-replies g s before after read cached offset file (read_tool g s read.handle offset read.size file) reply

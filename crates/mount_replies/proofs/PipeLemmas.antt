@@ -17,7 +17,7 @@ use Rattle.trace_instance.specs.Files.{file_at as path_at}
 use Rattle.trace_instance.specs.declared.file.File.{File as Opened}
 use Rattle.trace_instance.specs.declared.file.File.TheVariants as opened
 use Rattle.mount_tree.specs.Children.{file_is_there, is_there, owner_is_there}
-use Rattle.mount_tree.specs.NodePaths.{file_meant, owner_name}
+use Rattle.mount_tree.specs.NodePaths.{owner_name}
 use Rattle.mount_tree.specs.Scenes.{event_name}
 use Rattle.file_list.specs.declared.file.File.{File}
 use Rattle.file_list.specs.declared.file.File.TheVariants as files
@@ -26,7 +26,7 @@ use Rattle.mount_tree.specs.declared.node.Owner.{Owner}
 use Rattle.mount_tree.specs.Scenes.{SceneSeen}
 use Rattle.mount_replies.specs.Mounted.{HasLedTo, MountSeen, service_of, terms_of}
 use Rattle.mount_replies.specs.Owed.{is_ready}
-use Rattle.mount_replies.specs.Pipes.{is_dry, is_no}
+use Rattle.mount_replies.specs.Pipes.{is_dry, is_no, pipe_meant}
 use Rattle.mount_replies.specs.Services.{OpenSeen, Service, Terms, file_at, has_wakeup, scene_of}
 use Rattle.mount_replies.specs.private.Looks.{pipe_in}
 
@@ -89,7 +89,7 @@ pub no-pipe : (g : Terms) (s : Service) (owner : Owner) (file : File) → pipe_i
 no-pipe g s owner file none = never (is_there (scene_of g s) (nodes.File owner file)) _ (by file none)
   where
     by : (f : File) → pipe_in g.config.cpus f ≡ None
-        → is_no (waiting g.config s.past (owner_name (scene_of g s) owner) (file_meant (scene_of g s) f)) ≡ false
+        → is_no (waiting g.config s.past (owner_name (scene_of g s) owner) (pipe_meant (scene_of g s) f)) ≡ false
     by files.SyntheticEvents e = event-no g s owner (Some paths.SyntheticEvents) (λ named is. rw (is-synthetic named is) refl)
       where
         is-synthetic : (named : paths.File) → Some paths.SyntheticEvents ≡ Some named → named ≡ paths.SyntheticEvents
@@ -109,6 +109,8 @@ no-pipe g s owner file none = never (is_there (scene_of g s) (nodes.File owner f
     by (files.CpuSize cpu) e = event-no g s owner None (λ named is. absurd (cc))
     by (files.EventId event) e = event-no g s owner None (λ named is. absurd (cc))
     by files.ErrorLog e = event-no g s owner None (λ named is. absurd (cc))
+    by (files.Layout f) e = event-no g s owner None (λ named is. absurd (cc))
+    by (files.RawPipe cpu) e = cpu-no g s owner cpu per_cpu.TracePipe e
 
 -- an instance that is not there
 pub gone-dry : (g : Terms) (s : Service) (owner : Owner) (file : File)
@@ -117,10 +119,24 @@ unfolding waiting
 gone-dry g s owner file gone = by (owner_is_there (scene_of g s) owner) (file_is_there (scene_of g s) owner file) gone
   where
     by : (o f : Bool) → (o ≡ true → exists (owner_name (scene_of g s) owner) s.past ≡ false)
-        → ((o && f) && is_no (waiting g.config s.past (owner_name (scene_of g s) owner) (file_meant (scene_of g s) file))) ≡ false
+        → ((o && f) && is_no (waiting g.config s.past (owner_name (scene_of g s) owner) (pipe_meant (scene_of g s) file))) ≡ false
     by false f e = refl
     by true false e = refl
     by true true e = rw (e refl) refl
+
+-- a CPU's pipe, by its records' lines or by their pages
+cpu-dry : (g : Terms) (s : Service) (owner : Owner) (cpu : ℕ) (pipe : Opened) (told : Result Bool Refusal)
+    → pipe_in g.config.cpus (files.OfCpu cpu per_cpu.TracePipe) ≡ Some pipe → owner_is_there (scene_of g s) owner ≡ true
+    → exists (owner_name (scene_of g s) owner) s.past ≡ true
+    → told ≡ waits_in g.config (owner_name (scene_of g s) owner) s.past (path_at [] pipe)
+    → is_dry g s owner (files.OfCpu cpu per_cpu.TracePipe) ≡ is_no told
+unfolding waiting
+cpu-dry g s owner cpu pipe told is there lives says = by (nat_lt cpu g.config.cpus) refl is
+  where
+    by : (t : Bool) → nat_lt cpu g.config.cpus ≡ t → (if t then Some (opened.OfCpu cpu per_cpu.TracePipe) else None) ≡ Some pipe
+        → is_dry g s owner (files.OfCpu cpu per_cpu.TracePipe) ≡ is_no told
+    by false e found = absurd (cc)
+    by true e found = let same : pipe ≡ opened.OfCpu cpu per_cpu.TracePipe = cc in rw (there, e, lives, says, same) refl
 
 -- a pipe of an instance that is there
 pub pipe-dry : (g : Terms) (s : Service) (owner : Owner) (file : File) (pipe : Opened) (told : Result Bool Refusal)
@@ -138,13 +154,7 @@ pipe-dry g s owner (files.OfInstance top.Snapshot) pipe told is there lives says
 pipe-dry g s owner (files.OfInstance top.EventsEnable) pipe told is there lives says = absurd (cc)
 pipe-dry g s owner (files.OfInstance top.EventsFilter) pipe told is there lives says = absurd (cc)
 pipe-dry g s owner files.SystemEnable pipe told is there lives says = absurd (cc)
-pipe-dry g s owner (files.OfCpu cpu per_cpu.TracePipe) pipe told is there lives says =
-    by (nat_lt cpu g.config.cpus) refl is
-  where
-    by : (t : Bool) → nat_lt cpu g.config.cpus ≡ t → (if t then Some (opened.OfCpu cpu per_cpu.TracePipe) else None) ≡ Some pipe
-        → is_dry g s owner (files.OfCpu cpu per_cpu.TracePipe) ≡ is_no told
-    by false e found = absurd (cc)
-    by true e found = let same : pipe ≡ opened.OfCpu cpu per_cpu.TracePipe = cc in rw (there, e, lives, says, same) refl
+pipe-dry g s owner (files.OfCpu cpu per_cpu.TracePipe) pipe told is there lives says = cpu-dry g s owner cpu pipe told is there lives says
 pipe-dry g s owner (files.OfCpu cpu per_cpu.Trace) pipe told is there lives says = absurd (cc)
 pipe-dry g s owner (files.OfCpu cpu per_cpu.Stats) pipe told is there lives says = absurd (cc)
 pipe-dry g s owner (files.OfEvent event f) pipe told is there lives says = absurd (cc)
@@ -154,6 +164,8 @@ pipe-dry g s owner (files.OfTop file) pipe told is there lives says = absurd (cc
 pipe-dry g s owner (files.CpuSize cpu) pipe told is there lives says = absurd (cc)
 pipe-dry g s owner (files.EventId event) pipe told is there lives says = absurd (cc)
 pipe-dry g s owner files.ErrorLog pipe told is there lives says = absurd (cc)
+pipe-dry g s owner (files.Layout file) pipe told is there lives says = absurd (cc)
+pipe-dry g s owner (files.RawPipe cpu) pipe told is there lives says = cpu-dry g s owner cpu pipe told is there lives says
 
 -- ---- what is told of a mounted tracer
 

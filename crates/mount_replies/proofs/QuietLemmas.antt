@@ -1,5 +1,5 @@
 -- What stays not owed: a look-up changes nothing that is owed, and a poll waits only for what is not there.
-use Rattle.std.proofs.Common.{◌≡◌, ℕ, ◌<◌, zero, suc, Bool, true, false, not, ◌&&◌, ◌||◌, if◌then◌else◌, is_some, List, [], ◌∷◌, length, set, Option, Some, None, refl, sym, ap, ◌∙◌, inl, inr, arith}
+use Rattle.std.proofs.Common.{◌≡◌, ℕ, ◌<◌, ◌^◌, zero, suc, Bool, true, false, not, ◌&&◌, ◌||◌, if◌then◌else◌, is_some, List, [], ◌∷◌, length, set, Option, Some, None, refl, sym, ap, ◌∙◌, inl, inr, arith}
 use Rattle.std.proofs.lemmas.Bool.{lt-ltb}
 use Rattle.std.specs.List.{list_any, position, position_or_len}
 use Rattle.std.specs.Option.{option_map}
@@ -10,9 +10,13 @@ use Rattle.fuse_wire.specs.declared.request.Request.{Request as Asked}
 use Rattle.fuse_wire.specs.declared.reply.Reply.{Reply}
 use Rattle.fuse_wire.specs.declared.reply.Reply.TheVariants as replies
 use Rattle.trace_command.specs.Requests.{Request}
+use Rattle.trace_command.specs.declared.file_name.CpuFile.TheVariants as per_cpu
+use Rattle.trace_command.specs.declared.file_name.EventFile.TheVariants as per_event
+use Rattle.trace_command.specs.declared.file_name.TopFile.TheVariants as top
 use Rattle.file_list.specs.FileKinds.{kind_of_file}
 use Rattle.mount_tree.specs.Nodes.{number_of}
 use Rattle.file_list.specs.declared.file.File.{File}
+use Rattle.file_list.specs.declared.file.File.TheVariants as files
 use Rattle.file_list.specs.declared.file.FileKind.{FileKind}
 use Rattle.file_list.specs.declared.file.FileKind.TheVariants as kinds
 use Rattle.mount_tree.specs.declared.node.Node.{Node}
@@ -20,14 +24,15 @@ use Rattle.mount_tree.specs.declared.node.Node.TheVariants as nodes
 use Rattle.mount_tree.specs.declared.node.Owner.{Owner}
 use Rattle.mount_replies.specs.Mounted.{Does, IsMounted, IsServedBy, IsSteppedBy, MountSeen, service_of, terms_of}
 use Rattle.mount_replies.specs.Owed.{Owed, first_owed, is_due, is_ready, owed}
-use Rattle.mount_replies.specs.Pipes.{ends, is_dry, is_used_up, waits_at, would_wait}
+use Rattle.mount_replies.specs.Pipes.{ends, has_nothing, is_dry, is_used_up, tells_end, waits_at, would_wait}
 use Rattle.mount_replies.specs.Served.{poll_file, poll_kind, step_of, wants_wakeup, with_wanted_poll}
-use Rattle.mount_replies.specs.Services.{OpenSeen, Service, Terms, count_of, file_at, polled_by, scene_of, with_change, with_poll}
-use Rattle.mount_replies.specs.Sizes.{Telling, count_text, get_attributes, is_recent, set_attributes, size_by_kind, size_counted, size_of_text, tell_attributes, tell_entry, tell_size}
+use Rattle.mount_replies.specs.Services.{OpenSeen, Service, Terms, count_of, file_at, polled_by, scene_of, with_change, with_poll, with_told_ready}
+use Rattle.mount_replies.specs.Sizes.{Telling, count_text, entry_number, get_attributes, is_recent, set_attributes, size_by_kind, size_counted, size_of_text, tell_attributes, tell_entry, tell_size}
 use Rattle.mount_replies.specs.Steps.{failed, plain}
 use Rattle.mount_replies.specs.Told.{attributes_of, found_in, known, sets_size}
 use Rattle.mount_replies.specs.declared.counted.Counted.{Counted}
 use Rattle.mount_replies.specs.declared.parked.Parked.{Parked}
+use Rattle.mount_replies.specs.declared.polls.Polls.{Polls}
 use Rattle.mount_replies.specs.private.StillReplies.{may_owe}
 use Rattle.mount_replies.proofs.FileLemmas.{none-set}
 use Rattle.mount_replies.proofs.Firsts.{no-first}
@@ -95,32 +100,35 @@ text-quiet g s after telling owner file count reply = by (is_recent (length s.pa
     by true does = plain-quiet g s after (telling (size_counted count)) reply does
     by false does = count-quiet g s after telling owner file reply does
 
-kind-quiet : (g : Terms) (s after : Service) (telling : Telling) (owner : Owner) (file : File) (kind : FileKind) (reply : Option Reply)
-    → Does g s (size_by_kind g s telling owner file kind) reply after → owed g after ≡ owed g s
-kind-quiet g s after telling owner file kinds.Pipe reply does = plain-quiet g s after (telling 1) reply does
-kind-quiet g s after telling owner file kinds.Inject reply does = plain-quiet g s after (telling 0) reply does
-kind-quiet g s after telling owner file kinds.ErrorLog reply does = count-quiet g s after telling owner file reply does
-kind-quiet g s after telling owner file kinds.Tool reply does =
+kind-quiet : (g : Terms) (s after : Service) (telling : Telling) (pages : ℕ) (owner : Owner) (file : File) (kind : FileKind) (reply : Option Reply)
+    → Does g s (size_by_kind g s telling pages owner file kind) reply after → owed g after ≡ owed g s
+kind-quiet g s after telling pages owner file kinds.Pipe reply does = plain-quiet g s after (telling 1) reply does
+kind-quiet g s after telling pages owner file kinds.RawPipe reply does = plain-quiet g s after (telling pages) reply does
+kind-quiet g s after telling pages owner file kinds.Inject reply does = plain-quiet g s after (telling 0) reply does
+kind-quiet g s after telling pages owner file kinds.ErrorLog reply does = count-quiet g s after telling owner file reply does
+kind-quiet g s after telling pages owner file kinds.Tool reply does =
     text-quiet g s after telling owner file (count_of (number_of (nodes.File owner file)) s.counted) reply does
-kind-quiet g s after telling owner file kinds.Text reply does =
+kind-quiet g s after telling pages owner file kinds.Text reply does =
     text-quiet g s after telling owner file (count_of (number_of (nodes.File owner file)) s.counted) reply does
-kind-quiet g s after telling owner file kinds.Trace reply does =
+kind-quiet g s after telling pages owner file kinds.Trace reply does =
     text-quiet g s after telling owner file (count_of (number_of (nodes.File owner file)) s.counted) reply does
 
-size-quiet : (g : Terms) (s after : Service) (telling : Telling) (node : Node) (reply : Option Reply) → Does g s (tell_size g s telling node) reply after
-    → owed g after ≡ owed g s
-size-quiet g s after telling (nodes.Folder owner folder) reply does = plain-quiet g s after (telling 0) reply does
-size-quiet g s after telling (nodes.File owner file) reply does = kind-quiet g s after telling owner file (kind_of_file file) reply does
+size-quiet : (g : Terms) (s after : Service) (telling : Telling) (pages : ℕ) (node : Node) (reply : Option Reply)
+    → Does g s (tell_size g s telling pages node) reply after → owed g after ≡ owed g s
+size-quiet g s after telling pages (nodes.Folder owner folder) reply does = plain-quiet g s after (telling 0) reply does
+size-quiet g s after telling pages (nodes.File owner file) reply does = kind-quiet g s after telling pages owner file (kind_of_file file) reply does
 
-entry-quiet : (g : Terms) (s after : Service) (node : Option Node) (reply : Option Reply) → Does g s (tell_entry g s node) reply after
+entry-quiet : (g : Terms) (s after : Service) (unique : ℕ) (node : Option Node) (reply : Option Reply)
+    → Does g s (tell_entry g s unique node) reply after
     → owed g after ≡ owed g s
-entry-quiet g s after None reply does = plain-quiet g s after _ reply does
-entry-quiet g s after (Some node) reply does = size-quiet g s after (λ (size : ℕ). replies.Entry (attributes_of g node size)) node reply does
+entry-quiet g s after unique None reply does = plain-quiet g s after _ reply does
+entry-quiet g s after unique (Some node) reply does =
+    size-quiet g s after (λ (size : ℕ). replies.Entry (entry_number unique node) (attributes_of g node size)) (2 ^ 40) node reply does
 
 attributes-quiet : (g : Terms) (s after : Service) (node : Option Node) (reply : Option Reply) → Does g s (tell_attributes g s node) reply after
     → owed g after ≡ owed g s
 attributes-quiet g s after None reply does = plain-quiet g s after _ reply does
-attributes-quiet g s after (Some node) reply does = size-quiet g s after (λ (size : ℕ). replies.Attributes (attributes_of g node size)) node reply does
+attributes-quiet g s after (Some node) reply does = size-quiet g s after (λ (size : ℕ). replies.Attributes (attributes_of g node size)) 0 node reply does
 
 set-quiet : (g : Terms) (s after : Service) (node : Option Node) (valid size : ℕ) (reply : Option Reply)
     → Does g s (set_attributes g s node valid size) reply after → owed g after ≡ owed g s
@@ -141,35 +149,72 @@ same-at look change same (first ∷ files) zero (suc other) = refl
 same-at look change same (first ∷ files) (suc handle) zero = refl
 same-at look change same (first ∷ files) (suc handle) (suc other) = same-at look change same files handle other
 
--- whether a read waits has nothing to do with polls
-poll-waits : (g : Terms) (s : Service) (wakeup : ℕ) (waits : Bool) (slot : Option OpenSeen)
-    → waits_at g s (option_map (λ (file : OpenSeen). record file { polls = polled_by wakeup waits file.polls }) slot) ≡ waits_at g s slot
-poll-waits g s wakeup waits None = refl
-poll-waits g s wakeup waits (Some file) = refl
+-- none of the slots looks otherwise
+same-any : (p : Option OpenSeen → Bool) (change : OpenSeen → OpenSeen) → ((slot : Option OpenSeen) → p (option_map change slot) ≡ p slot)
+    → (files : List (Option OpenSeen)) (handle : ℕ) → list_any p (with_change change handle files) ≡ list_any p files
+same-any p change same [] handle = refl
+same-any p change same (first ∷ files) zero = ap (λ (b : Bool). b || list_any p files) (same first)
+same-any p change same (first ∷ files) (suc handle) = ap (λ (rest : Bool). p first || rest) (same-any p change same files handle)
 
-same-due : (g : Terms) (s : Service) (wakeup : ℕ) (waits : Bool) (handle : ℕ) (reads : List Parked)
-    → list_any (is_due g (record s { files = with_poll wakeup waits handle s.files })) reads ≡ list_any (is_due g s) reads
-same-due g s wakeup waits handle [] = refl
-same-due g s wakeup waits handle (read ∷ reads) =
-    ap (λ (w : Bool). (read.interrupted || not w) || list_any (is_due g (record s { files = with_poll wakeup waits handle s.files })) reads)
-    (same-at (waits_at g s) (λ (file : OpenSeen). record file { polls = polled_by wakeup waits file.polls }) (poll-waits g s wakeup waits) s.files handle
-    read.handle)
-    ∙ ap (λ (rest : Bool). is_due g s read || rest) (same-due g s wakeup waits handle reads)
+-- an open file whose polls are changed
+abbrev with-polls : (Polls → Polls) → OpenSeen → OpenSeen
+with-polls change file = record file { polls = change file.polls }
+
+-- whether a read waits has nothing to do with polls
+poll-waits : (g : Terms) (s : Service) (change : Polls → Polls) (slot : Option OpenSeen)
+    → waits_at g s (option_map (with-polls change) slot) ≡ waits_at g s slot
+poll-waits g s change None = refl
+poll-waits g s change (Some file) = refl
+
+same-due : (g : Terms) (s : Service) (change : Polls → Polls) (handle : ℕ) (reads : List Parked)
+    → list_any (is_due g (record s { files = with_change (with-polls change) handle s.files })) reads ≡ list_any (is_due g s) reads
+same-due g s change handle [] = refl
+same-due g s change handle (read ∷ reads) =
+    ap (λ (w : Bool). (read.interrupted || not w) || list_any (is_due g (record s { files = with_change (with-polls change) handle s.files })) reads)
+    (same-at (waits_at g s) (with-polls change) (poll-waits g s change) s.files handle read.handle)
+    ∙ ap (λ (rest : Bool). is_due g s read || rest) (same-due g s change handle reads)
+
+-- that a poll was told that a read would not wait makes nothing ready
+told-none : (g : Terms) (s : Service) (told : Bool) (handle : ℕ) → owed g s ≡ None → owed g (record s { files = with_told_ready told handle s.files }) ≡ None
+told-none g s told handle none =
+    still-none g (record s { files = with_told_ready told handle s.files })
+    (same-due g s (λ (polls : Polls). record polls { told_ready = told }) handle s.parked ∙ none-due g s none)
+    (same-any (is_ready g s) (with-polls (λ (polls : Polls). record polls { told_ready = told })) same s.files handle ∙ none-ready g s none)
+  where
+    same : (slot : Option OpenSeen) → is_ready g s (option_map (with-polls (λ (polls : Polls). record polls { told_ready = told })) slot) ≡ is_ready g s slot
+    same None = refl
+    same (Some file) = refl
 
 -- a poll waits where nothing is there for it
-poll-ready : (used dry ended told_end : Bool) (wakeup : ℕ) (before : Option ℕ)
-    → (is_some before && (not (used && dry) || (ended && not told_end))) ≡ false
+poll-ready : (used dry tells ended told_end : Bool) (wakeup : ℕ) (before : Option ℕ)
+    → (is_some before && (not (used && dry) || (tells && ended && not told_end))) ≡ false
     → (is_some (if used && dry && not ended then Some wakeup else before)
-    && (not (used && dry) || (ended && not (if used && dry && not ended then false else told_end)))) ≡ false
-poll-ready false dry ended told_end wakeup before quiet = quiet
-poll-ready true false ended told_end wakeup before quiet = quiet
-poll-ready true true true told_end wakeup before quiet = quiet
-poll-ready true true false told_end wakeup before quiet = refl
+    && (not (used && dry) || (tells && ended && not (if used && dry && not ended then false else told_end)))) ≡ false
+poll-ready false dry tells ended told_end wakeup before quiet = quiet
+poll-ready true false tells ended told_end wakeup before quiet = quiet
+poll-ready true true tells true told_end wakeup before quiet = quiet
+poll-ready true true true false told_end wakeup before quiet = refl
+poll-ready true true false false told_end wakeup before quiet = refl
 
 ready-polled : (g : Terms) (s : Service) (wakeup : ℕ) (file : OpenSeen) → is_ready g s (Some file) ≡ false
     → is_ready g s (Some (record file { polls = polled_by wakeup (would_wait g s file) file.polls })) ≡ false
 ready-polled g s wakeup file quiet =
-    poll-ready (is_used_up file) (is_dry g s file.owner file.file) (ends g s file) file.polls.told_end wakeup file.polls.wakeup quiet
+    poll-ready (is_used_up file) (is_dry g s file.owner file.file) (tells_end file.file) (ends g s file) file.polls.told_end wakeup file.polls.wakeup quiet
+
+-- and so does one of binary pages, which is not told their end
+raw-ready : (used dry tells ended told_end : Bool) (wakeup : ℕ) (before : Option ℕ) → tells ≡ false
+    → (is_some before && (not (used && dry) || (tells && ended && not told_end))) ≡ false
+    → (is_some (if used && dry then Some wakeup else before)
+    && (not (used && dry) || (tells && ended && not (if used && dry then false else told_end)))) ≡ false
+raw-ready false dry tells ended told_end wakeup before raw quiet = quiet
+raw-ready true false tells ended told_end wakeup before raw quiet = quiet
+raw-ready true true false ended told_end wakeup before raw quiet = refl
+raw-ready true true true ended told_end wakeup before raw quiet = absurd (cc)
+
+raw-polled : (g : Terms) (s : Service) (wakeup : ℕ) (file : OpenSeen) → tells_end file.file ≡ false → is_ready g s (Some file) ≡ false
+    → is_ready g s (Some (record file { polls = polled_by wakeup (has_nothing g s file) file.polls })) ≡ false
+raw-polled g s wakeup file raw quiet =
+    raw-ready (is_used_up file) (is_dry g s file.owner file.file) (tells_end file.file) (ends g s file) file.polls.told_end wakeup file.polls.wakeup raw quiet
 
 none-at : (p : Option OpenSeen → Bool) (files : List (Option OpenSeen)) (handle : ℕ) (file : OpenSeen) → list_any p files ≡ false
     → file_at handle files ≡ Some file → p (Some file) ≡ false
@@ -182,35 +227,72 @@ none-at p (first ∷ files) zero file none found =
 none-at p (first ∷ files) (suc handle) file none found =
     let rest : list_any p files ≡ false = grind (arith, none) in none-at p files handle file rest found
 
-poll-none : (g : Terms) (s : Service) (handle wakeup : ℕ) (file : OpenSeen) → owed g s ≡ None → file_at handle s.files ≡ Some file
-    → owed g (record s { files = with_poll wakeup (would_wait g s file) handle s.files }) ≡ None
-poll-none g s handle wakeup file none found =
-    let waits = would_wait g s file in
+poll-none : (g : Terms) (s : Service) (handle wakeup : ℕ) (waits : Bool) (file : OpenSeen)
+    → (is_ready g s (Some file) ≡ false → is_ready g s (Some (record file { polls = polled_by wakeup waits file.polls })) ≡ false)
+    → owed g s ≡ None → file_at handle s.files ≡ Some file → owed g (record s { files = with_poll wakeup waits handle s.files }) ≡ None
+poll-none g s handle wakeup waits file polled none found =
     let quiet = none-ready g s none in
     let now : list_any (is_ready g s) (set s.files handle (Some (record file { polls = polled_by wakeup waits file.polls }))) ≡ false =
     none-set (is_ready g s) s.files handle (Some (record file { polls = polled_by wakeup waits file.polls })) quiet
-    (ready-polled g s wakeup file (none-at (is_ready g s) s.files handle file quiet found)) in
-    still-none g (record s { files = with_poll wakeup waits handle s.files }) (same-due g s wakeup waits handle s.parked ∙ none-due g s none)
+    (polled (none-at (is_ready g s) s.files handle file quiet found)) in
+    still-none g (record s { files = with_poll wakeup waits handle s.files }) (same-due g s (polled_by wakeup waits) handle s.parked ∙ none-due g s none)
     (ap (λ (slot : Option OpenSeen). list_any (is_ready g s) (set s.files handle
     (option_map (λ (f : OpenSeen). record f { polls = polled_by wakeup waits f.polls }) slot))) found ∙ now)
 
-wanted-none : (g : Terms) (s after : Service) (handle wakeup flags : ℕ) (file : OpenSeen) (told : Reply) (reply : Option Reply) → owed g s ≡ None
+-- it may want to be told, or not
+wanted-none : (g : Terms) (s : Service) (handle wakeup : ℕ) (wanted waits : Bool) (file : OpenSeen)
+    → (is_ready g s (Some file) ≡ false → is_ready g s (Some (record file { polls = polled_by wakeup waits file.polls })) ≡ false)
+    → owed g s ≡ None → file_at handle s.files ≡ Some file
+    → owed g (record s { files = with_wanted_poll wanted wakeup waits handle s.files }) ≡ None
+wanted-none g s handle wakeup false waits file polled none found = none
+wanted-none g s handle wakeup true waits file polled none found = poll-none g s handle wakeup waits file polled none found
+
+-- no poll is told the end of binary pages
+abbrev is-raw : FileKind → Bool
+is-raw kinds.RawPipe = true
+is-raw kind = false
+
+raw-tells : (file : File) → is-raw (kind_of_file file) ≡ not (tells_end file)
+raw-tells (files.OfInstance top.TracePipe) = refl
+raw-tells (files.OfCpu cpu per_cpu.TracePipe) = refl
+raw-tells (files.OfEvent event per_event.Format) = refl
+raw-tells (files.RawPipe cpu) = refl
+raw-tells file = refl
+
+tells-none : (file : File) → kind_of_file file ≡ kinds.RawPipe → tells_end file ≡ false
+tells-none file raw = by (tells_end file) (sym (raw-tells file) ∙ ap is-raw raw)
+  where
+    by : (tells : Bool) → not tells ≡ true → tells ≡ false
+    by false e = refl
+    by true e = absurd (cc)
+
+pipe-quiet : (g : Terms) (s after : Service) (handle wakeup flags : ℕ) (file : OpenSeen) (told : Reply) (reply : Option Reply) → owed g s ≡ None
     → file_at handle s.files ≡ Some file
     → Does g s (plain told (with_wanted_poll (wants_wakeup flags) wakeup (would_wait g s file) handle s.files)) reply after → owed g after ≡ None
-wanted-none g s after handle wakeup flags file told reply none found = by (wants_wakeup flags)
-  where
-    by : (t : Bool) → Does g s (plain told (with_wanted_poll t wakeup (would_wait g s file) handle s.files)) reply after → owed g after ≡ None
-    by false does = plain-quiet g s after told reply does ∙ none
-    by true does = ap (λ (x : Service). owed g x) does.1 ∙ poll-none g s handle wakeup file none found
+pipe-quiet g s after handle wakeup flags file told reply none found does =
+    ap (λ (x : Service). owed g x) does.1
+    ∙ wanted-none g s handle wakeup (wants_wakeup flags) (would_wait g s file) file (ready-polled g s wakeup file) none found
+
+raw-quiet : (g : Terms) (s after : Service) (handle wakeup flags : ℕ) (file : OpenSeen) (told : Reply) (reply : Option Reply)
+    → tells_end file.file ≡ false → owed g s ≡ None → file_at handle s.files ≡ Some file
+    → Does g s (plain told (with_told_ready (not (has_nothing g s file)) handle
+    (with_wanted_poll (wants_wakeup flags) wakeup (has_nothing g s file) handle s.files))) reply after → owed g after ≡ None
+raw-quiet g s after handle wakeup flags file told reply raw none found does =
+    ap (λ (x : Service). owed g x) does.1
+    ∙ told-none g (record s { files = with_wanted_poll (wants_wakeup flags) wakeup (has_nothing g s file) handle s.files }) (not (has_nothing g s file)) handle
+    (wanted-none g s handle wakeup (wants_wakeup flags) (has_nothing g s file) file (raw-polled g s wakeup file raw) none found)
 
 poll-quiet : (g : Terms) (s after : Service) (handle wakeup flags : ℕ) (file : OpenSeen) (kind : FileKind) (reply : Option Reply) → owed g s ≡ None
-    → file_at handle s.files ≡ Some file → Does g s (poll_kind g s handle wakeup flags file kind) reply after → owed g after ≡ None
-poll-quiet g s after handle wakeup flags file kinds.Pipe reply none found does = wanted-none g s after handle wakeup flags file _ reply none found does
-poll-quiet g s after handle wakeup flags file kinds.Inject reply none found does = plain-quiet g s after _ reply does ∙ none
-poll-quiet g s after handle wakeup flags file kinds.ErrorLog reply none found does = plain-quiet g s after _ reply does ∙ none
-poll-quiet g s after handle wakeup flags file kinds.Tool reply none found does = plain-quiet g s after _ reply does ∙ none
-poll-quiet g s after handle wakeup flags file kinds.Text reply none found does = plain-quiet g s after _ reply does ∙ none
-poll-quiet g s after handle wakeup flags file kinds.Trace reply none found does = plain-quiet g s after _ reply does ∙ none
+    → file_at handle s.files ≡ Some file → kind_of_file file.file ≡ kind → Does g s (poll_kind g s handle wakeup flags file kind) reply after
+    → owed g after ≡ None
+poll-quiet g s after handle wakeup flags file kinds.Pipe reply none found is does = pipe-quiet g s after handle wakeup flags file _ reply none found does
+poll-quiet g s after handle wakeup flags file kinds.RawPipe reply none found is does =
+    raw-quiet g s after handle wakeup flags file _ reply (tells-none file.file is) none found does
+poll-quiet g s after handle wakeup flags file kinds.Inject reply none found is does = plain-quiet g s after _ reply does ∙ none
+poll-quiet g s after handle wakeup flags file kinds.ErrorLog reply none found is does = plain-quiet g s after _ reply does ∙ none
+poll-quiet g s after handle wakeup flags file kinds.Tool reply none found is does = plain-quiet g s after _ reply does ∙ none
+poll-quiet g s after handle wakeup flags file kinds.Text reply none found is does = plain-quiet g s after _ reply does ∙ none
+poll-quiet g s after handle wakeup flags file kinds.Trace reply none found is does = plain-quiet g s after _ reply does ∙ none
 
 file-quiet : (g : Terms) (s after : Service) (handle wakeup flags : ℕ) (reply : Option Reply) → owed g s ≡ None
     → Does g s (poll_file g s handle wakeup flags (file_at handle s.files)) reply after → owed g after ≡ None
@@ -218,14 +300,14 @@ file-quiet g s after handle wakeup flags reply none = by (file_at handle s.files
   where
     by : (slot : Option OpenSeen) → file_at handle s.files ≡ slot → Does g s (poll_file g s handle wakeup flags slot) reply after → owed g after ≡ None
     by None e does = plain-quiet g s after _ reply does ∙ none
-    by (Some file) e does = poll-quiet g s after handle wakeup flags file (kind_of_file file.file) reply none e does
+    by (Some file) e does = poll-quiet g s after handle wakeup flags file (kind_of_file file.file) reply none e refl does
 
 -- ---- all requests
 
 stays-none : (g : Terms) (s after : Service) (unique pid : ℕ) (node : Option Node) (operation : Operation) (reply : Option Reply)
     → may_owe operation ≡ false → owed g s ≡ None → Does g s (step_of g s unique pid node operation) reply after → owed g after ≡ None
 stays-none g s after unique pid node (operations.Lookup name) reply still none does =
-    entry-quiet g s after (found_in (scene_of g s) name node) reply does ∙ none
+    entry-quiet g s after unique (found_in (scene_of g s) name node) reply does ∙ none
 stays-none g s after unique pid node operations.GetAttr reply still none does = attributes-quiet g s after (known (scene_of g s) node) reply does ∙ none
 stays-none g s after unique pid node (operations.SetAttr valid size) reply still none does = set-quiet g s after node valid size reply does ∙ none
 stays-none g s after unique pid node (operations.Poll handle wakeup flags events) reply still none does =

@@ -256,22 +256,23 @@ kind-told past old new read offset cached flags own kind bytes mounted has there
 -- of a file that is no pipe
 pub text-told : (past : List Request) (old new : MountSeen) (read : Parked) (offset : ℕ) (cached : Bool) (flags : ℕ) (own : OpenSeen) (kind : FileKind)
     (bytes : List ℕ) → HasLedTo past old → Some own ≡ file_at read.handle old.files → is_there old.scene (node_of own) ≡ true
-    → kind ≡ kind_of_file own.file → kind ≢ kinds.Pipe → kind ≢ kinds.Inject
+    → kind ≡ kind_of_file own.file → kind ≢ kinds.Pipe → kind ≢ kinds.RawPipe → kind ≢ kinds.Inject
     → IsTold past old new (unless_counted (service_of past old) read cached offset own (text_read (terms_of old) (service_of past old) old.scene read offset own)) read.unique bytes
     → IsTold past old new (read_file (terms_of old) (service_of past old) read offset cached flags (file_at read.handle old.files)) read.unique bytes
-text-told past old new read offset cached flags own kind bytes mounted has there is no_pipe no_inject told =
-    kind-told past old new read offset cached flags own kind bytes mounted has there is (by kind no_pipe no_inject (rw (sym is) at told))
+text-told past old new read offset cached flags own kind bytes mounted has there is no_pipe no_raw no_inject told =
+    kind-told past old new read offset cached flags own kind bytes mounted has there is (by kind no_pipe no_raw no_inject (rw (sym is) at told))
   where
-    by : (kind : FileKind) → kind ≢ kinds.Pipe → kind ≢ kinds.Inject
+    by : (kind : FileKind) → kind ≢ kinds.Pipe → kind ≢ kinds.RawPipe → kind ≢ kinds.Inject
         → IsTold past old new (unless_counted (service_of past old) read cached offset own (if makes_text offset own
         then text_made (terms_of old) (service_of past old) old.scene read offset own.owner own.file kind
         else goes_on_in read.handle offset read.size own old.files)) read.unique bytes
         → IsTold past old new (read_kind (terms_of old) (service_of past old) read offset cached flags own kind) read.unique bytes
-    by kinds.Text no_pipe no_inject told = rw (sym mounted.scene) told
-    by kinds.Trace no_pipe no_inject told = rw (sym mounted.scene) told
-    by kinds.Tool no_pipe no_inject told = told
-    by kinds.ErrorLog no_pipe no_inject told = told
-    by kinds.Pipe no_pipe no_inject told = absurd (no_pipe refl)
-    by kinds.Inject no_pipe no_inject told = absurd (no_inject refl)
+    by kinds.Text no_pipe no_raw no_inject told = rw (sym mounted.scene) told
+    by kinds.Trace no_pipe no_raw no_inject told = rw (sym mounted.scene) told
+    by kinds.Tool no_pipe no_raw no_inject told = told
+    by kinds.ErrorLog no_pipe no_raw no_inject told = told
+    by kinds.Pipe no_pipe no_raw no_inject told = absurd (no_pipe refl)
+    by kinds.RawPipe no_pipe no_raw no_inject told = absurd (no_raw refl)
+    by kinds.Inject no_pipe no_raw no_inject told = absurd (no_inject refl)
 
 -- ---- READ of a pipe

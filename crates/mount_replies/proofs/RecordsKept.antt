@@ -1,5 +1,5 @@
 -- No record is lost, or told twice.
-use Rattle.std.proofs.Common.{◌≡◌, inl, inr, ℕ, ◌==◌, ◌&&◌, Bool, true, false, if◌then◌else◌, List, [], ◌∷◌, ◌++◌, length, drop, min, Option, Some, None, unwrap_or, Result, Ok, Err, refl, sym, ap, subst, ◌∙◌, append-nil, arith}
+use Rattle.std.proofs.Common.{◌≡◌, inl, inr, ℕ, ◌==◌, ◌&&◌, nat_lt, Bool, true, false, if◌then◌else◌, List, [], ◌∷◌, ◌++◌, length, drop, min, Option, Some, None, unwrap_or, Result, Ok, Err, refl, sym, ap, subst, ◌∙◌, append-nil, arith}
 use Rattle.std.proofs.lemmas.Bool.{eqb-true, false≢true}
 use Rattle.std.proofs.lemmas.List.{take-append-drop}
 use Rattle.std.specs.Option.{option_and_then}
@@ -15,15 +15,19 @@ use Rattle.file_list.specs.declared.file.FileKind.{FileKind}
 use Rattle.file_list.specs.declared.file.FileKind.TheVariants as kinds
 use Rattle.mount_tree.specs.declared.node.Node.{Node}
 use Rattle.mount_stub_files.specs.ToolTexts.{tool_text}
-use Rattle.mount_replies.specs.Calls.{Called, Exchanged}
+use Rattle.mount_replies.proofs.ShownTurns.{pipe-unwanted, is_pipe, no-pipe-shows}
+use Rattle.mount_replies.specs.Calls.{Called, Exchanged, Shows}
 use Rattle.mount_replies.specs.Mounted.{AreServed, Does, Right, TellsOwed, Unframed, Wrong}
 use Rattle.mount_replies.specs.Owed.{Owed, ReplyAt, WakeupAt, owed, step_of_parked}
 use Rattle.mount_replies.specs.ParkedLaws.{NoRecordIsLostOrToldTwice, given_asked, given_by, given_told, is_read_of, kept_for, taken_asked, taken_by, taken_told}
+use Rattle.mount_replies.specs.PageTurns.{page_next}
 use Rattle.mount_replies.specs.Pipes.{ends, is_dry, is_used_up}
-use Rattle.mount_replies.specs.Served.{given_counted, given_records, given_text, given_tool, goes_on_in, is_cached, is_nonblocking, makes_text, part_of, read_dry, read_file, read_kind, read_log, read_new, read_pipe, read_shown, read_text, read_tool, step_of, taken_records, text_counted, unless_counted, with_going_on}
+use Rattle.mount_replies.specs.Served.{given_counted, given_page, given_records, given_text, given_tool, goes_on_in, is_cached, is_nonblocking, makes_text, part_of, read_dry, read_file, read_kind, read_log, read_new, read_no_page, read_page, read_pages, read_pipe, read_shown, read_text, read_tool, read_whole_page, step_of, taken_records, text_counted, unless_counted, with_going_on}
 use Rattle.mount_replies.specs.Services.{OpenSeen, Service, Terms, after_reading, armed, file_at, is_read_out, most_data, node_of, read_of_pipe, scene_of, text_at, with_dry_read, with_reading, with_records, without_read, without_wakeup}
+use Rattle.mount_replies.specs.ShownTexts.{node_shown, shown_step, text_wanted, shows_trace}
 use Rattle.mount_replies.specs.Sizes.{text_in}
 use Rattle.mount_replies.specs.Steps.{Asks, AsksLines, AsksNoting, Counts, Interrupts, Parks, Plain, Ran, Step, Takes, Tells}
+use Rattle.mount_replies.specs.declared.shown.ShownText.{ShownText}
 use Rattle.mount_replies.specs.declared.parked.Parked.{Parked}
 use Rattle.mount_replies.proofs.KeptTexts.{IsKept, change-kept, changed-text, either, other-kept, same-kept}
 use Rattle.mount_replies.proofs.OtherSteps.{IsStill, others-still}
@@ -53,11 +57,11 @@ still-keeps handle files (Tells noting takes outcome) still = still
 still-keeps handle files (AsksLines lines outcome noting) still = still
 still-keeps handle files (Counts count outcome) still = still
 
-files-kept : (handle : ℕ) (before after : Service) (files : List (Option OpenSeen)) → after.files ≡ files → IsKept handle before.files files
+pub files-kept : (handle : ℕ) (before after : Service) (files : List (Option OpenSeen)) → after.files ≡ files → IsKept handle before.files files
     → IsKept handle before.files after.files
 files-kept handle before after files is kept = subst (IsKept handle before.files) (sym is) kept
 
-does-keeps : (g : Terms) (before : Service) (step : Step) (reply : Option Reply) (after : Service) (handle : ℕ) → KeepsText handle before.files step
+pub does-keeps : (g : Terms) (before : Service) (step : Step) (reply : Option Reply) (after : Service) (handle : ℕ) → KeepsText handle before.files step
     → Does g before step reply after → IsKept handle before.files after.files
 does-keeps g before (Plain outcome) reply after handle kept does = files-kept handle before after outcome.files (ap (λ (s : Service). s.files) does.1) kept
 does-keeps g before (Takes outcome) reply after handle kept (inl does) = files-kept handle before after outcome.files (ap (λ (s : Service). s.files) does.1) kept
@@ -165,10 +169,41 @@ piped-keeps handle g s read flags file apart =
     either (KeepsText handle s.files) (is_used_up file) _ _ (new-keeps handle g s read flags file apart)
     (records-left handle read.handle (drop (min read.size most_data) (unwrap_or file.text [])) s.files apart)
 
+page-kept : (handle other size : ℕ) (page : List ℕ) (files : List (Option OpenSeen)) → (other == handle) ≡ false → (answer : Result Answer Refusal)
+    → IsKept handle files (given_page other size page files answer).files
+page-kept handle other size page files apart (Ok answer) = records-left handle other (drop (min size most_data) page) files apart
+page-kept handle other size page files apart (Err refusal) = same-kept handle files
+
+page-keeps : (handle : ℕ) (g : Terms) (s : Service) (read : Parked) (file : OpenSeen) → (read.handle == handle) ≡ false
+    → KeepsText handle s.files (read_page g s read file)
+page-keeps handle g s read file apart = page-kept handle read.handle read.size (page_next g s file) s.files apart
+
+no-page-keeps : (handle : ℕ) (read : Parked) (file : OpenSeen) (files : List (Option OpenSeen)) → KeepsText handle files (read_no_page read file files)
+no-page-keeps handle read file files =
+    either (KeepsText handle files) file.polls.told_ready _ _ (dry-kept handle false read.handle files) (dry-kept handle false read.handle files)
+
+whole-keeps : (handle : ℕ) (g : Terms) (s : Service) (read : Parked) (file : OpenSeen) → (read.handle == handle) ≡ false
+    → KeepsText handle s.files (read_whole_page g s read file)
+whole-keeps handle g s read file apart =
+    either (KeepsText handle s.files) (nat_lt read.size 4096) _ _ (same-kept handle s.files)
+    (either (KeepsText handle s.files) (is_dry g s file.owner file.file) _ _ (no-page-keeps handle read file s.files) (page-keeps handle g s read file apart))
+
+pages-keep : (handle : ℕ) (g : Terms) (s : Service) (read : Parked) (flags : ℕ) (file : OpenSeen) → (read.handle == handle) ≡ false
+    → KeepsText handle s.files (read_pages g s read flags file)
+pages-keep handle g s read flags file apart =
+    either (KeepsText handle s.files) (is_used_up file) _ _
+    (either (KeepsText handle s.files) (is_dry g s file.owner file.file) _ _ (dry-keeps handle read flags (ends g s file) s.files)
+    (page-keeps handle g s read file apart))
+    (records-left handle read.handle (drop (min read.size most_data) (unwrap_or file.text [])) s.files apart)
+
 kind-keeps : (handle : ℕ) (g : Terms) (s : Service) (read : Parked) (offset : ℕ) (cached : Bool) (flags : ℕ) → (read.handle == handle) ≡ false
     → (file : OpenSeen) (kind : FileKind) → KeepsText handle s.files (read_kind g s read offset cached flags file kind)
 kind-keeps handle g s read offset cached flags apart file kinds.Pipe =
     either (KeepsText handle s.files) cached _ _ (same-kept handle s.files) (piped-keeps handle g s read flags file apart)
+kind-keeps handle g s read offset cached flags apart file kinds.RawPipe =
+    either (KeepsText handle s.files) cached _ _
+    (either (KeepsText handle s.files) (is_used_up file) _ _ (whole-keeps handle g s read file apart) (same-kept handle s.files))
+    (pages-keep handle g s read flags file apart)
 kind-keeps handle g s read offset cached flags apart file kinds.Inject = same-kept handle s.files
 kind-keeps handle g s read offset cached flags apart file kinds.Tool =
     counted-keeps handle s read cached offset file (read_tool g s read.handle offset read.size file) apart
@@ -187,7 +222,7 @@ read-keeps handle g s read offset cached flags apart (Some file) =
     either (KeepsText handle s.files) (is_there (scene_of g s) (node_of file)) _ _
     (kind-keeps handle g s read offset cached flags apart file (kind_of_file file.file)) (same-kept handle s.files)
 
-step-keeps : (handle : ℕ) (g : Terms) (s : Service) (unique pid : ℕ) (target : Option Node) (operation : Operation) → is_read_of handle operation ≡ false
+pub step-keeps : (handle : ℕ) (g : Terms) (s : Service) (unique pid : ℕ) (target : Option Node) (operation : Operation) → is_read_of handle operation ≡ false
     → KeepsText handle s.files (step_of g s unique pid target operation)
 step-keeps handle g s unique pid target (operations.Read other offset size read_flags flags) apart =
     read-keeps handle g s (read_of_pipe unique other size) offset (is_cached read_flags) flags apart (file_at other s.files)
@@ -196,17 +231,17 @@ step-keeps handle g s unique pid target operation apart =
 
 -- ---- reads of a handle's pipe
 
-abbrev kept-in : ℕ → List (Option OpenSeen) → List ℕ
+abbrev pub kept-in : ℕ → List (Option OpenSeen) → List ℕ
 kept-in handle files = unwrap_or (text_at handle files) []
 
-abbrev IsEven : ℕ → List (Option OpenSeen) → List (Option OpenSeen) → List ℕ → List ℕ → Type 0
+abbrev pub IsEven : ℕ → List (Option OpenSeen) → List (Option OpenSeen) → List ℕ → List ℕ → Type 0
 IsEven handle files now taken given = kept-in handle files ++ taken ≡ given ++ kept-in handle now
 
-append-none : (xs : List ℕ) → xs ++ [] ≡ xs
+pub append-none : (xs : List ℕ) → xs ++ [] ≡ xs
 append-none [] = refl
 append-none (x ∷ xs) = ap (λ (l : List ℕ). x ∷ l) (append-none xs)
 
-nothing-even : (handle : ℕ) (files now : List (Option OpenSeen)) → text_at handle now ≡ text_at handle files → IsEven handle files now [] []
+pub nothing-even : (handle : ℕ) (files now : List (Option OpenSeen)) → text_at handle now ≡ text_at handle files → IsEven handle files now [] []
 nothing-even handle files now same = append-none (kept-in handle files) ∙ ap (λ (t : Option (List ℕ)). unwrap_or t []) (sym same)
 
 abbrev EvenStep : ℕ → List (Option OpenSeen) → Step → Type 0
@@ -217,7 +252,7 @@ EvenStep handle files (Asks request outcome) =
 EvenStep handle files (Parks read) = Unit {0}
 EvenStep handle files _ = ⊥
 
-to-even : (handle : ℕ) (files now after : List (Option OpenSeen)) (taken : List ℕ) (reply said : Option Reply) → after ≡ now → said ≡ reply
+pub to-even : (handle : ℕ) (files now after : List (Option OpenSeen)) (taken : List ℕ) (reply said : Option Reply) → after ≡ now → said ≡ reply
     → IsEven handle files now taken (given_by reply) → IsEven handle files after taken (given_by said)
 to-even handle files now after taken reply said is told even =
     even ∙ ap (λ (r : Option Reply). given_by r ++ kept-in handle now) (sym told) ∙ ap (λ (f : List (Option OpenSeen)). given_by said ++ kept-in handle f) (sym is)
@@ -237,17 +272,17 @@ does-even g before (Parks read) reply after handle (inr does) even =
 does-even g before _ reply after handle does even = absurd even
 
 -- what was kept or taken is given, and the rest kept
-records-even : (handle size : ℕ) (text : List ℕ) (files : List (Option OpenSeen)) (file : OpenSeen) → file_at handle files ≡ Some file
+pub records-even : (handle size : ℕ) (text : List ℕ) (files : List (Option OpenSeen)) (file : OpenSeen) → file_at handle files ≡ Some file
     → text ≡ part_of 0 size text ++ kept-in handle (with_records (drop (min size most_data) text) handle files)
 records-even handle size text files file there =
     sym (take-append-drop (min size most_data) text)
     ∙ ap (λ (t : Option (List ℕ)). part_of 0 size text ++ unwrap_or t []) (sym (records-kept files handle (drop (min size most_data) text) file there))
 
-none-left : (text : List ℕ) → (length text == 0) ≡ true → text ≡ []
+pub none-left : (text : List ℕ) → (length text == 0) ≡ true → text ≡ []
 none-left [] e = refl
 none-left (x ∷ text) e = let same : length (x ∷ text) ≡ 0 = eqb-true (length (x ∷ text)) 0 e in absurd (omega (arith, same))
 
-text-is : (handle : ℕ) (files : List (Option OpenSeen)) (file : OpenSeen) → file_at handle files ≡ Some file → kept-in handle files ≡ unwrap_or file.text []
+pub text-is : (handle : ℕ) (files : List (Option OpenSeen)) (file : OpenSeen) → file_at handle files ≡ Some file → kept-in handle files ≡ unwrap_or file.text []
 text-is handle files file there = ap (λ (slot : Option OpenSeen). unwrap_or (option_and_then (λ (file : OpenSeen). file.text) slot) []) there
 
 records-step : (handle size : ℕ) (files : List (Option OpenSeen)) (file : OpenSeen) → file_at handle files ≡ Some file → kept-in handle files ≡ []
@@ -255,12 +290,12 @@ records-step : (handle size : ℕ) (files : List (Option OpenSeen)) (file : Open
 records-step handle size files file there none answer =
     ap (λ (t : List ℕ). t ++ text_in answer) none ∙ records-even handle size (text_in answer) files file there
 
-dry-left : (has_ended : Bool) (handle : ℕ) (files : List (Option OpenSeen)) → IsEven handle files (with_dry_read has_ended handle files) [] []
+pub dry-left : (has_ended : Bool) (handle : ℕ) (files : List (Option OpenSeen)) → IsEven handle files (with_dry_read has_ended handle files) [] []
 dry-left has_ended handle files =
     nothing-even handle files (with_dry_read has_ended handle files)
     (changed-text (λ (file : OpenSeen). record file { polls = armed has_ended file.polls }) (λ file. refl) files handle handle)
 
-same-even : (handle : ℕ) (files : List (Option OpenSeen)) → IsEven handle files files [] []
+pub same-even : (handle : ℕ) (files : List (Option OpenSeen)) → IsEven handle files files [] []
 same-even handle files = nothing-even handle files files refl
 
 dry-even : (read : Parked) (flags : ℕ) (has_ended : Bool) (files : List (Option OpenSeen)) → EvenStep read.handle files (read_dry read flags has_ended files)
@@ -305,7 +340,7 @@ parked-even : (g : Terms) (s : Service) (read : Parked) (file : OpenSeen) → ki
 parked-even g s read file pipe there =
     either (EvenStep read.handle s.files) read.interrupted _ _ (dry-left false read.handle s.files) (read-even g s read 0 false 0 file pipe there)
 
-parked-keeps : (handle : ℕ) (g : Terms) (s : Service) (read : Parked) → (read.handle == handle) ≡ false → KeepsText handle s.files (step_of_parked g s read)
+pub parked-keeps : (handle : ℕ) (g : Terms) (s : Service) (read : Parked) → (read.handle == handle) ≡ false → KeepsText handle s.files (step_of_parked g s read)
 parked-keeps handle g s read apart =
     either (KeepsText handle s.files) read.interrupted _ _ (dry-kept handle false read.handle s.files)
     (read-keeps handle g s read 0 false 0 apart (file_at read.handle s.files))
@@ -321,10 +356,9 @@ even-read handle g s unique pid target (operations.Read other offset size read_f
     (read-even g s (read_of_pipe unique other size) offset (is_cached read_flags) flags file pipe (ap (λ (h : ℕ). file_at h s.files) (eqb-true other handle is) ∙ there))
 even-read handle g s unique pid target _ file is pipe there = absurd (false≢true is)
 
-wakeup-kept : (handle other : ℕ) (files : List (Option OpenSeen)) → IsKept handle files (without_wakeup other files)
+pub wakeup-kept : (handle other : ℕ) (files : List (Option OpenSeen)) → IsKept handle files (without_wakeup other files)
 wakeup-kept handle other files =
-    change-kept (λ (file : OpenSeen). record file { polls = record { asked = file.polls.asked; wakeup = None; told_end = file.polls.told_end } }) (λ file. refl)
-    handle other files
+    change-kept (λ (file : OpenSeen). record file { polls = record file.polls { wakeup = None } }) (λ file. refl) handle other files
 
 told-even : (handle : ℕ) (g : Terms) (before : Service) (what : Option Owed) (bytes : List ℕ) (after : Service) (told : TellsOwed g before what bytes after)
     (old new : OpenSeen) → file_at handle before.files ≡ Some old → kind_of_file old.file ≡ kinds.Pipe → file_at handle after.files ≡ Some new
@@ -367,6 +401,20 @@ asked-even handle g before asked bytes after (Wrong opcode unique framed none to
 asked-even handle g before asked bytes after (Unframed none told same) old new was pipe is =
     nothing-even handle before.files after.files (ap (λ (s : Service). text_at handle s.files) same)
 
+-- what a trace shows is given to no pipe
+pub shown-step-keeps : (handle : ℕ) (g : Terms) (s : Service) (unique : ℕ) (target : Option Node) (shown : ShownText) (operation : Operation) (old : OpenSeen)
+    → file_at handle s.files ≡ Some old → (shows_trace old.file ≡ true → ⊥) → text_wanted (scene_of g s) s.files target operation ≡ Some (node_shown shown)
+    → KeepsText handle s.files (shown_step g s unique shown operation)
+shown-step-keeps handle g s unique target shown (operations.Lookup name) old was no-trace wanted = same-kept handle s.files
+shown-step-keeps handle g s unique target shown (operations.Read other offset size read_flags flags) old was no-trace wanted = by (other == handle) refl
+  where
+    by : (t : Bool) → (other == handle) ≡ t → KeepsText handle s.files (shown_step g s unique shown (operations.Read other offset size read_flags flags))
+    by false e = reading-kept handle other 0 size shown.text s.files e
+    by true e =
+        absurd (pipe-unwanted (scene_of g s) s.files target other offset size read_flags flags old (node_shown shown)
+        (ap (λ (h : ℕ). file_at h s.files) (eqb-true other handle e) ∙ was) no-trace wanted)
+shown-step-keeps handle g s unique target shown _ old was no-trace wanted = same-kept handle s.files
+
 pub no_record_is_lost_or_told_twice : NoRecordIsLostOrToldTwice
 no_record_is_lost_or_told_twice g before (Exchanged [] bytes) after told handle old new was pipe is =
     told-even handle g before (owed g before) bytes after told old new was pipe is
@@ -374,3 +422,8 @@ no_record_is_lost_or_told_twice g before (Exchanged (byte ∷ asked) bytes) afte
     asked-even handle g before (byte ∷ asked) bytes after served old new was pipe is
 no_record_is_lost_or_told_twice g before (Called limit request answer) after one handle old new was pipe is =
     append-nil (kept_for handle before) ∙ ap (λ (s : Service). kept_for handle s) (sym one.1)
+no_record_is_lost_or_told_twice g before (Shows shown asked bytes) after one handle old new was pipe is =
+    nothing-even handle before.files after.files
+    (does-keeps g before (shown_step g before one.request.unique shown one.request.operation) one.reply after handle
+    (shown-step-keeps handle g before one.request.unique one.node shown one.request.operation old was
+    (no-pipe-shows old.file (ap is_pipe pipe)) one.wanted) one.does old new was is)

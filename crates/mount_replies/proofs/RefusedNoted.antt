@@ -25,6 +25,7 @@ use Rattle.trace_command.specs.Requests.{Request}
 use Rattle.trace_command.specs.declared.command.Config.{Config}
 use Rattle.trace_command.specs.declared.command.Reply.{Reply as Answer}
 use Rattle.trace_command.specs.declared.file_name.CpuFile.TheVariants as per_cpu
+use Rattle.trace_command.specs.declared.file_name.EventFile.TheVariants as per_event
 use Rattle.trace_command.specs.declared.file_name.TopFile.TheVariants as top
 use Rattle.trace_command.specs.declared.refusal.Refusal.{Refusal}
 use Rattle.trace_command.specs.declared.refusal.Refusal.TheVariants.{Memory}
@@ -330,6 +331,7 @@ module _ (g : Terms) (s : Service) where
   other-tells handle file bytes kinds.Text there = text-tells handle file bytes
   other-tells handle file bytes kinds.Trace there = text-tells handle file bytes
   other-tells handle file bytes kinds.Pipe there = text-tells handle file bytes
+  other-tells handle file bytes kinds.RawPipe there = text-tells handle file bytes
   other-tells handle file bytes kinds.Inject there = text-tells handle file bytes
 
   stream-tells : (handle lock_owner pid : ℕ) (bytes : List ℕ) (file : OpenSeen) (event : Definition) → StepTells (inject_stream g s handle lock_owner pid bytes file event)
@@ -417,6 +419,7 @@ module _ (g : Terms) (s : Service) where
   event-found own (files.OfInstance top.TracePipe) same kind there none = let no : kinds.Pipe ≡ kinds.Inject = kind in cc
   event-found own (files.OfCpu cpu per_cpu.Trace) same kind there none = let no : kinds.Trace ≡ kinds.Inject = kind in cc
   event-found own (files.OfCpu cpu per_cpu.TracePipe) same kind there none = let no : kinds.Pipe ≡ kinds.Inject = kind in cc
+  event-found own (files.OfEvent event per_event.Format) same kind there none = let no : kinds.Tool ≡ kinds.Inject = kind in cc
   event-found own _ same kind there none = cc
 
   end-tells : (file : OpenSeen) (outcome : Option LineRefused → Outcome) (event : Definition) → NotesErrors Keeps (outcome None).reply

@@ -1,5 +1,5 @@
 -- What requests come to.
-use Rattle.std.proofs.Common.{◌≡◌, ◌≢◌, ◌⊎◌, ℕ, Bool, true, false, List, [], ◌++◌, length, map, Option, Some, None, is_some, IfSome, IfNone, Ok, Err, refl, sym, ap, ◌∙◌, inl, inr}
+use Rattle.std.proofs.Common.{◌≡◌, ◌≢◌, ◌⊎◌, ℕ, ◌%◌, ◌^◌, Bool, true, false, List, [], ◌++◌, length, map, Option, Some, None, is_some, IfSome, IfNone, Ok, Err, refl, sym, ap, ◌∙◌, inl, inr}
 use Rattle.fuse_wire.specs.Parts.{Are}
 use Rattle.fuse_wire.proofs.PartLemmas.{first_part}
 use Rattle.fuse_wire.specs.Replies.{reply_bytes}
@@ -175,8 +175,8 @@ change-served past old new request node reply bytes name step told = record {
 }
 
 -- the node of a number
-pub named : (number : ℕ) (node : Option Node) → IfSome node (λ (n : Node). FitsItsTypes n × (number_of n ≡ number))
-    → IfNone node ((n : Node) → FitsItsTypes n → number_of n ≢ number) → IsNamed number node
+pub named : (number : ℕ) (node : Option Node) → IfSome node (λ (n : Node). FitsItsTypes n × (number_of n ≡ number % 2 ^ 47))
+    → IfNone node ((n : Node) → FitsItsTypes n → number_of n ≢ number % 2 ^ 47) → IsNamed number node
 named number None found none = none
 named number (Some node) found none = found
 
@@ -243,7 +243,7 @@ few-asked asked request is =
 -- ---- calls
 
 -- nothing is owed
-none-owed : (past : List Request) (old : MountSeen) → IsMounted past old → old.owes ≡ false → owed (terms_of old) (service_of past old) ≡ None
+pub none-owed : (past : List Request) (old : MountSeen) → IsMounted past old → old.owes ≡ false → owed (terms_of old) (service_of past old) ≡ None
 none-owed past old mounted quiet = by (owed (terms_of old) (service_of past old)) (sym quiet ∙ mounted.owes)
   where
     by : (o : Option Owed) → false ≡ is_some o → o ≡ None

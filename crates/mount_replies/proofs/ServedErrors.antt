@@ -10,7 +10,8 @@ use Rattle.error_log.specs.Logs.{cleared, errors_of, is_of, log_text, noted}
 use Rattle.file_list.specs.declared.file.FileKind.TheVariants as kinds
 use Rattle.mount_tree.specs.declared.node.Owner.{Owner}
 use Rattle.mount_replies.proofs.ToolReads.{log-step, shows-now, there-step}
-use Rattle.mount_replies.specs.Calls.{Called, Exchanged, IsTurned, TakesTurns, Turn}
+use Rattle.mount_replies.proofs.ShownTurns.{shown-rests}
+use Rattle.mount_replies.specs.Calls.{Called, Exchanged, IsTurned, Shows, TakesTurns, Turn}
 use Rattle.mount_replies.specs.Mounted.{AreServed, Does, IsExchanged, Right, TellsOwed, Unframed, Wrong}
 use Rattle.mount_replies.specs.Owed.{Owed, ReplyAt, WakeupAt, owed, step_of_parked}
 use Rattle.mount_replies.specs.PastLaws.{ShowsNow, just_mounted}
@@ -68,6 +69,8 @@ by-turn : (g : Terms) (before : Service) (turn : Turn) (after : Service) (one : 
     → after.errors ≡ errors_after (noting_in g before turn after one) before.errors
 by-turn g before (Exchanged asked bytes) after one = by-exchange g before asked bytes after one
 by-turn g before (Called limit request answer) after one = ap (λ (s : Service). s.errors) one.1
+by-turn g before (Shows shown asked bytes) after one =
+    (shown-rests g before one.request.unique shown one.request.operation one.reply after one.does).errors
 
 all-more : (g : Terms) (before : Service) (turns : List Turn) (after : Service) (taken : TakesTurns g before turns after)
     (changes : List Change) → before.errors ≡ logs_after changes → after.errors ≡ logs_after (changes_in g before turns after taken ++ changes)

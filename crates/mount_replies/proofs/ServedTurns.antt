@@ -1,5 +1,5 @@
 -- Turns are served as they are computed, by the bytes of their requests.
-use Rattle.std.proofs.Common.{◌≡◌, ℕ, Bool, true, false, ◌&&◌, is_none, nat_lt, List, [], ◌∷◌, ◌++◌, length, map, Option, Some, None, refl, subst, arith}
+use Rattle.std.proofs.Common.{◌≡◌, ℕ, ◌%◌, ◌^◌, Bool, true, false, ◌&&◌, is_none, nat_lt, List, [], ◌∷◌, ◌++◌, length, map, Option, Some, None, refl, subst, arith}
 use Rattle.std.proofs.lemmas.Bool.{and_parts, ltb-true}
 use Rattle.std.specs.List.{slice_get}
 use Rattle.fuse_wire.proofs.Examples.{are, parts}
@@ -10,8 +10,10 @@ use Rattle.fuse_wire.specs.declared.request.Operation.{Operation}
 use Rattle.file_list.specs.FileTable.{file_index}
 use Rattle.mount_tree.specs.Nodes.{FitsItsTypes, number_of}
 use Rattle.file_list.specs.declared.file.File.{File}
+use Rattle.mount_tree.specs.declared.node.Node.{Node}
 use Rattle.mount_tree.specs.declared.node.Node.TheVariants as nodes
 use Rattle.mount_tree.specs.declared.node.Owner.TheVariants.{Top}
+use Rattle.mount_tree.proofs.NumberLemmas.{place-below}
 use Rattle.mount_replies.proofs.ComputedSteps.{steps_are_computed}
 use Rattle.mount_replies.specs.ComputedSteps.{Asked, Did, Message, Replied, Silence, Turn, Waited, Woken, did, message_of, messages, told_owed, told_poll, told_read, turned}
 use Rattle.mount_replies.specs.Mounted.{Does, IsExchanged, IsReplied, IsWoken, Right, Serves, TellsOwed, bytes_of_reply}
@@ -65,6 +67,11 @@ none_owed : (what : Option Owed) → is_none what ≡ true → what ≡ None
 none_owed None none = refl
 none_owed (Some what) none = absurd (cc)
 
+-- a node's own number has no other bits
+own-number : (node : Node) → FitsItsTypes node → number_of node ≡ number_of node % 2 ^ 47
+unfolding number_of
+own-number node fits = omega (arith, fits.owner, fits.index, place-below node)
+
 module _ (g : Terms) (s : Service) where
   reply_told : (index : ℕ) (read : Parked) → slice_get s.parked index ≡ Some read → (done : Did)
       → Does g (without_read index s) (step_of_parked g s read) done.reply done.now
@@ -107,7 +114,7 @@ module _ (g : Terms) (s : Service) where
         none_owed (owed g s) now,
         Right _ is.0 (record {
           node = Some node;
-          named = (is.1, refl);
+          named = (is.1, own-number node is.1);
           reply = done.reply;
           does = steps_are_computed g s (step_of g s unique pid (Some node) operation);
           told = replied unique done.reply;

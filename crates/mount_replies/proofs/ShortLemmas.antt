@@ -9,7 +9,7 @@ pub short-size : (reply : Reply) → IsShort reply → reply_size reply ≤ 144
 short-size (replies.Error errno) short = omega arith
 short-size replies.Done short = omega arith
 short-size (replies.Init init) short = omega arith
-short-size (replies.Entry attributes) short = omega arith
+short-size (replies.Entry node attributes) short = omega arith
 short-size (replies.Attributes attributes) short = omega arith
 short-size (replies.Opened handle flags) short = omega arith
 short-size (replies.Data bytes) short = absurd short
@@ -21,7 +21,7 @@ pub short-sendable : (reply : Reply) → IsShort reply → IsSendable reply
 short-sendable (replies.Error errno) short = tt
 short-sendable replies.Done short = tt
 short-sendable (replies.Init init) short = tt
-short-sendable (replies.Entry attributes) short = tt
+short-sendable (replies.Entry node attributes) short = tt
 short-sendable (replies.Attributes attributes) short = tt
 short-sendable (replies.Opened handle flags) short = tt
 short-sendable (replies.Data bytes) short = absurd short

@@ -28,7 +28,7 @@ use Rattle.mount_replies.specs.Steps.{Step, plain, read_of}
 use Rattle.mount_replies.specs.declared.counted.Counted.{Counted}
 use Rattle.mount_replies.specs.declared.sizes.Telling.{Telling}
 use Rattle.mount_replies.specs.declared.sizes.Telling.TheVariants.{Entry, Attributes}
-use Rattle.mount_replies.specs.private.Tellings.{size_found, sized_step, telling_of}
+use Rattle.mount_replies.specs.private.Tellings.{size_of_pages, size_found, sized_step, telling_of}
 
 -- ---- texts that are kept
 
@@ -80,8 +80,9 @@ latest-all texts old i all so_far =
 -- ---- what is told
 
 pub sized-file : (telling : Telling) (g : Terms) (s : Service) (owner : Owner) (file : File)
-    → size_by_kind g s (telling_of telling g (nodes.File owner file)) owner file (kind_of_file file) ≡ sized_step telling g s (Some (nodes.File owner file))
-sized-file Entry g s owner file = refl
+    → size_by_kind g s (telling_of telling g (nodes.File owner file)) (size_of_pages telling) owner file (kind_of_file file)
+    ≡ sized_step telling g s (Some (nodes.File owner file))
+sized-file (Entry unique) g s owner file = refl
 sized-file Attributes g s owner file = refl
 
 -- ---- sizes that are remembered
@@ -132,33 +133,35 @@ pub step-is : (past : List Request) (old new : MountSeen) (step other : Step) (r
 step-is past old new step other reply does is = subst (λ (s : Step). IsStep past old new s reply) is does
 
 -- a text is counted
-pub kind-counted : (past : List Request) (old new : MountSeen) (telling : ℕ → Reply) (owner : Owner) (file : File) (kind : FileKind) (reply : Reply)
+pub kind-counted : (past : List Request) (old new : MountSeen) (telling : ℕ → Reply) (pages : ℕ) (owner : Owner) (file : File) (kind : FileKind) (reply : Reply)
     → kind ≡ kind_of_file file
-    → size_by_kind (terms_of old) (service_of past old) telling owner file kind ≡ count_text (terms_of old) (service_of past old) telling owner file
+    → size_by_kind (terms_of old) (service_of past old) telling pages owner file kind ≡ count_text (terms_of old) (service_of past old) telling owner file
     → IsStep past old new (count_text (terms_of old) (service_of past old) telling owner file) (Some reply)
-    → IsStep past old new (size_by_kind (terms_of old) (service_of past old) telling owner file (kind_of_file file)) (Some reply)
-kind-counted past old new telling owner file kind reply kind_is is does =
+    → IsStep past old new (size_by_kind (terms_of old) (service_of past old) telling pages owner file (kind_of_file file)) (Some reply)
+kind-counted past old new telling pages owner file kind reply kind_is is does =
     step-is past old new (count_text (terms_of old) (service_of past old) telling owner file)
-    (size_by_kind (terms_of old) (service_of past old) telling owner file (kind_of_file file)) (Some reply) does
-    (sym is ∙ ap (λ (k : FileKind). size_by_kind (terms_of old) (service_of past old) telling owner file k) kind_is)
+    (size_by_kind (terms_of old) (service_of past old) telling pages owner file (kind_of_file file)) (Some reply) does
+    (sym is ∙ ap (λ (k : FileKind). size_by_kind (terms_of old) (service_of past old) telling pages owner file k) kind_is)
 
 -- what reads show whole, but for the log, is counted unless its size is remembered
-pub sized-whole : (g : Terms) (s : Service) (telling : ℕ → Reply) (owner : Owner) (file : File) (kind : FileKind)
+pub sized-whole : (g : Terms) (s : Service) (telling : ℕ → Reply) (pages : ℕ) (owner : Owner) (file : File) (kind : FileKind)
     → (kind ≡ kinds.Text) ⊎ ((kind ≡ kinds.Trace) ⊎ (kind ≡ kinds.Tool))
-    → size_by_kind g s telling owner file kind ≡ size_of_text g s telling owner file (count_of (number_of (nodes.File owner file)) s.counted)
-sized-whole g s telling owner file kind (inl is) = ap (λ (k : FileKind). size_by_kind g s telling owner file k) is
-sized-whole g s telling owner file kind (inr (inl is)) = ap (λ (k : FileKind). size_by_kind g s telling owner file k) is
-sized-whole g s telling owner file kind (inr (inr is)) = ap (λ (k : FileKind). size_by_kind g s telling owner file k) is
+    → size_by_kind g s telling pages owner file kind ≡ size_of_text g s telling owner file (count_of (number_of (nodes.File owner file)) s.counted)
+sized-whole g s telling pages owner file kind (inl is) = ap (λ (k : FileKind). size_by_kind g s telling pages owner file k) is
+sized-whole g s telling pages owner file kind (inr (inl is)) = ap (λ (k : FileKind). size_by_kind g s telling pages owner file k) is
+sized-whole g s telling pages owner file kind (inr (inr is)) = ap (λ (k : FileKind). size_by_kind g s telling pages owner file k) is
 
 -- it is told of a node that is a file
 pub told-file : (past : List Request) (old new : MountSeen) (telling : Telling) (owner : Owner) (file : File) (node : Option Node) (reply : Reply)
     → node ≡ Some (nodes.File owner file)
     → IsStep past old new
-    (size_by_kind (terms_of old) (service_of past old) (telling_of telling (terms_of old) (nodes.File owner file)) owner file (kind_of_file file)) (Some reply)
+    (size_by_kind (terms_of old) (service_of past old) (telling_of telling (terms_of old) (nodes.File owner file)) (size_of_pages telling) owner file
+    (kind_of_file file)) (Some reply)
     → IsStep past old new (sized_step telling (terms_of old) (service_of past old) node) (Some reply)
 told-file past old new telling owner file node reply is does =
     step-is past old new
-    (size_by_kind (terms_of old) (service_of past old) (telling_of telling (terms_of old) (nodes.File owner file)) owner file (kind_of_file file))
+    (size_by_kind (terms_of old) (service_of past old) (telling_of telling (terms_of old) (nodes.File owner file)) (size_of_pages telling) owner file
+    (kind_of_file file))
     (sized_step telling (terms_of old) (service_of past old) node) (Some reply) does
     (sized-file telling (terms_of old) (service_of past old) owner file
     ∙ ap (λ (n : Option Node). sized_step telling (terms_of old) (service_of past old) n) (sym is))

@@ -9,7 +9,7 @@ use Rattle.trace_command.specs.declared.command.Config.{Config}
 use Rattle.trace_command.specs.declared.file_name.EventFile.TheVariants as per_event
 use Rattle.trace_command.specs.declared.file_name.TopFile.TheVariants as top
 use Rattle.file_list.specs.declared.file.File.{File}
-use Rattle.file_list.specs.declared.file.File.TheVariants.{SyntheticEvents, OfInstance, SystemEnable, OfCpu, OfEvent, Inject, Tool, OfTop, CpuSize, EventId, ErrorLog}
+use Rattle.file_list.specs.declared.file.File.TheVariants.{SyntheticEvents, OfInstance, SystemEnable, OfCpu, OfEvent, Inject, Tool, OfTop, CpuSize, EventId, ErrorLog, Layout, RawPipe}
 use Rattle.file_list.specs.declared.files.ToolFile.{ToolFile}
 use Rattle.file_list.specs.declared.files.ToolFile.TheVariants as tools
 use Rattle.file_list.specs.declared.files.TopTool.TheVariants as top_tools
@@ -131,6 +131,8 @@ module _ (scene : SceneSeen) (owner : Owner) (there : owner_is_there scene owner
   file-there g (Inject event) bytes = tt
   file-there g (EventId event) bytes = tt
   file-there g ErrorLog bytes = tt
+  file-there g (Layout file) bytes = tt
+  file-there g (RawPipe cpu) bytes = tt
 
 -- what a write to a file that tools ask for switches is there
 pub switch-there : (g : Config) (scene : SceneSeen) (owner : Owner) (file : File) (bytes : List ℕ) (switch : File) (on : Bool) (size : ℕ)

@@ -91,6 +91,7 @@ goes-on g s read offset false flags file kinds.Trace direct whole made = rw made
 goes-on g s read offset false flags file kinds.Tool direct whole made = rw made refl
 goes-on g s read offset false flags file kinds.ErrorLog direct whole made = rw made refl
 goes-on g s read offset false flags file kinds.Pipe direct whole made = absurd (false≢true whole)
+goes-on g s read offset false flags file kinds.RawPipe direct whole made = absurd (false≢true whole)
 goes-on g s read offset false flags file kinds.Inject direct whole made = absurd (false≢true whole)
 
 goes-on-step : (g : Terms) (s : Service) (read : Parked) (offset : ℕ) (cached : Bool) (flags : ℕ) (file : OpenSeen) (found : Option OpenSeen)

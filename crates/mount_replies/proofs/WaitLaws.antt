@@ -9,13 +9,13 @@ use Rattle.fuse_wire.specs.declared.reply.Reply.TheVariants as replies
 use Rattle.trace_command.specs.Requests.{Request}
 use Rattle.trace_command.specs.declared.refusal.Refusal.{Refusal}
 use Rattle.mount_tree.specs.Children.{is_there}
-use Rattle.mount_tree.specs.NodePaths.{file_meant, owner_name}
+use Rattle.mount_tree.specs.NodePaths.{owner_name}
 use Rattle.mount_tree.specs.declared.node.Node.TheVariants as nodes
 use Rattle.tracer_specification.specs.Waiting.{waiting}
 use Rattle.mount_replies.specs.Mounted.{Does}
 use Rattle.mount_replies.specs.Owed.{ReplyAt, WakeupAt, first_owed, is_due, is_ready, step_of_parked}
 use Rattle.mount_replies.specs.ParkedLaws.{ClosedReadsTakeNothing, InterruptedReadsTakeNothing, NoPollWaitsForWhatIsThere, NoReadWaitsForWhatIsThere, OldestIsAnsweredFirst, TakenTextIsGivenOrKept, TellingDoesOneCommandAtMost, WaitsForRecords}
-use Rattle.mount_replies.specs.Pipes.{ends, has_news, is_dry, is_no, is_used_up, waits_at}
+use Rattle.mount_replies.specs.Pipes.{ends, has_news, is_dry, is_no, is_used_up, pipe_meant, tells_end, waits_at}
 use Rattle.mount_replies.specs.Served.{part_of}
 use Rattle.mount_replies.specs.Services.{OpenSeen, Service, Terms, file_at, most_data, scene_of, text_at, with_dry_read, with_records, without_read}
 use Rattle.mount_replies.specs.Steps.{Asks, Parks, Plain, Step, Takes, failed}
@@ -103,14 +103,14 @@ waits-for : (g : Terms) (s : Service) (read : Parked) (slot : Option OpenSeen) �
 waits-for g s read None is going waits = absurd (let no : false ≡ true = waits in cc)
 waits-for g s read (Some file) is going waits =
     let all = all-four (is_used_up file) (is_there (scene_of g s) (nodes.File file.owner file.file))
-    (is_no (waiting g.config s.past (owner_name (scene_of g s) file.owner) (file_meant (scene_of g s) file.file))) (ends g s file) waits in
+    (is_no (waiting g.config s.past (owner_name (scene_of g s) file.owner) (pipe_meant (scene_of g s) file.file))) (ends g s file) waits in
     record {
       going = going;
       file = file;
       is = is;
       used_up = all.0;
       there = all.1;
-      none = says-no (waiting g.config s.past (owner_name (scene_of g s) file.owner) (file_meant (scene_of g s) file.file)) all.2;
+      none = says-no (waiting g.config s.past (owner_name (scene_of g s) file.owner) (pipe_meant (scene_of g s) file.file)) all.2;
       goes_on = all.3;
     }
 
@@ -132,20 +132,21 @@ slot-is files handle file is = by (slice_get files handle) is
     by (Some found) e = ap (λ (f : Option OpenSeen). Some f) e
     by None e = absurd (cc)
 
-no-news : (used dry ended told_end : Bool) → (not (used && dry) || (ended && not told_end)) ≡ false
-    → (used ≡ true) × (dry ≡ true) × ((ended ≡ false) ⊎ (told_end ≡ true))
-no-news true true false told_end e = (refl, refl, inl refl)
-no-news true true true true e = (refl, refl, inr refl)
-no-news true true true false e = absurd (cc)
-no-news true false ended told_end e = absurd (cc)
-no-news false dry ended told_end e = absurd (cc)
+no-news : (used dry tells ended told_end : Bool) → (not (used && dry) || (tells && ended && not told_end)) ≡ false
+    → (used ≡ true) × (dry ≡ true) × ((ended ≡ false) ⊎ ((told_end ≡ true) ⊎ (tells ≡ false)))
+no-news true true true false told_end e = (refl, refl, inl refl)
+no-news true true true true true e = (refl, refl, inr (inl refl))
+no-news true true true true false e = absurd (cc)
+no-news true true false ended told_end e = (refl, refl, inr (inr refl))
+no-news true false tells ended told_end e = absurd (cc)
+no-news false dry tells ended told_end e = absurd (cc)
 
 pub no_poll_waits_for_what_is_there : NoPollWaitsForWhatIsThere
 no_poll_waits_for_what_is_there g s handle wakeup file nothing is wanted =
     let none : position (is_ready g s) s.files ≡ None = none-ready (position (is_due g s) s.parked) (position (is_ready g s) s.files) nothing in
     let quiet : (is_some file.polls.wakeup && has_news g s file) ≡ false =
     none-passes (is_ready g s) s.files handle (Some file) none (slot-is s.files handle file is) in
-    no-news (is_used_up file) (is_dry g s file.owner file.file) (ends g s file) file.polls.told_end
+    no-news (is_used_up file) (is_dry g s file.owner file.file) (tells_end file.file) (ends g s file) file.polls.told_end
     (subst (λ (w : Option ℕ). (is_some w && has_news g s file) ≡ false) wanted quiet)
 
 pub oldest_is_answered_first : OldestIsAnsweredFirst

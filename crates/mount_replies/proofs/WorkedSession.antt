@@ -158,11 +158,12 @@ unfolding digits head_bytes head_of timestamp account has_waiting readings_of st
     asked_of emission_of line_of named_command named_line pair_of pairs_of process_id spoken tokens_of
     filter_holds record_bytes shown_pipe declaration_answer emission_answer switch_answer written_flag waiting limited_answer
     event_folder left_out pairs_of_line command_lines stream_lines
-    number_bytes trigger_answer said_of snapshot_said snapshot_trigger_of count_of refusal_words trigger_words
+    number_bytes number_of trigger_answer said_of snapshot_said snapshot_trigger_of count_of refusal_words trigger_words
 are_computed = record {
   sessions = record {
     events = refl;
     pipes = refl;
+    pages = refl;
   };
   calls = record {
     quiet = refl;

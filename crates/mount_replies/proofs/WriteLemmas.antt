@@ -53,6 +53,8 @@ other-kind g s handle lock_owner pid bytes own (files.OfTop file) other = refl
 other-kind g s handle lock_owner pid bytes own (files.CpuSize cpu) other = refl
 other-kind g s handle lock_owner pid bytes own (files.EventId event) other = refl
 other-kind g s handle lock_owner pid bytes own files.ErrorLog other = refl
+other-kind g s handle lock_owner pid bytes own (files.Layout file) other = refl
+other-kind g s handle lock_owner pid bytes own (files.RawPipe cpu) other = refl
 other-kind g s handle lock_owner pid bytes own (files.Inject event) other = absurd (other event refl)
 
 -- ---- one command that is noted

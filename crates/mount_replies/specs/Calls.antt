@@ -1,9 +1,10 @@
 -- What a mounted tracer does, turn after turn: it serves requests and tells what is owed, and it runs commands of the program that has it, which come by
 -- no request.
-use Rattle.std.specs.Prelude.{◌≡◌, ◌≤◌, ⊤, ℕ, List, [], ◌∷◌, length, Some, Result}
+use Rattle.std.specs.Prelude.{◌≡◌, ◌≤◌, ⊤, ℕ, Bool, true, false, List, [], ◌∷◌, length, Some, Result, Ok}
 use Rattle.trace_command.specs.Refusals.{OrMemory}
 use Rattle.trace_command.specs.Requests.{FitsItsTypes, RemoveInstance, Request}
 use Rattle.trace_command.specs.declared.command.Reply.{Reply as Answer}
+use Rattle.trace_command.specs.declared.command.Reply.TheVariants.{Done}
 use Rattle.trace_command.specs.declared.refusal.Refusal.{Refusal}
 use Rattle.trace_instance.specs.MemoryTaken.{TakesNoMemory}
 use Rattle.tracer.specs.Lives.{IsCallWithin, limited_answer, most_done}
@@ -14,16 +15,19 @@ use Rattle.mount_tree.specs.declared.node.Owner.TheVariants.{Top}
 use Rattle.mount_replies.specs.Mounted.{IsExchanged, IsMounted, MountSeen, Serves, past_after, terms_of}
 use Rattle.mount_replies.specs.Served.{forgotten_if_done}
 use Rattle.mount_replies.specs.Services.{Service, Terms, scene_of}
+use Rattle.mount_replies.specs.ShownTexts.{IsShownServed}
 use Rattle.mount_replies.specs.Steps.{Keeps, Noting, errors_after}
 use Rattle.mount_replies.specs.Told.{found_in}
+use Rattle.mount_replies.specs.declared.shown.ShownText.{ShownText}
 
 -- ---- turns
 
 -- what was done in a turn: bytes were read and others written, as a request is served or what is owed is told; or a command of the program got its answer,
--- where calls do nothing more once so many commands were done
+-- where calls do nothing more once so many commands were done; or a request was served of a text that was made beside the turns
 pub data Turn : Type 0 where
   Exchanged : (asked bytes : List ℕ) → Turn
   Called : (limit : ℕ) (request : Request) (answer : Result Answer Refusal) → Turn
+  Shows : (shown : ShownText) (asked bytes : List ℕ) → Turn
 
 -- what becomes of the logs by a call: the errors of an instance that it removed are forgotten, and no refusal is noted
 abbrev pub noting_called : SceneSeen → Request → Result Answer Refusal → Noting
@@ -49,6 +53,7 @@ abbrev pub IsTurned : Terms → Service → Turn → Service → Type 0
 IsTurned g before (Exchanged asked bytes) after = IsExchanged g before asked bytes after
 IsTurned g before (Called limit request answer) after =
     IsCallAnswered g limit before.past request answer × (after ≡ after_call g request answer before)
+IsTurned g before (Shows shown asked bytes) after = IsShownServed g before shown asked bytes after
 
 -- one after another
 abbrev pub TakesTurns : Terms → Service → List Turn → Service → Type 0
@@ -71,13 +76,20 @@ ServingIsTakingTurns =
 abbrev pub CallFits : Turn → Type 0
 CallFits (Exchanged asked bytes) = ⊤
 CallFits (Called limit request answer) = FitsItsTypes request
+CallFits (Shows shown asked bytes) = ⊤
 
 -- ---- a call
 
+-- the answer of a call: that it was done, if it says so, or what stands in the place for answers
+abbrev pub answer_of : Bool → Result Answer Refusal → Result Answer Refusal
+answer_of true answer = Ok Done
+answer_of false answer = answer
+
 -- What a call comes to where no more than so many commands are done, if these requests led to the mounted tracer before it: all that the tracer promises of
--- a command, and the mounted tracer is one to which this command led, too, if it was done. What is owed is worked out anew, and errors of an instance that was removed are forgotten; the rest is
--- as it was.
-pub record IsCommanded (limit : ℕ) (past : List Request) (old new : MountSeen) (request : Request) (result : Result Answer Refusal) : Type 0 where
+-- a command, and the mounted tracer is one to which this command led, too, if it was done. What is owed is worked out anew, and errors of an instance
+-- that was removed are forgotten; the rest is as it was.
+pub record IsCommanded (limit : ℕ) (past : List Request) (old new : MountSeen) (request : Request) (result : Result Answer Refusal)
+    : Type 0 where
   pub call : IsCallWithin limit past new.live request result
   pub mounted : IsMounted (past_after result request past) new
   pub terms : terms_of new ≡ terms_of old

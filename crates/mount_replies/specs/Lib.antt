@@ -3,6 +3,7 @@ pub mod Errnos
 pub mod Told
 pub mod Injections
 pub mod Pipes
+pub mod RawPages
 pub mod Steps
 pub mod Sizes
 pub mod Lines
@@ -11,9 +12,13 @@ pub mod Served
 pub mod Owed
 pub mod Watches
 pub mod Mounted
+pub mod EntryNumbers
+pub mod ShownTexts
 pub mod Calls
 pub mod MountLaws
 pub mod ParkedLaws
+pub mod PageLaws
+pub mod PageTurns
 pub mod PastLaws
 pub mod ServedErrors
 pub mod SetEvents

@@ -1,13 +1,16 @@
 -- A shell's session at a mounted tracer of one CPU, as a kernel asks it, with what is told, worked by hand. The checker computes it.
-use Rattle.std.specs.Prelude.{◌≡◌, ℕ, List, [], ◌∷◌, ◌++◌, map, codes}
-use Rattle.fuse_wire.specs.declared.errno.Errno.TheVariants.{EINTR, EINVAL}
+use Rattle.std.specs.Prelude.{◌≡◌, ℕ, ◌+◌, ◌*◌, ◌^◌, List, [], ◌∷◌, ◌++◌, map, codes}
+use Rattle.fuse_wire.specs.declared.attributes.Attributes.{Attributes}
+use Rattle.fuse_wire.specs.declared.attributes.FileKind.TheVariants.{Regular}
+use Rattle.fuse_wire.specs.declared.errno.Errno.TheVariants.{EAGAIN, EINTR, EINVAL}
 use Rattle.fuse_wire.specs.declared.reply.Reply.{Reply}
-use Rattle.fuse_wire.specs.declared.reply.Reply.TheVariants.{Data, Done, Error, Opened, Written}
+use Rattle.fuse_wire.specs.declared.reply.Reply.TheVariants.{Attributes as Told, Data, Done, Entry, Error, Init as Agreed, Opened, Poll as Ready, Written}
 use Rattle.fuse_wire.specs.declared.request.Operation.{Operation}
-use Rattle.fuse_wire.specs.declared.request.Operation.TheVariants.{Interrupt, Open, Read, Release, Write}
+use Rattle.fuse_wire.specs.declared.request.Operation.TheVariants.{GetAttr, Init, Interrupt, Lookup, Open, Poll, Read, Release, Write}
 use Rattle.trace_command.specs.declared.file_name.TopFile.TheVariants as top_files
 use Rattle.file_list.specs.declared.file.File.{File}
-use Rattle.file_list.specs.declared.file.File.TheVariants.{ErrorLog, Inject, OfInstance, SyntheticEvents, Tool}
+use Rattle.file_list.specs.declared.file.File.TheVariants.{ErrorLog, Inject, OfInstance, RawPipe, SyntheticEvents, Tool}
+use Rattle.file_list.specs.declared.folder.Folder.TheVariants as folders
 use Rattle.mount_tree.specs.declared.node.Node.TheVariants as nodes
 use Rattle.mount_tree.specs.declared.node.Owner.TheVariants.{Top}
 use Rattle.file_list.specs.declared.files.ToolFile.TheVariants as tools
@@ -102,6 +105,50 @@ waits =
     ∷ asks 42 (OfInstance top_files.TracePipe) (Release 0) Done
     ∷ []
 
+-- what a kernel begins with: of what it offers to read ahead nothing is taken
+abbrev pub begins : List Exchange
+begins =
+    record {
+      turn = Asked 2 0 (nodes.Folder Top folders.Root) (Init 7 45 131072 41);
+      message = Replied 2 (Agreed (record {
+        major = 7;
+        minor = 31;
+        max_readahead = 0;
+        flags = 40;
+        max_background = 65535;
+        congestion_threshold = 65535;
+        max_write = 131072;
+      }));
+    }
+    ∷ []
+
+-- the attributes of the binary pages of the CPU, whose number is 49, with this size
+abbrev pub pages_of_size : ℕ → Attributes
+pages_of_size size = record { node = 49; size = size; kind = Regular; permissions = 292; links = 1; uid = 0; gid = 0; block_size = 4096 }
+
+-- Each look-up of per_cpu/cpu0/trace_pipe_raw tells another number, whose low bits are the file's own, and a size that no reader comes to. Whoever asks for
+-- it is told no size. A read that may not wait, and one by the page cache (a READ without FUSE_READ_LOCKOWNER), get EAGAIN where no event is; a read of
+-- less than a page is no read by it.
+abbrev pub looks_up_pages : List Exchange
+looks_up_pages =
+    record {
+      turn = Asked 44 7 (nodes.Folder Top (folders.Cpu 0)) (Lookup (codes "trace_pipe_raw"));
+      message = Replied 44 (Entry (49 + 22 * 2 ^ 47) (pages_of_size (2 ^ 40)));
+    }
+    ∷ record {
+      turn = Asked 46 7 (nodes.Folder Top (folders.Cpu 0)) (Lookup (codes "trace_pipe_raw"));
+      message = Replied 46 (Entry (49 + 23 * 2 ^ 47) (pages_of_size (2 ^ 40)));
+    }
+    ∷ asks 48 (RawPipe 0) GetAttr (Told (pages_of_size 0))
+    ∷ asks 50 (RawPipe 0) (Open 34816) (Opened 0 53)
+    ∷ asks 52 (RawPipe 0) (Poll 0 5 0 0) (Ready 0)
+    ∷ asks 54 (RawPipe 0) (Read 0 0 4096 2 34816) (Error EAGAIN)
+    ∷ asks 56 (RawPipe 0) (Read 0 0 4096 0 32768) (Error EAGAIN)
+    ∷ asks 58 (RawPipe 0) (Read 0 0 4095 0 32768) (Error EINVAL)
+    ∷ asks 60 (RawPipe 0) (Release 0) Done
+    ∷ []
+
 pub record SessionsAreServed : Type 0 where
   pub events : IsServedSo (declares ++ sets_events ++ shows_events ++ shows_errors)
   pub pipes : IsServedSo (declares ++ sets_events ++ waits)
+  pub pages : IsServedSo (begins ++ looks_up_pages)

@@ -1,5 +1,5 @@
 -- What a call of a mounted tracer comes to: the step that is defined, or refused memory; and what a list of requests comes to.
-use Rattle.std.specs.Prelude.{◌≡◌, ◌≢◌, ◌⊎◌, ⊤, ℕ, ◌+◌, if◌then◌else◌, Bool, true, is_some, List, [], ◌∷◌, Option, Some, None, Result, Ok, Err, IsOk, IsErr}
+use Rattle.std.specs.Prelude.{◌≡◌, ◌≢◌, ◌⊎◌, ⊤, ℕ, ◌+◌, ◌%◌, ◌^◌, if◌then◌else◌, Bool, true, is_some, List, [], ◌∷◌, Option, Some, None, Result, Ok, Err, IsOk, IsErr}
 use Rattle.std.specs.List.{slice_get}
 use Rattle.fuse_wire.specs.Replies.{reply_bytes, wakeup_bytes}
 use Rattle.fuse_wire.specs.Requests.{IsRequest, IsFramed, has_reply}
@@ -180,10 +180,10 @@ Does g before (AsksLines lines outcome noting) reply after =
 Does g before (Counts count outcome) reply after =
     ((reply ≡ outcome.reply) × (after ≡ after_count count outcome before)) ⊎ ((reply ≡ Some (replies.Error ENOMEM)) × (after ≡ before))
 
--- the node of a number, if it is one's
+-- the node of a number, if it is one's: by the low bits alone, since binary pages are told by several numbers
 abbrev pub IsNamed : ℕ → Option Node → Type 0
-IsNamed number None = (node : Node) → FitsItsTypes node → number_of node ≢ number
-IsNamed number (Some node) = FitsItsTypes node × (number_of node ≡ number)
+IsNamed number None = (node : Node) → FitsItsTypes node → number_of node ≢ number % 2 ^ 47
+IsNamed number (Some node) = FitsItsTypes node × (number_of node ≡ number % 2 ^ 47)
 
 -- the bytes of a reply, none where there is none
 abbrev pub bytes_of_reply : ℕ → Option Reply → List ℕ

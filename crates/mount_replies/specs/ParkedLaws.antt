@@ -11,12 +11,13 @@ use Rattle.trace_command.specs.Requests.{Request}
 use Rattle.tracer_specification.specs.Waiting.{waiting}
 use Rattle.mount_tree.specs.Children.{is_there}
 use Rattle.file_list.specs.FileKinds.{kind_of_file}
-use Rattle.mount_tree.specs.NodePaths.{file_meant, owner_name}
+use Rattle.mount_tree.specs.NodePaths.{owner_name}
+use Rattle.file_list.specs.declared.file.FileKind.{FileKind}
 use Rattle.file_list.specs.declared.file.FileKind.TheVariants as kinds
-use Rattle.mount_replies.specs.Calls.{Called, Exchanged, IsTurned, TakesTurns, Turn}
+use Rattle.mount_replies.specs.Calls.{Called, Exchanged, IsTurned, TakesTurns, Turn, Shows}
 use Rattle.mount_replies.specs.Mounted.{AreServed, Does, IsExchanged, IsReplied, IsServed, Right, TellsOwed, Unframed, Wrong}
 use Rattle.mount_replies.specs.Owed.{Owed, ReplyAt, WakeupAt, is_due, owed, step_of_parked}
-use Rattle.mount_replies.specs.Pipes.{ends, is_dry, is_used_up}
+use Rattle.mount_replies.specs.Pipes.{ends, is_dry, is_used_up, pipe_meant, tells_end}
 use Rattle.mount_replies.specs.Served.{given_records, step_of}
 use Rattle.mount_replies.specs.Services.{OpenSeen, Service, Terms, file_at, node_of, scene_of, text_at, with_dry_read, without_read}
 use Rattle.mount_replies.specs.Sizes.{text_in}
@@ -57,14 +58,16 @@ abbrev pub answered_once : (g : Terms) (before : Service) (asked bytes : List �
 answered_once g before [] bytes after told = number_told g before (owed g before) bytes after told
 answered_once g before (byte ∷ asked) bytes after (quiet, served) = number_answered g before (byte ∷ asked) bytes after served
 
--- in a turn; a call asks and answers no READ
+-- in a turn; a call asks and answers no READ, and one that is served of a text that was made is answered at once
 abbrev pub asked_in : (g : Terms) (before : Service) (turn : Turn) (after : Service) → IsTurned g before turn after → List ℕ
 asked_in g before (Exchanged asked bytes) after one = asked_once g before asked bytes after one
 asked_in g before (Called limit request answer) after one = []
+asked_in g before (Shows shown asked bytes) after one = read_number one.request.unique one.request.operation
 
 abbrev pub answered_in : (g : Terms) (before : Service) (turn : Turn) (after : Service) → IsTurned g before turn after → List ℕ
 answered_in g before (Exchanged asked bytes) after one = answered_once g before asked bytes after one
 answered_in g before (Called limit request answer) after one = []
+answered_in g before (Shows shown asked bytes) after one = read_number one.request.unique one.request.operation
 
 -- the numbers of all READs that were asked
 abbrev pub reads_asked : (g : Terms) (before : Service) (turns : List Turn) (after : Service) → TakesTurns g before turns after → List ℕ
@@ -157,14 +160,16 @@ abbrev pub given_to : (handle : ℕ) (g : Terms) (before : Service) (asked bytes
 given_to handle g before [] bytes after told = given_told handle g before (owed g before) bytes after told
 given_to handle g before (byte ∷ asked) bytes after (quiet, served) = given_asked handle g before (byte ∷ asked) bytes after served
 
--- in a turn; a call takes nothing for a handle, whatever it reads
+-- in a turn; a call takes nothing for a handle, whatever it reads, and what a trace shows is taken of no pipe
 abbrev pub taken_in : (handle : ℕ) (g : Terms) (before : Service) (turn : Turn) (after : Service) → IsTurned g before turn after → List ℕ
 taken_in handle g before (Exchanged asked bytes) after one = taken_for handle g before asked bytes after one
 taken_in handle g before (Called limit request answer) after one = []
+taken_in handle g before (Shows shown asked bytes) after one = []
 
 abbrev pub given_in : (handle : ℕ) (g : Terms) (before : Service) (turn : Turn) (after : Service) → IsTurned g before turn after → List ℕ
 given_in handle g before (Exchanged asked bytes) after one = given_to handle g before asked bytes after one
 given_in handle g before (Called limit request answer) after one = []
+given_in handle g before (Shows shown asked bytes) after one = []
 
 -- Of a pipe that is open before a turn and after it: what was kept, and then what was taken, is what was given, and then what is kept. A turn that is no
 -- read of the pipe's handle takes and gives nothing, so it leaves what is kept as it was. What is kept when the file is closed is lost.
@@ -209,19 +214,21 @@ pub record WaitsForRecords (g : Terms) (s : Service) (read : Parked) : Type 0 wh
   pub is : file_at read.handle s.files ≡ Some file
   pub used_up : is_used_up file ≡ true
   pub there : is_there (scene_of g s) (node_of file) ≡ true
-  pub none : waiting g.config s.past (owner_name (scene_of g s) file.owner) (file_meant (scene_of g s) file.file) ≡ Ok false
+  pub none : waiting g.config s.past (owner_name (scene_of g s) file.owner) (pipe_meant (scene_of g s) file.file) ≡ Ok false
   pub goes_on : ends g s file ≡ false
 
 abbrev pub NoReadWaitsForWhatIsThere : Type 0
 NoReadWaitsForWhatIsThere =
     (g : Terms) (s : Service) (index : ℕ) (read : Parked) → owed g s ≡ None → slice_get s.parked index ≡ Some read → WaitsForRecords g s read
 
--- and no poll that is to be told: nothing is kept for its file's reads, no record waits, and the pipe doesn't end, or its reader was told already that it does
+-- and no poll that is to be told: nothing is kept for its file's reads, no record waits, and the pipe doesn't end, or its reader was told already that it
+-- does, or is one of binary pages, of whose end no poll is told
 abbrev pub NoPollWaitsForWhatIsThere : Type 0
 NoPollWaitsForWhatIsThere =
     (g : Terms) (s : Service) (handle wakeup : ℕ) (file : OpenSeen) → owed g s ≡ None → file_at handle s.files ≡ Some file
     → file.polls.wakeup ≡ Some wakeup
-    → (is_used_up file ≡ true) × (is_dry g s file.owner file.file ≡ true) × ((ends g s file ≡ false) ⊎ (file.polls.told_end ≡ true))
+    → (is_used_up file ≡ true) × (is_dry g s file.owner file.file ≡ true)
+    × ((ends g s file ≡ false) ⊎ ((file.polls.told_end ≡ true) ⊎ (tells_end file.file ≡ false)))
 
 -- ---- polls are told again
 
@@ -232,19 +239,25 @@ IsTold (Some (replies.Data bytes)) = Unit {0}
 IsTold (Some (replies.Error EAGAIN)) = Unit {0}
 IsTold _ = ⊥
 
+-- a pipe, by which records are consumed as lines or as binary pages
+abbrev pub IsConsumed : FileKind → Type 0
+IsConsumed kinds.Pipe = Unit {0}
+IsConsumed kinds.RawPipe = Unit {0}
+IsConsumed kind = ⊥
+
 -- After a READ of a pipe that a poll asked to be told of, what is left, or else what comes, is told again: no edge is lost.
 abbrev pub ReadsArmPolls : Type 0
 ReadsArmPolls =
     (g : Terms) (before after : Service) (request : Asked) (bytes : List ℕ) (handle offset size read_flags flags : ℕ) (old new : OpenSeen) (number : ℕ)
     → (served : IsServed g before request bytes after) → request.operation ≡ operations.Read handle offset size read_flags flags
-    → file_at handle before.files ≡ Some old → kind_of_file old.file ≡ kinds.Pipe → old.polls.asked ≡ Some number
+    → file_at handle before.files ≡ Some old → IsConsumed (kind_of_file old.file) → old.polls.asked ≡ Some number
     → file_at handle after.files ≡ Some new → IsTold served.reply → new.polls.wakeup ≡ Some number
 
 -- and so it is after one that was parked, once it gets its reply
 abbrev pub ParkedReadsArmPolls : Type 0
 ParkedReadsArmPolls =
     (g : Terms) (before after : Service) (index : ℕ) (bytes : List ℕ) (old new : OpenSeen) (number : ℕ) (told : IsReplied g before index bytes after)
-    → file_at told.read.handle before.files ≡ Some old → kind_of_file old.file ≡ kinds.Pipe → old.polls.asked ≡ Some number
+    → file_at told.read.handle before.files ≡ Some old → IsConsumed (kind_of_file old.file) → old.polls.asked ≡ Some number
     → file_at told.read.handle after.files ≡ Some new → IsTold (Some told.reply) → new.polls.wakeup ≡ Some number
 
 -- ---- the one that waits longest is answered first

@@ -36,7 +36,7 @@ use Rattle.mount_replies.specs.Lines.{command_text, lines_of, noted_command, not
 use Rattle.mount_replies.specs.Mounted.{IsNamed, IsServed, MayRun, bytes_of_reply}
 use Rattle.mount_replies.specs.Served.{is_cached, part_of, with_going_on}
 use Rattle.mount_replies.specs.Services.{OpenSeen, Service, Terms, file_at, is_read_out, node_of, scene_of, text_at, with_reading}
-use Rattle.mount_replies.specs.Sizes.{Telling, text_now}
+use Rattle.mount_replies.specs.Sizes.{Telling, entry_number, text_now}
 use Rattle.mount_replies.specs.Steps.{Asking, AsksFor, LineAsked, Noting, Ran, errors_after}
 use Rattle.mount_replies.specs.Told.{attributes_of, found_in, sets_size}
 use Rattle.mount_replies.specs.declared.fault.LineFault.{LineFault}
@@ -66,9 +66,10 @@ PastsFitTheirTypes =
 
 -- ---- reads
 
--- a file that reads show whole: no pipe, and not `inject`
+-- a file that reads show whole: no pipe, of lines or of binary pages, and not `inject`
 abbrev pub is_shown : FileKind → Bool
 is_shown kinds.Pipe = false
+is_shown kinds.RawPipe = false
 is_shown kinds.Inject = false
 is_shown _ = true
 
@@ -262,4 +263,5 @@ SizesAreLengths =
     → TellsLength g before (λ size. replies.Attributes (attributes_of g (nodes.File owner file) size)) owner file request.unique bytes)
     × ((name : List ℕ) (folder : Node) → request.operation ≡ operations.Lookup name → IsNamed request.node (Some folder)
     → found_in (scene_of g before) name (Some folder) ≡ Some (nodes.File owner file)
-    → TellsLength g before (λ size. replies.Entry (attributes_of g (nodes.File owner file) size)) owner file request.unique bytes)
+    → TellsLength g before (λ size. replies.Entry (entry_number request.unique (nodes.File owner file)) (attributes_of g (nodes.File owner file) size)) owner file
+    request.unique bytes)

@@ -31,8 +31,11 @@ use Rattle.mount_stub_files.specs.ToolTexts.{tool_text}
 use Rattle.mount_replies.specs.Errnos.{errno_of, errno_of_other}
 use Rattle.mount_replies.specs.FileWrites.{flush_file, release, write_file}
 use Rattle.mount_replies.specs.Lines.{noted_answer}
-use Rattle.mount_replies.specs.Pipes.{ends, is_dry, is_used_up, would_wait}
-use Rattle.mount_replies.specs.Services.{OpenSeen, Service, Terms, count_of, file_at, free_handle, is_read_out, just_opened, most_data, node_of, read_of_pipe, scene_of, with_dry_read, with_file, with_poll, with_reading, with_records}
+use Rattle.kernel_pages.specs.Pages.{page_of}
+use Rattle.file_list.specs.FileTable.{file_index}
+use Rattle.mount_replies.specs.Pipes.{ends, has_nothing, is_dry, is_used_up, would_wait}
+use Rattle.mount_replies.specs.RawPages.{next_count, next_page, pipe_node}
+use Rattle.mount_replies.specs.Services.{OpenSeen, Service, Terms, count_of, file_at, free_handle, is_read_out, just_opened, most_data, node_of, read_of_pipe, scene_of, with_dry_read, with_file, with_poll, with_reading, with_records, with_told_ready}
 use Rattle.mount_replies.specs.Sizes.{get_attributes, look_up, set_attributes, text_in}
 use Rattle.mount_replies.specs.Steps.{Asks, AsksNoting, Forgets, Interrupts, Keeps, Noting, Outcome, Parks, Plain, Step, Takes, Tells, failed, plain, read_of, taking, told, write_of}
 use Rattle.mount_replies.specs.Told.{agree, attributes_of, check_access, empties, found_in, known, may, open_folder, read_folder, wants_read, wants_write}
@@ -45,6 +48,7 @@ use Rattle.mount_replies.specs.declared.counted.Counted.{Counted}
 -- one by the same open file; FOPEN_NOFLUSH is 32: no FLUSH comes where a descriptor is closed, since only `inject` has something to do then
 abbrev pub open_flags : FileKind → ℕ
 open_flags kinds.Pipe = 53
+open_flags kinds.RawPipe = 53
 open_flags kinds.Inject = 1
 open_flags _ = 33
 
@@ -217,8 +221,49 @@ read_pipe g s read flags file =
 abbrev pub read_pipe_directly : Terms → Service → Parked → Bool → ℕ → OpenSeen → Step
 read_pipe_directly g s read cached flags file = if cached then failed EINVAL s.files else read_pipe g s read flags file
 
+-- ---- READ of binary pages (`tracing_buffers_read` and `tracing_buffers_splice_read` of kernel/trace/trace.c)
+
+-- as much of the page as there is room for is given, and the rest is kept
+abbrev pub given_page : ℕ → ℕ → List ℕ → List (Option OpenSeen) → Result Answer Refusal → Outcome
+given_page handle size page files (Ok answer) = given_records handle size page files
+given_page handle size page files (Err refusal) = told (replies.Error (errno_of refusal)) files
+
+-- it is taken as `take COUNT per_cpu/cpuN/trace_pipe` takes its records
+abbrev pub read_page : Terms → Service → Parked → OpenSeen → Step
+read_page g s read file =
+    Asks (read_of (scene_of g s) (pipe_node file) (Some (next_count g s file.owner (file_index file.file))))
+    (given_page read.handle read.size (next_page g s file.owner (file_index file.file)) s.files)
+
+-- The page cache gets a whole page or an error, which is EINVAL where read(2) left a part of a page, so that this is not lost. Where no record waits, the first read after a poll that was told of one gets a page of none, and any
+-- other one EAGAIN.
+abbrev pub read_no_page : Parked → OpenSeen → List (Option OpenSeen) → Step
+read_no_page read file files =
+    if file.polls.told_ready then taking (replies.Data (part_of 0 read.size (page_of []))) (with_dry_read false read.handle files)
+    else failed EAGAIN (with_dry_read false read.handle files)
+
+abbrev pub read_whole_page : Terms → Service → Parked → OpenSeen → Step
+read_whole_page g s read file =
+    if nat_lt read.size 4096 then failed EINVAL s.files
+    else if is_dry g s file.owner file.file then read_no_page read file s.files
+    else read_page g s read file
+
+-- read(2): what is left of the page before, or a new one
+abbrev pub read_new_page : Terms → Service → Parked → ℕ → OpenSeen → Step
+read_new_page g s read flags file =
+    if is_dry g s file.owner file.file then read_dry read flags (ends g s file) s.files else read_page g s read file
+
+abbrev pub read_pages : Terms → Service → Parked → ℕ → OpenSeen → Step
+read_pages g s read flags file =
+    if is_used_up file then read_new_page g s read flags file
+    else Plain (given_records read.handle read.size (unwrap_or file.text []) s.files)
+
+abbrev pub read_raw : Terms → Service → Parked → Bool → ℕ → OpenSeen → Step
+read_raw g s read cached flags file =
+    if cached then (if is_used_up file then read_whole_page g s read file else failed EINVAL s.files) else read_pages g s read flags file
+
 abbrev pub read_kind : Terms → Service → Parked → ℕ → Bool → ℕ → OpenSeen → FileKind → Step
 read_kind g s read offset cached flags file kinds.Pipe = read_pipe_directly g s read cached flags file
+read_kind g s read offset cached flags file kinds.RawPipe = read_raw g s read cached flags file
 read_kind g s read offset cached flags file kinds.Inject = failed EACCES s.files
 read_kind g s read offset cached flags file kinds.Tool =
     unless_counted s read cached offset file (read_tool g s read.handle offset read.size file)
@@ -257,9 +302,16 @@ abbrev pub poll_pipe : Bool → ℕ → ℕ → ℕ → List (Option OpenSeen) �
 poll_pipe waits handle wakeup flags files =
     plain (replies.Poll (if waits then 0 else ready_pipe)) (with_wanted_poll (wants_wakeup flags) wakeup waits handle files)
 
+-- binary pages are ready where there is one; that a poll was told so is remembered until the next read
+abbrev pub poll_raw : Bool → ℕ → ℕ → ℕ → List (Option OpenSeen) → Step
+poll_raw waits handle wakeup flags files =
+    plain (replies.Poll (if waits then 0 else ready_pipe))
+    (with_told_ready (not waits) handle (with_wanted_poll (wants_wakeup flags) wakeup waits handle files))
+
 -- any other file is always ready
 abbrev pub poll_kind : Terms → Service → ℕ → ℕ → ℕ → OpenSeen → FileKind → Step
 poll_kind g s handle wakeup flags file kinds.Pipe = poll_pipe (would_wait g s file) handle wakeup flags s.files
+poll_kind g s handle wakeup flags file kinds.RawPipe = poll_raw (has_nothing g s file) handle wakeup flags s.files
 poll_kind g s handle wakeup flags file _ = plain (replies.Poll ready_file) s.files
 
 abbrev pub poll_file : Terms → Service → ℕ → ℕ → ℕ → Option OpenSeen → Step
@@ -269,7 +321,7 @@ poll_file g s handle wakeup flags (Some file) = poll_kind g s handle wakeup flag
 -- ---- MKDIR, RMDIR
 
 abbrev pub made_folder : Terms → ℕ → List (Option OpenSeen) → Result Answer Refusal → Outcome
-made_folder g serial files (Ok answer) = told (replies.Entry (attributes_of g (nodes.Folder (Made serial) folders.Root) 0)) files
+made_folder g serial files (Ok answer) = told (replies.Entry (number_of (nodes.Folder (Made serial) folders.Root)) (attributes_of g (nodes.Folder (Made serial) folders.Root) 0)) files
 made_folder g serial files (Err refusal) = told (replies.Error (errno_of refusal)) files
 
 -- where a scene takes one more
@@ -311,7 +363,7 @@ remove_folder scene name files _ = failed EPERM files
 
 -- what a request of this number by this process, about this node, if its number is one's, comes to
 abbrev pub step_of : Terms → Service → ℕ → ℕ → Option Node → Operation → Step
-step_of g s unique pid target (operations.Lookup name) = look_up g s target name
+step_of g s unique pid target (operations.Lookup name) = look_up g s unique target name
 step_of g s unique pid target operations.GetAttr = get_attributes g s target
 step_of g s unique pid target (operations.SetAttr valid size) = set_attributes g s target valid size
 step_of g s unique pid target (operations.MkDir name) = make_folder g (scene_of g s) name s.files (known (scene_of g s) target)
@@ -327,7 +379,7 @@ step_of g s unique pid target (operations.Release handle) = release g s handle (
 step_of g s unique pid target operations.OpenDir = plain (open_folder (scene_of g s) target) s.files
 step_of g s unique pid target (operations.ReadDir handle offset size) = taking (read_folder (scene_of g s) target offset size) s.files
 step_of g s unique pid target (operations.Access mask) = plain (check_access (scene_of g s) target mask) s.files
-step_of g s unique pid target (operations.Init major minor max_readahead flags) = plain (agree major max_readahead flags) s.files
+step_of g s unique pid target (operations.Init major minor max_readahead flags) = plain (agree major flags) s.files
 step_of g s unique pid target operations.StatFs = plain (replies.StatFs 4096 255) s.files
 step_of g s unique pid target operations.Fsync = plain replies.Done s.files
 step_of g s unique pid target (operations.ReleaseDir handle) = plain replies.Done s.files

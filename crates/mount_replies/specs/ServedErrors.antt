@@ -35,7 +35,7 @@ use Rattle.mount_stub_files.specs.declared.write.ToolWrite.TheVariants as writes
 use Rattle.mount_replies.specs.Errnos.{errno_of}
 use Rattle.mount_replies.specs.FileWrites.{begun_now, switch_text}
 use Rattle.mount_replies.specs.Lines.{asked_by_line, command_text, errno_of_fault, has_newline, is_newline, most_kept, refusal_in, written_lines}
-use Rattle.mount_replies.specs.Calls.{Called, Exchanged, IsTurned, TakesTurns, Turn, noting_called}
+use Rattle.mount_replies.specs.Calls.{Called, Exchanged, IsTurned, TakesTurns, Turn, noting_called, Shows}
 use Rattle.mount_replies.specs.Mounted.{AreServed, Does, IsExchanged, IsNamed, IsServed, Right, TellsOwed, Unframed, Wrong}
 use Rattle.mount_replies.specs.Owed.{Owed, ReplyAt, WakeupAt, owed, step_of_parked}
 use Rattle.mount_replies.specs.PastLaws.{ShowsNow, just_mounted}
@@ -90,6 +90,7 @@ change_of (Forgets owner) = Cleared owner ∷ []
 abbrev pub noting_in : (g : Terms) (before : Service) (turn : Turn) (after : Service) → IsTurned g before turn after → Noting
 noting_in g before (Exchanged asked bytes) after one = noting_of g before asked bytes after one
 noting_in g before (Called limit request answer) after one = noting_called (scene_of g before) request answer
+noting_in g before (Shows shown asked bytes) after one = Keeps
 
 -- in all turns, the latest change first
 abbrev pub changes_in : (g : Terms) (before : Service) (turns : List Turn) (after : Service) → TakesTurns g before turns after → List Change

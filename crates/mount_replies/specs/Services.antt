@@ -29,7 +29,7 @@ no_stream = record { is_stream = false; rest = []; lock_owner = 0; pid = 0 }
 
 -- no poll asked for anything
 abbrev pub no_polls : Polls
-no_polls = record { asked = None; wakeup = None; told_end = false }
+no_polls = record { asked = None; wakeup = None; told_end = false; told_ready = false }
 
 -- An open file: whose it is and which; whether it was opened to be emptied (O_TRUNC) and nothing was written yet; and the text that its reads give:
 -- of a pipe what was taken and not yet given, of another file all that it showed when it was last read from its beginning. A text that was read to its
@@ -138,7 +138,7 @@ drop_rest handle files = with_change (λ (file : OpenSeen). record file { stream
 
 -- a poll that asked to be told ever is to be told again; whether the last read was told the end
 abbrev pub armed : Bool → Polls → Polls
-armed told_end polls = record { asked = polls.asked; wakeup = polls.asked; told_end = told_end }
+armed told_end polls = record { asked = polls.asked; wakeup = polls.asked; told_end = told_end; told_ready = false }
 
 -- this is left of what was taken for its reads, one of which gave records
 abbrev pub with_records : List ℕ → ℕ → List (Option OpenSeen) → List (Option OpenSeen)
@@ -155,15 +155,21 @@ polled_by wakeup waits polls = record {
   asked = Some wakeup;
   wakeup = if waits then Some wakeup else polls.wakeup;
   told_end = if waits then false else polls.told_end;
+  told_ready = polls.told_ready;
 }
 
 abbrev pub with_poll : ℕ → Bool → ℕ → List (Option OpenSeen) → List (Option OpenSeen)
 with_poll wakeup waits handle files = with_change (λ (file : OpenSeen). record file { polls = polled_by wakeup waits file.polls }) handle files
 
+-- a poll of it was told whether a read would not wait
+abbrev pub with_told_ready : Bool → ℕ → List (Option OpenSeen) → List (Option OpenSeen)
+with_told_ready told_ready handle files =
+    with_change (λ (file : OpenSeen). record file { polls = record file.polls { told_ready = told_ready } }) handle files
+
 -- a poll of it was told
 abbrev pub without_wakeup : ℕ → List (Option OpenSeen) → List (Option OpenSeen)
 without_wakeup handle files =
-    with_change (λ (file : OpenSeen). record file { polls = record { asked = file.polls.asked; wakeup = None; told_end = file.polls.told_end } }) handle files
+    with_change (λ (file : OpenSeen). record file { polls = record file.polls { wakeup = None } }) handle files
 
 -- a poll of it is to be told
 abbrev pub has_wakeup : Option OpenSeen → Bool

@@ -95,24 +95,24 @@ echo unique node text answer =
     ∷ []
 
 -- An event is declared and switched on, and garbage is written to its trigger file. Then cat trace_pipe waits until echo n=5 > inject, and cat error_log
--- shows the garbage. The files: synthetic_events is 9, of the event enable is 22, trigger 24 and inject 27; trace_pipe is 11, and error_log 43.
+-- shows the garbage. The files: synthetic_events is 11, of the event enable is 24, trigger 26 and inject 29; trace_pipe is 13, and error_log 45.
 abbrev pub session : List ByteExchange
 session =
-    echo 2 9 (codes "tick u64 n\n") (written 4 11)
-    ++ echo 8 22 (codes "1\n") (written 10 2)
-    ++ echo 14 24 (codes "garbage\n") (invalid 16)
-    ++ exchange (opens 20 11 reading) (opened 20 0 53)
-    ∷ exchange (reads 22 11 0) []
-    ∷ exchange (opens 24 27 emptying) (opened 24 1 1)
-    ∷ exchange (writes 26 27 1 (codes "n=5\n")) (written 26 4)
+    echo 2 11 (codes "tick u64 n\n") (written 4 11)
+    ++ echo 8 24 (codes "1\n") (written 10 2)
+    ++ echo 14 26 (codes "garbage\n") (invalid 16)
+    ++ exchange (opens 20 13 reading) (opened 20 0 53)
+    ∷ exchange (reads 22 13 0) []
+    ∷ exchange (opens 24 29 emptying) (opened 24 1 1)
+    ∷ exchange (writes 26 29 1 (codes "n=5\n")) (written 26 4)
     ∷ exchange [] (given 22 (codes "7 [000] 1: tick: n=5\n"))
-    ∷ exchange (flushes 28 27 1) (done 28)
-    ∷ exchange (releases 30 27 1 writing) (done 30)
-    ∷ exchange (releases 32 11 0 reading) (done 32)
-    ∷ exchange (opens 34 43 reading) (opened 34 0 33)
-    ∷ exchange (reads 36 43 0)
+    ∷ exchange (flushes 28 29 1) (done 28)
+    ∷ exchange (releases 30 29 1 writing) (done 30)
+    ∷ exchange (releases 32 13 0 reading) (done 32)
+    ∷ exchange (opens 34 45 reading) (opened 34 0 33)
+    ∷ exchange (reads 36 45 0)
     (given 36 (codes "[    0.000000] hist:synthetic:tick: error: expected `hist:` or `snapshot`\n  Command: garbage\n           ^\n"))
-    ∷ exchange (releases 38 43 0 reading) (done 38)
+    ∷ exchange (releases 38 45 0 reading) (done 38)
     ∷ []
 
 abbrev pub SessionIsServed : Type 0

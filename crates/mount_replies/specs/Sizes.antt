@@ -1,5 +1,5 @@
 -- Look-ups, and the size that they tell of a file: the length of what it shows now. A text that was counted is remembered until a command is done.
-use Rattle.std.specs.Prelude.{ℕ, ◌==◌, Bool, false, List, [], length, Option, Some, None, unwrap_or, Result, Ok, Err, if◌then◌else◌}
+use Rattle.std.specs.Prelude.{ℕ, ◌+◌, ◌*◌, ◌/◌, ◌%◌, ◌^◌, ◌==◌, Bool, false, List, [], length, Option, Some, None, unwrap_or, Result, Ok, Err, if◌then◌else◌}
 use Rattle.fuse_wire.specs.declared.errno.Errno.TheVariants.{ENOENT, EINVAL}
 use Rattle.fuse_wire.specs.declared.reply.Reply.{Reply}
 use Rattle.fuse_wire.specs.declared.reply.Reply.TheVariants as replies
@@ -11,6 +11,7 @@ use Rattle.error_log.specs.Logs.{log_text}
 use Rattle.file_list.specs.FileKinds.{kind_of_file}
 use Rattle.mount_tree.specs.Nodes.{number_of}
 use Rattle.file_list.specs.declared.file.File.{File}
+use Rattle.file_list.specs.declared.file.File.TheVariants.{RawPipe}
 use Rattle.file_list.specs.declared.file.FileKind.{FileKind}
 use Rattle.file_list.specs.declared.file.FileKind.TheVariants as kinds
 use Rattle.mount_tree.specs.declared.node.Node.{Node}
@@ -79,31 +80,41 @@ size_of_text g s telling owner file count =
 
 -- A pipe has a size of 1, so that whoever stops at a size reads it nevertheless; what can't be read has none. What `error_log` shows changes without a
 -- command, too.
-abbrev pub size_by_kind : Terms → Service → Telling → Owner → File → FileKind → Step
-size_by_kind g s telling owner file kinds.Pipe = plain (telling 1) s.files
-size_by_kind g s telling owner file kinds.Inject = plain (telling 0) s.files
-size_by_kind g s telling owner file kinds.ErrorLog = count_text g s telling owner file
-size_by_kind g s telling owner file kind =
+-- Binary pages have the size that is told of them: `pages`.
+abbrev pub size_by_kind : Terms → Service → Telling → ℕ → Owner → File → FileKind → Step
+size_by_kind g s telling pages owner file kinds.Pipe = plain (telling 1) s.files
+size_by_kind g s telling pages owner file kinds.RawPipe = plain (telling pages) s.files
+size_by_kind g s telling pages owner file kinds.Inject = plain (telling 0) s.files
+size_by_kind g s telling pages owner file kinds.ErrorLog = count_text g s telling owner file
+size_by_kind g s telling pages owner file kind =
     size_of_text g s telling owner file (count_of (number_of (nodes.File owner file)) s.counted)
 
 -- a folder has none
-abbrev pub tell_size : Terms → Service → Telling → Node → Step
-tell_size g s telling (nodes.Folder owner folder) = plain (telling 0) s.files
-tell_size g s telling (nodes.File owner file) = size_by_kind g s telling owner file (kind_of_file file)
+abbrev pub tell_size : Terms → Service → Telling → ℕ → Node → Step
+tell_size g s telling pages (nodes.Folder owner folder) = plain (telling 0) s.files
+tell_size g s telling pages (nodes.File owner file) = size_by_kind g s telling pages owner file (kind_of_file file)
 
 -- ---- look-ups
 
-abbrev pub tell_entry : Terms → Service → Option Node → Step
-tell_entry g s None = failed ENOENT s.files
-tell_entry g s (Some node) = tell_size g s (λ size. replies.Entry (attributes_of g node size)) node
+-- By which number a node is told, and asked for from then on: binary pages have another one for each look-up, as whoever reads by one number by way of the
+-- page cache gets what others read by it.
+abbrev pub entry_number : ℕ → Node → ℕ
+entry_number unique (nodes.File owner (RawPipe cpu)) = number_of (nodes.File owner (RawPipe cpu)) + unique / 2 % 2 ^ 17 * 2 ^ 47
+entry_number unique node = number_of node
+
+-- the page cache reads a file up to the size that a look-up told; whoever asks for the size of binary pages is told none
+abbrev pub tell_entry : Terms → Service → ℕ → Option Node → Step
+tell_entry g s unique None = failed ENOENT s.files
+tell_entry g s unique (Some node) =
+    tell_size g s (λ size. replies.Entry (entry_number unique node) (attributes_of g node size)) (2 ^ 40) node
 
 -- LOOKUP
-abbrev pub look_up : Terms → Service → Option Node → List ℕ → Step
-look_up g s folder name = tell_entry g s (found_in (scene_of g s) name folder)
+abbrev pub look_up : Terms → Service → ℕ → Option Node → List ℕ → Step
+look_up g s unique folder name = tell_entry g s unique (found_in (scene_of g s) name folder)
 
 abbrev pub tell_attributes : Terms → Service → Option Node → Step
 tell_attributes g s None = failed ENOENT s.files
-tell_attributes g s (Some node) = tell_size g s (λ size. replies.Attributes (attributes_of g node size)) node
+tell_attributes g s (Some node) = tell_size g s (λ size. replies.Attributes (attributes_of g node size)) 0 node
 
 -- GETATTR
 abbrev pub get_attributes : Terms → Service → Option Node → Step

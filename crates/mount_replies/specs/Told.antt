@@ -146,13 +146,14 @@ read_folder scene folder offset size = listed_folder scene offset size (known sc
 abbrev pub taken_flags : ℕ → ℕ
 taken_flags flags = flags / 8 % 2 * 8 + flags / 32 % 2 * 32
 
--- INIT, by version 7, minor 31: a newer major is answered so, too, and then comes again as 7
-abbrev pub agree : ℕ → ℕ → ℕ → Reply
-agree major max_readahead flags =
+-- INIT, by version 7, minor 31: a newer major is answered so, too, and then comes again as 7. Nothing is read ahead, so that the page cache asks for one
+-- page a READ, and a READ of binary pages gives one.
+abbrev pub agree : ℕ → ℕ → Reply
+agree major flags =
     if nat_le 7 major then replies.Init (record {
       major = 7;
       minor = 31;
-      max_readahead = max_readahead;
+      max_readahead = 0;
       flags = taken_flags flags;
       max_background = 65535;
       congestion_threshold = 65535;

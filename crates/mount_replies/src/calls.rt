@@ -13,7 +13,7 @@ ghost use Rattle.trace_format.specs.Definitions.{Definition};
 ghost use Rattle.tracer_specification.specs.Settings.{declared_events, declares};
 ghost use Rattle.tracer.specs.Lives.{IsReadyFor, most_done};
 ghost use Rattle.tracer_state.specs.ValueEmissions.{emission_by};
-ghost use Rattle.mount_replies.specs.Calls.{IsCommanded};
+ghost use Rattle.mount_replies.specs.Calls.{IsCommanded, answer_of};
 ghost use Rattle.mount_replies.specs.Mounted.{HasLedTo, IsMounted, service_of, terms_of};
 ghost use Rattle.mount_replies.specs.Owed.{owed};
 ghost use Rattle.mount_replies.specs.Steps.{Keeps};
@@ -29,17 +29,38 @@ use trace_script::declared;
 use tracer::{MOST_DONE, Tracer};
 use tracer_state::{Prepared, ValuesEmission};
 
+// Puts an answer in its place, but not that a call was done, which is told instead. (An answer is 48 bytes, which few calls have moved.)
+#[inline(always)]
+pub(crate) fn put(answer: &mut Result<Reply, Refusal>, given: Result<Reply, Refusal>) -> bool
+    ensures { answer_of result answer.new ≡ given }
+{
+    match given {
+        Ok(Reply::Done) => true,
+        given => {
+            *answer = given;
+            false
+        }
+    }
+}
+
 impl Mount {
     /// Runs a command of the program, or refuses it, as `Tracer::ask_within`: the answer is the one that the commands done before it give, whoever asked
     /// them, where a call does nothing more once so many commands were done. Requests are under no such limit. What it makes readable is owed to reads
-    /// that wait and to polls. It may come while something is owed.
-    pub fn call_within(&mut self, limit: u64, command: &Command<'_>) -> Result<Reply, Refusal>
+    /// that wait and to polls. It may come while something is owed. It tells whether the answer is that it was done; another is put in the place of `answer`.
+    pub fn call_within(
+        &mut self,
+        limit: u64,
+        command: &Command<'_>,
+        answer: &mut Result<Reply, Refusal>,
+    ) -> bool
         requires { limit ≤ most_done }
-        ensures { (past : List Request) → IsMounted past self.old → IsCommanded limit past self.old self.new (request_of command.now) result }
+        ensures { (past : List Request) → IsMounted past self.old
+            → IsCommanded limit past self.old self.new (request_of command.now) (answer_of result answer.new) }
     {
-        let answer = self.run_within(limit, command);
+        let given = self.run_within(limit, command);
+        let is_done = put(answer, given);
         self.look_after_call();
-        answer
+        is_done
     }
 
     /// As `call_within`, for an emission by values, as `Tracer::ask_values_within`.
@@ -48,20 +69,22 @@ impl Mount {
         &mut self,
         limit: u64,
         emission: &ValuesEmission<'_>,
-    ) -> Result<Reply, Refusal>
+        answer: &mut Result<Reply, Refusal>,
+    ) -> bool
         requires { limit ≤ most_done }
         ensures { (past : List Request) → IsMounted past self.old
-            → IsCommanded limit past self.old self.new (emission_by (declared_events past) emission.now) result }
+            → IsCommanded limit past self.old self.new (emission_by (declared_events past) emission.now) (answer_of result answer.new) }
     {
-        let answer = self.live.ask_values_within(
+        let given = self.live.ask_values_within(
             limit,
             emission.event,
             emission.cpu,
             emission.pid,
             emission.values,
         );
+        let is_done = put(answer, given);
         self.look_after_call();
-        answer
+        is_done
     }
 
     /// The tracer, to look at.
@@ -72,9 +95,9 @@ impl Mount {
         &self.live
     }
 
-    // Works out whether something is owed after a call. Where no read is parked and no poll is to be told, that is a look at two fields.
+    /// Works out whether something is owed after a call. Where no read is parked and no poll is to be told, that is a look at two fields.
     #[inline(always)]
-    fn look_after_call(&mut self)
+    pub(crate) fn look_after_call(&mut self)
         ensures rest { self.new ≡ record self.old { owes = self.new.owes } }
         ensures owes { (past : List Request) → HasLedTo past self.old
             → self.new.owes ≡ is_some (owed (terms_of self.old) (service_of past self.old)) }

@@ -55,6 +55,7 @@ fn is_same_pipe(one: File, other: File) -> bool
         (File::OfCpu(cpu, CpuFile::TracePipe), File::OfCpu(other, CpuFile::TracePipe)) => {
             cpu == other
         }
+        (File::RawPipe(cpu), File::RawPipe(other)) => cpu == other,
         _ => false,
     }
 }
@@ -82,10 +83,11 @@ impl DryPipes {
         ensures { IfSome result (λ tracing. Contains self.now (Some (record { owner = owner; file = file; tracing = tracing }))) }
     {
         for index in 0..MOST_PIPES {
-            if let Some(pipe) = &self.slots[index] {
-                if is_pipe(pipe, owner, file) {
-                    return Some(pipe.tracing);
-                }
+            let Some(pipe) = &self.slots[index] else {
+                return None;
+            };
+            if is_pipe(pipe, owner, file) {
+                return Some(pipe.tracing);
             }
         }
         None

@@ -5,7 +5,7 @@ ghost use Rattle.std.specs.List.{list_any};
 ghost use Rattle.std.specs.Option.{option_copied, option_map};
 ghost use Rattle.trace_command.specs.FileNames.{bytes_now};
 ghost use Rattle.mount_replies.specs.Served.{is_before_end};
-ghost use Rattle.mount_replies.specs.Services.{OpenSeen, armed, drop_rest, file_at, free_handle, has_wakeup, is_read_out, text_at, wakeup_at, with_change, with_dry_read, with_file, with_poll, with_reading, with_records, with_stream, with_write, without_file, without_wakeup};
+ghost use Rattle.mount_replies.specs.Services.{OpenSeen, armed, drop_rest, file_at, free_handle, has_wakeup, is_read_out, text_at, wakeup_at, with_change, with_dry_read, with_file, with_poll, with_reading, with_records, with_stream, with_told_ready, with_write, without_file, without_wakeup};
 
 use crate::open_file::OpenFile;
 use crate::stream::Stream;
@@ -284,6 +284,26 @@ impl OpenFiles {
         self.put(handle, Some(file.after_dry_read(told_end)));
     }
 
+    /// Whether a read of the file gave records.
+    pub fn has_read(&self, handle: u64) -> bool
+        ensures { (file : OpenSeen) → file_at handle self.now ≡ Some file → result ≡ file.has_read }
+    {
+        match self.get(handle) {
+            Some(file) => file.has_read(),
+            None => false,
+        }
+    }
+
+    /// Whether a poll of the file was told since its last read that a read would not wait.
+    pub fn was_told_ready(&self, handle: u64) -> bool
+        ensures { (file : OpenSeen) → file_at handle self.now ≡ Some file → result ≡ file.polls.told_ready }
+    {
+        match self.get(handle) {
+            Some(file) => file.polls().told_ready,
+            None => false,
+        }
+    }
+
     /// A poll of the file asked to be told by this number; it waits for that, or not.
     pub fn keep_poll(&mut self, handle: u64, wakeup: u64, waits: bool)
         ensures { self.new ≡ with_poll wakeup waits handle self.old }
@@ -292,6 +312,17 @@ impl OpenFiles {
             return;
         };
         let polls = file.polls().polled_by(wakeup, waits);
+        self.put(handle, Some(file.with_polls(polls)));
+    }
+
+    /// A poll of the file was told whether a read would not wait.
+    pub fn note_poll(&mut self, handle: u64, told_ready: bool)
+        ensures { self.new ≡ with_told_ready told_ready handle self.old }
+    {
+        let Some(file) = self.take(handle) else {
+            return;
+        };
+        let polls = file.polls().told(told_ready);
         self.put(handle, Some(file.with_polls(polls)));
     }
 

@@ -3,8 +3,11 @@
 ghost use Rattle.mount_replies.specs.CallExamples.{CallsWakeReaders};
 ghost use Rattle.mount_replies.specs.Calls.{ServingIsTakingTurns};
 ghost use Rattle.mount_replies.specs.ComputedSteps.{StepsAreComputed};
+ghost use Rattle.mount_replies.specs.EntryNumbers.{EntryNumbersDiffer, EntryNumbersName};
 ghost use Rattle.mount_replies.specs.MountExamples.{SessionsAreServed};
 ghost use Rattle.mount_replies.specs.MountLaws.{CutsDontMatter, LinesEndAtNewlines, NothingLeftIsAll, OthersFlushNothing, ReadsGoOn, StepsDoCommands, StreamsLoseNothing};
+ghost use Rattle.mount_replies.specs.PageLaws.{PageCacheGetsPages, PageReadsTake, PagesAreReadAsTaken};
+ghost use Rattle.mount_replies.specs.PageTurns.{CachedReadsKeepNothing, NoPageIsLostOrToldTwice, PagesAreOfOneRead};
 ghost use Rattle.mount_replies.specs.ParkedLaws.{ClosedReadsTakeNothing, InterruptedReadsTakeNothing, NoPollWaitsForWhatIsThere, NoReadWaitsForWhatIsThere, NoRecordIsLostOrToldTwice, OldestIsAnsweredFirst, ParkedReadsArmPolls, ReadsAreAnsweredOnce, ReadsArmPolls, TakenTextIsGivenOrKept, TellingDoesOneCommandAtMost};
 ghost use Rattle.mount_replies.specs.PastLaws.{ErrorsAreOfInstances, LaterReadsGoOn, PastsAreDone, PastsFitTheirTypes, ReadsEndWithTheText, ReadsShowThePast, RemovedFilesAreMissing, ServedScenesAreSound, SizesAreLengths, StatsShowThePast, ToolReadsShowThePast, WritesAreCommands};
 ghost use Rattle.mount_replies.specs.ServedErrors.{LastEightAreKept, LogReadsShowTheLastEight, NotedWritesWereRefused, OpenFilesKeepLines, RefusedWritesAreNoted};
@@ -56,14 +59,35 @@ pub fn waiting_loses_nothing()
     ensures text { TakenTextIsGivenOrKept }
 {}
 
+/// Of binary pages, too, nothing that was taken for the reads of a file that stays open is lost or given twice, so records go to one of all readers.
+///
+/// `records`: what was kept of a page and the page that a turn took is, in order, what the turn gave and what is kept then. `cached`: a READ by the page cache
+/// gets a whole page, where nothing is left of a page before, and of which nothing is kept; a page of no record; or an error. `taken`: what a turn took is
+/// one page, by one read of the CPU's pipe, its only command.
+pub fn pages_go_to_one_reader()
+    ensures records { NoPageIsLostOrToldTwice }
+    ensures cached { CachedReadsKeepNothing }
+    ensures taken { PagesAreOfOneRead }
+{}
+
+/// Of a CPU's binary pages the page cache gets whole ones (`whole`). A READ of them does no command, or the one that takes as many records of the CPU's pipe
+/// as the next page has, and gives the beginning of that page (`take`), which is read, by Linux's rules alone, as these records (`read`). So a page has
+/// what a `take` of it would have told, each record once.
+pub fn pages_show_what_is_taken()
+    ensures whole { PageCacheGetsPages }
+    ensures take { PageReadsTake }
+    ensures read { PagesAreReadAsTaken }
+{}
+
 /// Where something waits, no read does that could take it, and no poll that is to be told of it, whenever nothing is owed, as where a request is answered;
-/// but that a pipe ends is told a poll only if its last read was not told so.
+/// but that a pipe ends is told a poll only if its last read was not told so, and of binary pages never.
 pub fn no_read_waits_for_what_is_there()
     ensures waits { NoReadWaitsForWhatIsThere }
     ensures polls { NoPollWaitsForWhatIsThere }
 {}
 
-/// After a read of a pipe that was told data, its end or to come again, a poll that ever asked to be told is to be told again: no edge is lost.
+/// After a read of a pipe, of lines or of binary pages, that was told data, its end or to come again, a poll that ever asked to be told is to be told
+/// again: no edge is lost.
 pub fn reads_arm_polls()
     ensures asked { ReadsArmPolls }
     ensures parked { ParkedReadsArmPolls }
@@ -139,9 +163,16 @@ pub fn sizes_are_lengths()
     ensures { SizesAreLengths }
 {}
 
+/// By the number that a look-up told of a file or folder a request names it, and two look-ups of binary pages tell two numbers, unless 2^17 requests or
+/// more lie between them. So no two look-ups share what the page cache keeps for a number.
+pub fn entry_numbers_name_nodes()
+    ensures named { EntryNumbersName }
+    ensures differ { EntryNumbersDiffer }
+{}
+
 /// What is computed of a step where no memory is refused is what it does. By that a shell's session gets these messages: a write that is refused and one
-/// that isn't, what they leave in the files, and a reader that waits. Where the program emits meanwhile, what it reads is owed then (`calls`). Such a session
-/// is served by these bytes (`bytes`).
+/// that isn't, what they leave in the files, a reader that waits, and look-ups and reads of binary pages where there is no event. Where the program emits
+/// meanwhile, what it reads is owed then (`calls`). Such a session is served by these bytes (`bytes`).
 pub fn examples_are_computed()
     ensures steps { StepsAreComputed }
     ensures sessions { SessionsAreServed }

@@ -14,6 +14,7 @@ use crate::errno::errno_of_other;
 use crate::files::OpenFiles;
 use crate::parked::{Parked, interrupt, read_of_pipe};
 use crate::reading::is_cached;
+use crate::sizes::FIRST_SERIAL;
 use crate::telling::{tell_short, tell_wrong};
 use crate::told::agree;
 use error_log::ErrorLog;
@@ -182,7 +183,7 @@ impl Mount {
         ensures served { (past : List Command) → HasLedTo past self.old → IsSteppedBy past self.old self.new request.now out.new.items }
         ensures capacity { vec_capacity out.old ≤ vec_capacity out.new }
     {
-        let node = Node::from_number(request.node);
+        let node = Node::from_number(request.node % FIRST_SERIAL);
         match &request.operation {
             Operation::Read {
                 handle,
@@ -196,7 +197,7 @@ impl Mount {
             }
             Operation::Interrupt { unique } => interrupt(&mut self.parked, *unique),
             operation => {
-                let reply = self.reply_to(request.pid, node, operation);
+                let reply = self.reply_to(request.unique, request.pid, node, operation);
                 tell_short(request.unique, &reply, out);
             }
         }
@@ -211,7 +212,7 @@ impl Mount {
             → IsServed (terms_of self.now) (service_of past self.now) request.now out.new.items (service_of past self.now) }
         ensures capacity { vec_capacity out.old ≤ vec_capacity out.new }
     {
-        let node = Node::from_number(request.node);
+        let node = Node::from_number(request.node % FIRST_SERIAL);
         match &request.operation {
             Operation::ReadDir { offset, size, .. } => {
                 self.read_folder(request.unique, node, *offset, *size, out);
@@ -227,13 +228,14 @@ impl Mount {
     // The reply to an operation that may change something.
     fn reply_to(
         &mut self,
+        unique: u64,
         pid: u32,
         node: Option<Node>,
         operation: &Operation<'_>,
     ) -> Reply<'static>
         requires replies { is_change operation.now ≡ true }
         requires few { HasFewBytes operation.now }
-        ensures step { (past : List Command) (unique : ℕ) → HasLedTo past self.old
+        ensures step { (past : List Command) → HasLedTo past self.old
             → IsStep past self.old self.new (step_of (terms_of self.old) (service_of past self.old) unique pid node operation.now) (Some result) }
         ensures short { IsShort result }
     {
@@ -241,7 +243,7 @@ impl Mount {
             Operation::MkDir { name } => self.make_folder(node, name.as_slice()),
             Operation::RmDir { name } => self.remove_folder(node, name.as_slice()),
             Operation::Open { flags } => self.open(node, *flags),
-            Operation::Lookup { name } => self.look_up(node, name.as_slice()),
+            Operation::Lookup { name } => self.look_up(unique, node, name.as_slice()),
             Operation::GetAttr => self.get_attributes(node),
             Operation::SetAttr { valid, size } => self.set_attributes(node, *valid, *size),
             Operation::Write {
@@ -271,12 +273,7 @@ impl Mount {
         match operation {
             Operation::OpenDir => self.open_folder(node),
             Operation::Access { mask } => self.check_access(node, *mask),
-            Operation::Init {
-                major,
-                max_readahead,
-                flags,
-                ..
-            } => agree(*major, *max_readahead, *flags),
+            Operation::Init { major, flags, .. } => agree(*major, *flags),
             Operation::StatFs => Reply::StatFs {
                 block_size: 4096,
                 name_length: 255,

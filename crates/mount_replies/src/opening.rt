@@ -37,7 +37,10 @@ fn open_flags(kind: FileKind) -> u32
     ensures { result ≡ flags_of kind }
 {
     match kind {
-        FileKind::Pipe => FOPEN_DIRECT_IO | FOPEN_NONSEEKABLE | FOPEN_STREAM | FOPEN_NOFLUSH,
+        FileKind::Pipe | FileKind::RawPipe => FOPEN_DIRECT_IO
+            | FOPEN_NONSEEKABLE
+            | FOPEN_STREAM
+            | FOPEN_NOFLUSH,
         FileKind::Inject => FOPEN_DIRECT_IO,
         FileKind::Text | FileKind::Trace | FileKind::Tool | FileKind::ErrorLog => {
             FOPEN_DIRECT_IO | FOPEN_NOFLUSH
@@ -176,6 +179,12 @@ impl Mount {
             FileKind::Pipe => {
                 let waits = self.would_wait(open_file, &mut DryPipes::new());
                 self.poll_pipe(handle, wakeup, flags, waits)
+            }
+            FileKind::RawPipe => {
+                let waits = self.has_nothing(open_file);
+                let reply = self.poll_pipe(handle, wakeup, flags, waits);
+                self.files.note_poll(handle, !waits);
+                reply
             }
             FileKind::Text
             | FileKind::Trace

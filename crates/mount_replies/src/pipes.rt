@@ -9,7 +9,7 @@ ghost use Rattle.tracer.specs.Lives.{IsLive};
 ghost use Rattle.mount_tree.specs.Children.{owner_is_there};
 ghost use Rattle.mount_tree.specs.NodePaths.{owner_name};
 ghost use Rattle.mount_replies.specs.Mounted.{HasLedTo, service_of, terms_of};
-ghost use Rattle.mount_replies.specs.Pipes.{has_news, is_dry, is_no, waits_at, would_wait};
+ghost use Rattle.mount_replies.specs.Pipes.{has_news, has_nothing, is_dry, is_no, tells_end, waits_at, would_wait};
 ghost use Rattle.mount_replies.specs.Services.{file_at};
 ghost use Rattle.mount_replies.specs.private.DryPipes.{AreDryNow};
 ghost use Rattle.mount_replies.specs.private.Looks.{pipe_in};
@@ -29,6 +29,13 @@ fn is_no(waits: Result<bool, Refusal>) -> bool
         Ok(waits) => !waits,
         Err(_) => false,
     }
+}
+
+/// Whether a poll is told that a file ends: not of one of binary pages, of which it is told just whether there is a page.
+fn tells_end(file: File) -> bool
+    ensures { result ≡ tells_end file }
+{
+    !matches!(file, File::RawPipe(_))
 }
 
 impl Mount {
@@ -58,7 +65,7 @@ impl Mount {
     {
         match file {
             File::OfInstance(TopFile::TracePipe) => Some(Opened::OfInstance(TopFile::TracePipe)),
-            File::OfCpu(cpu, CpuFile::TracePipe) => {
+            File::OfCpu(cpu, CpuFile::TracePipe) | File::RawPipe(cpu) => {
                 let cpu = u32::from(cpu);
                 if cpu < self.live.config().cpus {
                     Some(Opened::OfCpu(cpu, CpuFile::TracePipe))
@@ -123,6 +130,14 @@ impl Mount {
         }
     }
 
+    /// Whether no record is there for a read of an open file.
+    pub(crate) fn has_nothing(&self, file: &OpenFile) -> bool
+        ensures { (past : List Request) → HasLedTo past self.now
+            → result ≡ has_nothing (terms_of self.now) (service_of past self.now) file.now }
+    {
+        file.is_used_up() && self.dry_pipe(file.owner(), file.file()).is_some()
+    }
+
     /// Whether something is there for a poll of an open file that is to be told.
     pub(crate) fn has_news(&self, file: &OpenFile) -> bool
         ensures { (past : List Request) → HasLedTo past self.now
@@ -132,7 +147,9 @@ impl Mount {
             return true;
         }
         match self.dry_pipe(file.owner(), file.file()) {
-            Some(tracing) => file.has_read() && !tracing && !file.polls().told_end,
+            Some(tracing) => {
+                tells_end(file.file()) && file.has_read() && !tracing && !file.polls().told_end
+            }
             None => true,
         }
     }

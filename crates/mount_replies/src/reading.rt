@@ -49,7 +49,7 @@ fn text_in(alloc: Global, answer: Answer) -> Text
 }
 
 /// Whether a read may not wait.
-fn is_nonblocking(flags: u32) -> bool
+pub(crate) fn is_nonblocking(flags: u32) -> bool
     ensures { result ≡ nonblocking flags }
 {
     flags / O_NONBLOCK % 2 == 1
@@ -92,6 +92,7 @@ impl Mount {
                 let has_read = open_file.has_read();
                 self.read_pipe(read, flags, owner, file, has_read, out);
             }
+            FileKind::RawPipe => self.read_raw(read, cached, flags, owner, file.index(), out),
             FileKind::Inject => tell_error(read.unique, Errno::EACCES, out),
             _ if cached => self.read_cached(read, owner, file, offset, out),
             _ => self.read_text(read, owner, file, offset, out),
@@ -162,9 +163,11 @@ impl Mount {
         match file.kind() {
             FileKind::Tool => self.read_tool(read, owner, file, offset, out),
             FileKind::ErrorLog => self.read_log(read, owner, offset, out),
-            FileKind::Text | FileKind::Trace | FileKind::Pipe | FileKind::Inject => {
-                self.read_anew(read, owner, file, offset, out);
-            }
+            FileKind::Text
+            | FileKind::Trace
+            | FileKind::Pipe
+            | FileKind::RawPipe
+            | FileKind::Inject => self.read_anew(read, owner, file, offset, out),
         }
     }
 
@@ -177,7 +180,17 @@ impl Mount {
     {
         let config = self.live.config();
         let instance = self.instance_of(owner);
-        match mount_stub_files::text_of(self.alloc, config, &self.scene, owner, instance, file) {
+        let catalog = self.live.catalog();
+        let text = mount_stub_files::text_of(
+            self.alloc,
+            config,
+            catalog,
+            &self.scene,
+            owner,
+            instance,
+            file,
+        );
+        match text {
             Ok(Some(text)) => self.give_text(read, text, offset, out),
             Ok(None) => tell_error(read.unique, Errno::ENOENT, out),
             Err(_) => tell_error(read.unique, Errno::ENOMEM, out),
@@ -212,7 +225,7 @@ impl Mount {
     }
 
     // Gives a part of a text that was just made, in which later reads go on.
-    fn give_text(&mut self, read: Parked, text: Text, offset: u64, out: &mut Vec<u8>)
+    pub(crate) fn give_text(&mut self, read: Parked, text: Text, offset: u64, out: &mut Vec<u8>)
         requires room { most_reply ≤ vec_capacity out.old }
         ensures kept { self.new ≡ record self.old { files = with_reading offset read.size text read.handle self.old.files } }
         ensures bytes { out.new.items ≡ reply_bytes read.unique (replies.Data (part_of offset read.size text)) }
@@ -255,7 +268,7 @@ impl Mount {
     }
 
     // READ of a pipe in which no record waits: it ends, or the read waits, unless it may not.
-    fn read_dry(&mut self, read: Parked, flags: u32, ends: bool, out: &mut Vec<u8>)
+    pub(crate) fn read_dry(&mut self, read: Parked, flags: u32, ends: bool, out: &mut Vec<u8>)
         requires room { most_reply ≤ vec_capacity out.old }
         requires empty { out.old.items ≡ [] }
         ensures told { TellsBy self.old self.new (dry_step read flags ends self.old.files) read.unique out.new.items }
@@ -285,7 +298,7 @@ impl Mount {
     }
 
     // Gives what was kept of a pipe.
-    fn read_rest(&mut self, read: Parked, out: &mut Vec<u8>)
+    pub(crate) fn read_rest(&mut self, read: Parked, out: &mut Vec<u8>)
         requires room { most_reply ≤ vec_capacity out.old }
         ensures told { (past : List Request) (text : List ℕ) → HasLedTo past self.old → text_at read.handle self.old.files ≡ Some text
             → IsTold past self.old self.new (Plain (given_records read.handle read.size text self.old.files)) read.unique out.new.items }

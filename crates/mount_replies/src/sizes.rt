@@ -1,14 +1,16 @@
 //! Look-ups, and the sizes that they tell: the length of what a file shows, which is remembered until a command is done.
 
-ghost use Rattle.std.specs.Prelude.{◌≡◌, List, Some, IfOk, IfSome, length, true};
+ghost use Rattle.std.specs.Prelude.{◌≡◌, ◌<◌, ◌^◌, List, Some, IfOk, IfSome, length, true};
 ghost use Rattle.trace_command.specs.Requests.{Request};
 ghost use Rattle.file_list.specs.FileKinds.{kind_of_file};
+ghost use Rattle.file_list.specs.declared.file.File.TheVariants as files;
 ghost use Rattle.mount_tree.specs.Children.{is_there};
 ghost use Rattle.mount_tree.specs.declared.node.Node.TheVariants as nodes;
+ghost use Rattle.mount_tree.specs.declared.node.Owner.TheVariants as owners;
 ghost use Rattle.mount_replies.specs.Mounted.{HasLedTo, IsStep, service_of, terms_of};
 ghost use Rattle.mount_replies.specs.Services.{count_of};
 ghost use Rattle.mount_replies.specs.private.ShortReplies.{IsShort};
-ghost use Rattle.mount_replies.specs.private.Tellings.{size_found, sized_step, telling_of};
+ghost use Rattle.mount_replies.specs.private.Tellings.{size_found, size_of_pages, sized_step, telling_of};
 ghost use Rattle.mount_tree.specs.Nodes.{number_of};
 ghost use Rattle.mount_replies.specs.Sizes as sizes;
 
@@ -23,11 +25,59 @@ use trace_command::{Refusal, Reply as Answer};
 use trace_lex::Text;
 use tracer::MOST_DONE;
 
-/// What a look-up tells of a node.
+/// The numbers of nodes are below this one.
+pub(crate) const FIRST_SERIAL: u64 = 1 << 47;
+
+/// How many numbers a file of binary pages has.
+const MOST_SERIALS: u64 = 1 << 17;
+
+/// What is told of a node: to the look-up of this number that it is there, or its attributes.
 #[derive(Clone, Copy)]
-enum Telling {
-    Entry,
+pub(crate) enum Telling {
+    Entry(u64),
     Attributes,
+}
+
+/// The number of an instance's file of binary pages.
+fn made_number(serial: u32, cpu: u8) -> u64
+    ensures is { result ≡ number_of (nodes.File (owners.Made serial) (files.RawPipe cpu)) }
+    ensures low { result < 2 ^ 47 }
+{
+    Node::File(Owner::Made(serial), File::RawPipe(cpu)).number()
+}
+
+/// The number of a file of binary pages: it is below `FIRST_SERIAL`.
+fn raw_number(owner: Owner, cpu: u8) -> u64
+    ensures is { result ≡ number_of (nodes.File owner (files.RawPipe cpu)) }
+    ensures low { result < 2 ^ 47 }
+{
+    match owner {
+        Owner::Top => Node::File(Owner::Top, File::RawPipe(cpu)).number(),
+        Owner::Made(serial) => made_number(serial, cpu),
+    }
+}
+
+/// By which number a look-up tells a node: another one for each look-up of a file of binary pages, since whoever reads by one number gets what is in the
+/// page cache for it.
+fn entry_number(unique: u64, node: Node) -> u64
+    ensures { result ≡ sizes.entry_number unique node }
+{
+    match node {
+        Node::File(owner, File::RawPipe(cpu)) => {
+            raw_number(owner, cpu) + unique / 2 % MOST_SERIALS * FIRST_SERIAL
+        }
+        _ => node.number(),
+    }
+}
+
+/// The size that is told of a file of binary pages: one that no reader by the page cache comes to, and none to whoever asks for it.
+fn raw_size(telling: Telling) -> u64
+    ensures { result ≡ size_of_pages telling }
+{
+    match telling {
+        Telling::Entry(_) => 1 << 40,
+        Telling::Attributes => 0,
+    }
 }
 
 impl Mount {
@@ -63,6 +113,7 @@ impl Mount {
                 let text = mount_stub_files::text_of(
                     self.alloc,
                     config,
+                    self.live.catalog(),
                     &self.scene,
                     owner,
                     instance,
@@ -71,9 +122,11 @@ impl Mount {
                 Ok(text.unwrap_or(Text::new(self.alloc)))
             }
             FileKind::ErrorLog => self.errors.text(self.alloc, owner),
-            FileKind::Text | FileKind::Trace | FileKind::Pipe | FileKind::Inject => {
-                self.shown_text(owner, file)
-            }
+            FileKind::Text
+            | FileKind::Trace
+            | FileKind::Pipe
+            | FileKind::RawPipe
+            | FileKind::Inject => self.shown_text(owner, file),
         }
     }
 
@@ -103,7 +156,7 @@ impl Mount {
     }
 
     // The size of a file that was counted, if no command was done since.
-    fn recent_size(&self, node: Node) -> Option<u64>
+    pub(crate) fn recent_size(&self, node: Node) -> Option<u64>
         ensures { (past : List Request) → HasLedTo past self.now
             → result ≡ size_found (length past) (count_of (number_of node) self.now.counted) }
     {
@@ -117,13 +170,16 @@ impl Mount {
 
     // What is told of a node of this size.
     #[inline(always)]
-    fn tell(&self, telling: Telling, node: Node, size: u64) -> Reply<'static>
+    pub(crate) fn tell(&self, telling: Telling, node: Node, size: u64) -> Reply<'static>
         ensures reply { result ≡ telling_of telling (terms_of self.now) node size }
         ensures short { IsShort result }
     {
         let attributes = self.attributes_of(node, size);
         match telling {
-            Telling::Entry => Reply::Entry(attributes),
+            Telling::Entry(unique) => Reply::Entry {
+                node: entry_number(unique, node),
+                attributes,
+            },
             Telling::Attributes => Reply::Attributes(attributes),
         }
     }
@@ -133,12 +189,13 @@ impl Mount {
         requires { is_there self.old.scene (nodes.File owner file) ≡ true }
         ensures step { (past : List Request) → HasLedTo past self.old → IsStep past self.old self.new
             (sizes.size_by_kind (terms_of self.old) (service_of past self.old) (telling_of telling (terms_of self.old) (nodes.File owner file))
-            owner file (kind_of_file file)) (Some result) }
+            (size_of_pages telling) owner file (kind_of_file file)) (Some result) }
         ensures short { IsShort result }
     {
         let node = Node::File(owner, file);
         match file.kind() {
             FileKind::Pipe => self.tell(telling, node, 1),
+            FileKind::RawPipe => self.tell(telling, node, raw_size(telling)),
             FileKind::Inject => self.tell(telling, node, 0),
             FileKind::ErrorLog => self.count_text(telling, owner, file),
             FileKind::Text | FileKind::Trace | FileKind::Tool => match self.recent_size(node) {
@@ -163,16 +220,21 @@ impl Mount {
     }
 
     /// LOOKUP: the node of this name in a folder.
-    pub(crate) fn look_up(&mut self, folder: Option<Node>, name: &[u8]) -> Reply<'static>
+    pub(crate) fn look_up(
+        &mut self,
+        unique: u64,
+        folder: Option<Node>,
+        name: &[u8],
+    ) -> Reply<'static>
         ensures step { (past : List Request) → HasLedTo past self.old → IsStep past self.old self.new
-            (sizes.look_up (terms_of self.old) (service_of past self.old) folder name.now) (Some result) }
+            (sizes.look_up (terms_of self.old) (service_of past self.old) unique folder name.now) (Some result) }
         ensures short { IsShort result }
     {
         let node = match folder {
             Some(folder) => self.scene.lookup(folder, name),
             None => None,
         };
-        self.tell_node(Telling::Entry, node)
+        self.tell_node(Telling::Entry(unique), node)
     }
 
     /// GETATTR.

@@ -101,9 +101,9 @@ fn may_use(node: Node, mask: u32) -> bool
     }
 }
 
-/// INIT: what is agreed.
-pub(crate) fn agree(major: u32, max_readahead: u32, flags: u32) -> Reply<'static>
-    ensures reply { result ≡ told.agree major max_readahead flags }
+/// INIT: what is agreed. Nothing is read ahead, so that the page cache asks for one page a READ: a READ of binary pages gives one.
+pub(crate) fn agree(major: u32, flags: u32) -> Reply<'static>
+    ensures reply { result ≡ told.agree major flags }
     ensures short { IsShort result }
 {
     if major < FUSE_KERNEL_VERSION {
@@ -112,7 +112,7 @@ pub(crate) fn agree(major: u32, max_readahead: u32, flags: u32) -> Reply<'static
     Reply::Init(Agreement {
         major: FUSE_KERNEL_VERSION,
         minor: MINOR_VERSION,
-        max_readahead,
+        max_readahead: 0,
         flags: flags / FUSE_ATOMIC_O_TRUNC % 2 * FUSE_ATOMIC_O_TRUNC
             + flags / FUSE_BIG_WRITES % 2 * FUSE_BIG_WRITES,
         max_background: 65_535,

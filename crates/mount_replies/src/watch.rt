@@ -8,12 +8,13 @@ ghost use Rattle.trace_command.specs.Requests.{Request};
 ghost use Rattle.tracer_specification.specs.Settings.{declared_events};
 ghost use Rattle.tracer.specs.Lives.{most_done};
 ghost use Rattle.tracer_state.specs.ValueEmissions.{emission_by};
-ghost use Rattle.mount_replies.specs.Calls.{IsCommanded};
+ghost use Rattle.mount_replies.specs.Calls.{IsCommanded, answer_of};
 ghost use Rattle.mount_replies.specs.Mounted.{HasLedTo, IsMounted, service_of, terms_of};
 ghost use Rattle.mount_replies.specs.Owed.{owed};
 ghost use Rattle.mount_replies.specs.Watches.{Covers, IsWatched, WaitsIn};
 ghost use Rattle.mount_replies.specs.private.DryPipes.{AreDryNow, IsDryNow};
 
+use crate::calls::put;
 use crate::dry_pipes::{DryPipe, DryPipes};
 use crate::mount::Mount;
 use crate::open_file::OpenFile;
@@ -109,21 +110,23 @@ impl Mount {
         limit: u64,
         emission: &ValuesEmission<'_>,
         watch: &Watch,
-    ) -> Result<Reply, Refusal>
+        answer: &mut Result<Reply, Refusal>,
+    ) -> bool
         requires limit { limit ≤ most_done }
         requires covers { Covers self.old.files self.old.parked watch.now }
         ensures { (past : List Request) → IsMounted past self.old
-            → IsCommanded limit past self.old self.new (emission_by (declared_events past) emission.now) result }
+            → IsCommanded limit past self.old self.new (emission_by (declared_events past) emission.now) (answer_of result answer.new) }
     {
-        let answer = self.live.ask_values_within(
+        let given = self.live.ask_values_within(
             limit,
             emission.event,
             emission.cpu,
             emission.pid,
             emission.values,
         );
+        let is_done = put(answer, given);
         self.look_at_watched(watch);
-        answer
+        is_done
     }
 
     // Works out whether something is owed after a call, where the parked reads wait for these pipes.

@@ -83,9 +83,11 @@ impl Mount {
         match target.file.kind() {
             FileKind::Tool => self.write_tool(target, bytes),
             FileKind::ErrorLog => self.write_log(target.handle, target.owner, bytes),
-            FileKind::Text | FileKind::Trace | FileKind::Pipe | FileKind::Inject => {
-                self.write_text(target, bytes)
-            }
+            FileKind::Text
+            | FileKind::Trace
+            | FileKind::Pipe
+            | FileKind::RawPipe
+            | FileKind::Inject => self.write_text(target, bytes),
         }
     }
 
@@ -265,7 +267,10 @@ impl Mount {
         match self.ask_mkdir(name) {
             Ok(_) => {
                 let node = Node::Folder(Owner::Made(serial), Folder::Root);
-                Reply::Entry(self.attributes_of(node, 0))
+                Reply::Entry {
+                    node: node.number(),
+                    attributes: self.attributes_of(node, 0),
+                }
             }
             Err(refusal) => Reply::Error(errno_of_refused(refusal)),
         }

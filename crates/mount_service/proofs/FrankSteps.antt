@@ -1,5 +1,5 @@
 -- Each step tells of refused memory wherever it can be refused: by ENOMEM, or by a write that is told as done in part.
-use Rattle.std.proofs.Common.{◌≡◌, ℕ, ◌==◌, nat_lt, Bool, false, not, ◌&&◌, List, [], ◌++◌, length, Option, Some, None, refl, sym, ap, subst, ◌∙◌, inl, slice_get}
+use Rattle.std.proofs.Common.{◌≡◌, ℕ, ◌^◌, ◌==◌, nat_lt, Bool, false, not, ◌&&◌, List, length, Option, Some, None, refl, sym, ap, subst, ◌∙◌, inl, slice_get}
 use Rattle.fuse_wire.specs.declared.request.Operation.{Operation}
 use Rattle.fuse_wire.specs.declared.request.Operation.TheVariants as operations
 use Rattle.fuse_wire.specs.declared.reply.Reply.TheVariants as replies
@@ -9,7 +9,7 @@ use Rattle.tracer_specification.specs.Settings.{declared_events, now_of}
 use Rattle.mount_tree.specs.Children.{is_there}
 use Rattle.file_list.specs.FileKinds.{access_of_file, kind_of_file}
 use Rattle.mount_tree.specs.Nodes.{number_of}
-use Rattle.mount_tree.specs.Scenes.{SceneSeen, most_made}
+use Rattle.mount_tree.specs.Scenes.{most_made}
 use Rattle.file_list.specs.declared.file.File.{File}
 use Rattle.file_list.specs.declared.file.File.TheVariants as files
 use Rattle.file_list.specs.declared.file.FileKind.{FileKind}
@@ -24,19 +24,17 @@ use Rattle.mount_stub_files.specs.ToolWrites.{tool_write}
 use Rattle.mount_stub_files.specs.declared.write.ToolWrite.{ToolWrite}
 use Rattle.mount_stub_files.specs.declared.write.ToolWrite.TheVariants as writes
 use Rattle.error_log.specs.Logs.{log_text}
-use Rattle.mount_replies.specs.FileWrites.{end_line, event_of_file, flush_file, flush_line, has_rest, inject, inject_at_once, inject_stream, release, release_line, write_file, write_kind, write_other, write_text, write_tool}
-use Rattle.mount_replies.specs.Lines.{asked_by_line, errno_of_fault, flushed, goes_on, injected, injected_at_once, line_command, pieces_of, released, stream_after, stream_lines, written, written_lines}
+use Rattle.mount_replies.specs.FileWrites.{event_of_file, flush_file, flush_line, has_rest, inject, inject_stream, release, release_line, write_file, write_kind, write_other, write_text, write_tool}
+use Rattle.mount_replies.specs.Lines.{asked_by_line, errno_of_fault, flushed, goes_on, injected, injected_at_once, line_command, released, stream_after, written, written_lines}
 use Rattle.mount_replies.specs.Owed.{step_of_parked}
-use Rattle.mount_replies.specs.Pipes.{ends, is_dry, is_used_up, would_wait}
-use Rattle.mount_replies.specs.Served.{AsksNone, AsksToWrite, Emptying, clears, emptying_of, is_cached, is_nonblocking, make_folder, makes_text, opened, opened_unless_emptied, poll_file, poll_kind, read_dry, read_file, read_kind, read_log, read_pipe_directly, read_shown, read_text, read_tool, remove_folder, step_of, text_counted, unless_counted, given_counted, given_tool}
-use Rattle.mount_replies.specs.Services.{OpenSeen, Service, Terms, count_of, file_at, just_opened, node_of, read_of_pipe, scene_of, without_file}
-use Rattle.mount_replies.specs.Sizes.{Telling, get_attributes, is_recent, set_attributes, size_by_kind, size_of_text, tell_attributes, tell_entry, tell_size}
-use Rattle.mount_replies.specs.Steps.{LineAsked, LineRefused, Outcome, Ran, Step, plain}
-use Rattle.mount_replies.specs.Mounted.{MayRun}
+use Rattle.mount_replies.specs.Pipes.{ends, is_dry, is_used_up}
+use Rattle.mount_replies.specs.Served.{AsksNone, AsksToWrite, Emptying, clears, emptying_of, is_cached, is_nonblocking, make_folder, makes_text, opened, opened_unless_emptied, poll_file, poll_kind, read_dry, read_file, read_kind, read_log, read_no_page, read_pipe_directly, read_raw, read_shown, read_text, read_tool, remove_folder, step_of, text_counted, unless_counted, given_counted, given_tool}
+use Rattle.mount_replies.specs.Services.{OpenSeen, Service, Terms, count_of, file_at, just_opened, node_of, read_of_pipe, scene_of}
+use Rattle.mount_replies.specs.Sizes.{Telling, entry_number, is_recent, set_attributes, size_by_kind, tell_attributes, tell_entry, tell_size}
+use Rattle.mount_replies.specs.Steps.{LineAsked, LineRefused, Outcome, Ran, Step}
 use Rattle.mount_replies.specs.Told.{attributes_of, empties, found_in, known, may, sets_size, wants_read, wants_write}
 use Rattle.mount_replies.specs.declared.fault.LineFault.TheVariants.{Refused}
 use Rattle.mount_replies.specs.declared.parked.Parked.{Parked}
-use Rattle.mount_replies.specs.declared.stream.Stream.{Stream}
 use Rattle.mount_service.proofs.SameRuns.{IsFrank, IsStopped, Shows, either}
 use Rattle.mount_service.proofs.ShortRuns.{command-lines-short, lines-short, stream-lines-short, told-short}
 
@@ -48,24 +46,26 @@ written_by _ = 0
 module _ (g : Terms) (s : Service) (size : ℕ) where
   -- ---- sizes
 
-  size-frank : (telling : Telling) (owner : Owner) (file : File) (kind : FileKind) → IsFrank g s.past size (size_by_kind g s telling owner file kind)
-  size-frank telling owner file kinds.Pipe = tt
-  size-frank telling owner file kinds.Inject = tt
-  size-frank telling owner file kinds.ErrorLog = tt
-  size-frank telling owner file _ =
+  size-frank : (telling : Telling) (pages : ℕ) (owner : Owner) (file : File) (kind : FileKind)
+      → IsFrank g s.past size (size_by_kind g s telling pages owner file kind)
+  size-frank telling pages owner file kinds.Pipe = tt
+  size-frank telling pages owner file kinds.RawPipe = tt
+  size-frank telling pages owner file kinds.Inject = tt
+  size-frank telling pages owner file kinds.ErrorLog = tt
+  size-frank telling pages owner file _ =
       either (IsFrank g s.past size) (is_recent (length s.past) (count_of (number_of (nodes.File owner file)) s.counted)) _ _ tt tt
 
-  node-frank : (telling : Telling) (node : Node) → IsFrank g s.past size (tell_size g s telling node)
-  node-frank telling (nodes.Folder owner folder) = tt
-  node-frank telling (nodes.File owner file) = size-frank telling owner file (kind_of_file file)
+  node-frank : (telling : Telling) (pages : ℕ) (node : Node) → IsFrank g s.past size (tell_size g s telling pages node)
+  node-frank telling pages (nodes.Folder owner folder) = tt
+  node-frank telling pages (nodes.File owner file) = size-frank telling pages owner file (kind_of_file file)
 
-  entry-frank : (node : Option Node) → IsFrank g s.past size (tell_entry g s node)
-  entry-frank None = tt
-  entry-frank (Some node) = node-frank (λ size. replies.Entry (attributes_of g node size)) node
+  entry-frank : (unique : ℕ) (node : Option Node) → IsFrank g s.past size (tell_entry g s unique node)
+  entry-frank unique None = tt
+  entry-frank unique (Some node) = node-frank (λ size. replies.Entry (entry_number unique node) (attributes_of g node size)) (2 ^ 40) node
 
   attributes-frank : (node : Option Node) → IsFrank g s.past size (tell_attributes g s node)
   attributes-frank None = tt
-  attributes-frank (Some node) = node-frank (λ size. replies.Attributes (attributes_of g node size)) node
+  attributes-frank (Some node) = node-frank (λ size. replies.Attributes (attributes_of g node size)) 0 node
 
   set-frank : (node : Option Node) (valid length : ℕ) → IsFrank g s.past size (set_attributes g s node valid length)
   set-frank node valid length = either (IsFrank g s.past size) (sets_size valid length) _ _ tt (attributes-frank (known (scene_of g s) node))
@@ -125,9 +125,22 @@ module _ (g : Terms) (s : Service) (size : ℕ) where
       (either (IsFrank g s.past size) (is_used_up file) _ _
       (either (IsFrank g s.past size) (is_dry g s file.owner file.file) _ _ (dry-frank read flags (ends g s file)) refl) tt)
 
+  no-page-frank : (read : Parked) (file : OpenSeen) → IsFrank g s.past size (read_no_page read file s.files)
+  no-page-frank read file = either (IsFrank g s.past size) file.polls.told_ready _ _ tt tt
+
+  raw-frank : (read : Parked) (cached : Bool) (flags : ℕ) (file : OpenSeen) → IsFrank g s.past size (read_raw g s read cached flags file)
+  raw-frank read cached flags file =
+      either (IsFrank g s.past size) cached _ _
+      (either (IsFrank g s.past size) (is_used_up file) _ _
+      (either (IsFrank g s.past size) (nat_lt read.size 4096) _ _ tt
+      (either (IsFrank g s.past size) (is_dry g s file.owner file.file) _ _ (no-page-frank read file) refl)) tt)
+      (either (IsFrank g s.past size) (is_used_up file) _ _
+      (either (IsFrank g s.past size) (is_dry g s file.owner file.file) _ _ (dry-frank read flags (ends g s file)) refl) tt)
+
   read-kind-frank : (read : Parked) (offset : ℕ) (cached : Bool) (flags : ℕ) (file : OpenSeen) (kind : FileKind)
       → IsFrank g s.past size (read_kind g s read offset cached flags file kind)
   read-kind-frank read offset cached flags file kinds.Pipe = pipe-frank read cached flags file
+  read-kind-frank read offset cached flags file kinds.RawPipe = raw-frank read cached flags file
   read-kind-frank read offset cached flags file kinds.Inject = tt
   read-kind-frank read offset cached flags file kinds.Tool =
       unless-frank read cached offset file (read_tool g s read.handle offset read.size file) (shown-frank read offset file (tool_text g.config s.past file.owner file.file))
@@ -152,6 +165,7 @@ module _ (g : Terms) (s : Service) (size : ℕ) where
     where
       by : (kind : FileKind) → IsFrank g s.past size (poll_kind g s handle wakeup flags file kind)
       by kinds.Pipe = tt
+      by kinds.RawPipe = tt
       by _ = tt
 
   -- ---- one line
@@ -230,7 +244,7 @@ module _ (g : Terms) (s : Service) (handle lock_owner pid : ℕ) (bytes : List �
 
 pub step-frank : (g : Terms) (s : Service) (unique pid : ℕ) (target : Option Node) (operation : Operation)
     → IsFrank g s.past (written_by operation) (step_of g s unique pid target operation)
-step-frank g s unique pid target (operations.Lookup name) = entry-frank g s 0 (found_in (scene_of g s) name target)
+step-frank g s unique pid target (operations.Lookup name) = entry-frank g s 0 unique (found_in (scene_of g s) name target)
 step-frank g s unique pid target operations.GetAttr = attributes-frank g s 0 (known (scene_of g s) target)
 step-frank g s unique pid target (operations.SetAttr valid size) = set-frank g s 0 target valid size
 step-frank g s unique pid target (operations.MkDir name) = made-frank g s 0 name (known (scene_of g s) target)

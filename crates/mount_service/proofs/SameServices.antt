@@ -1,12 +1,12 @@
 -- Services that are asked the same.
-use Rattle.std.proofs.Common.{◌≡◌, ◌≢◌, ◌⊎◌, inl, inr, ℕ, ◌<◌, Bool, true, false, is_some, List, [], ◌∷◌, ◌++◌, drop, length, Option, Some, None, Ok, refl, sym, ap, subst, ◌∙◌, arith}
+use Rattle.std.proofs.Common.{◌≡◌, ◌≢◌, ◌⊎◌, inl, inr, ℕ, ◌<◌, Bool, true, false, is_some, List, [], ◌∷◌, drop, length, Option, Some, None, Ok, refl, sym, ap, subst, ◌∙◌, arith}
 use Rattle.std.proofs.lemmas.Bool.{false≢true}
 use Rattle.std.proofs.lemmas.Bool.Decides.{not_from_Decides}
 use Rattle.std.proofs.lemmas.List.Elements.{All-head, All-tail}
 use Rattle.std.proofs.lemmas.Slice.Eq.{bytes_eq-Decides}
-use Rattle.std.specs.List.{All, concat}
+use Rattle.std.specs.List.{concat}
 use Rattle.std.specs.Str.{bytes_eq}
-use Rattle.fuse_serve.specs.Calls.{Call, taken}
+use Rattle.fuse_serve.specs.Calls.{Call}
 use Rattle.fuse_serve.specs.Endings.{EndsAs}
 use Rattle.fuse_serve.specs.Exchanges.{Exchange, requests_in, with_bytes}
 use Rattle.fuse_serve.specs.declared.fault.Ended.{Ended}
@@ -24,7 +24,7 @@ use Rattle.fuse_wire.specs.declared.request.Operation.TheVariants as operations
 use Rattle.fuse_wire.specs.declared.request.Request.{Request as Asking}
 use Rattle.mount_tree.proofs.NumberLemmas.{same_number}
 use Rattle.mount_tree.specs.declared.node.Node.{Node}
-use Rattle.mount_replies.specs.Mounted.{AreServed, Does, IsExchanged, IsNamed, IsReplied, IsServed, IsWoken, Right, Serves, TellsOwed, Unframed, Wrong, bytes_of_reply, wrong_reply}
+use Rattle.mount_replies.specs.Mounted.{AreServed, Does, IsExchanged, IsNamed, IsReplied, IsServed, IsWoken, Right, TellsOwed, Unframed, Wrong, bytes_of_reply, wrong_reply}
 use Rattle.mount_replies.specs.Owed.{Owed, ReplyAt, WakeupAt, owed, step_of_parked}
 use Rattle.mount_replies.specs.PastLaws.{just_mounted}
 use Rattle.mount_replies.specs.Served.{step_of}
@@ -33,7 +33,7 @@ use Rattle.mount_replies.specs.declared.parked.Parked.{Parked}
 use Rattle.mount_service.proofs.FrankSteps.{parked-frank, step-frank, written_by}
 use Rattle.mount_service.proofs.KnownBytes.{calls_are_served}
 use Rattle.mount_service.proofs.SameRuns.{AreOne, Shows, does-one}
-use Rattle.mount_service.specs.SameReplies.{AreAlike, AreOneUntilTheyPart, DoneInPart, Leads, NoneTellsOfMemory, OutOfMemory, Part, RecordingsReplay, ServicesAreOneUntilTheyPart, ServicesAskedTheSame, TellsOfMemory, asked_by, replies_by}
+use Rattle.mount_service.specs.SameReplies.{AreAlike, AreOneUntilTheyPart, DoneInPart, Leads, OutOfMemory, Part, RecordingsReplay, ServicesAreOneUntilTheyPart, ServicesAskedTheSame, TellsOfMemory, asked_by, replies_by}
 use Rattle.mount_service.specs.TracerServices.{has_destroy, owes_after}
 
 -- ---- exchanges

@@ -41,8 +41,8 @@ pub fn records_show_what_was_emitted()
 }
 
 /// No record goes to two readers, whatever was served: of all records that reads of an instance's pipes took no two are one (`once`); what an
-/// exchange took for an open pipe is what one such read answered, the exchange's only command (`taken`); and it took it for one handle (`one`), whose
-/// reads give it in order, as `waiting_loses_nothing` of mount_replies says.
+/// exchange took for an open pipe, or for a file of binary pages, is what one such read answered, the exchange's only command (`taken`); and it took it for
+/// one handle (`one`), whose reads give it in order, as `waiting_loses_nothing` and `pages_go_to_one_reader` of mount_replies say.
 ///
 /// A record may yet be lost after it was taken: what is kept for an open file's reads when it is closed, what stood in a reply that the device
 /// dropped or cut, and what a reader was given that ended before it used it. Of what was overwritten or refused before, `stats` tells.

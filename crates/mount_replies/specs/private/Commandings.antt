@@ -12,7 +12,8 @@ use Rattle.mount_replies.specs.Mounted.{HasLedTo, MountSeen, past_after, terms_o
 use Rattle.mount_replies.specs.Steps.{Keeps, Noting, errors_after}
 
 -- the tracer ran it where no more than so many commands are done, the folders and files follow, and this becomes of the logs
-pub record HasCommanded (limit : ℕ) (past : List Request) (old new : MountSeen) (request : Request) (result : Result Answer Refusal) (noting : Noting) : Type 0 where
+pub record HasCommanded (limit : ℕ) (past : List Request) (old new : MountSeen) (request : Request) (result : Result Answer Refusal)
+    (noting : Noting) : Type 0 where
   pub call : IsCallWithin limit past new.live request result
   pub mounted : HasLedTo (past_after result request past) new
   pub terms : terms_of new ≡ terms_of old

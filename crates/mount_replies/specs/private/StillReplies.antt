@@ -49,7 +49,7 @@ is_still operation = not (changes operation)
 abbrev pub still_reply : Terms → SceneSeen → Option Node → Operation → Reply
 still_reply g scene target operations.OpenDir = open_folder scene target
 still_reply g scene target (operations.Access mask) = check_access scene target mask
-still_reply g scene target (operations.Init major minor max_readahead flags) = agree major max_readahead flags
+still_reply g scene target (operations.Init major minor max_readahead flags) = agree major flags
 still_reply g scene target operations.StatFs = replies.StatFs 4096 255
 still_reply g scene target operations.Fsync = replies.Done
 still_reply g scene target (operations.ReleaseDir handle) = replies.Done

@@ -23,6 +23,6 @@ returns-in_default c = record {
       change-served past c.args.self.now c.reply_to-reply.new.self c.args.request.now c.from_number-node.result c.reply_to-reply.result
       c.tell_short.new.out.items
       (named c.args.request.now.node c.from_number-node.result c.from_number-node.ensures.found c.from_number-node.ensures.none)
-      (c.reply_to-reply.ensures.step past c.args.request.now.unique mounted) c.tell_short.ensures.bytes;
+      (c.reply_to-reply.ensures.step past mounted) c.tell_short.ensures.bytes;
   capacity = c.tell_short.ensures.capacity;
 }

@@ -1,0 +1,70 @@
+-- Binary pages, as theorems that speak of no program.
+use Rattle.std.specs.Prelude.{◌≡◌, ◌⊎◌, ⊤, ℕ, ◌^◌, ◌<◌, true, List, ◌∷◌, length, map, Option, Some}
+use Rattle.std.specs.List.{AllByRecursion}
+use Rattle.fuse_wire.specs.declared.reply.Reply.{Reply}
+use Rattle.fuse_wire.specs.declared.reply.Reply.TheVariants as replies
+use Rattle.fuse_wire.specs.declared.request.Operation.TheVariants as operations
+use Rattle.fuse_wire.specs.declared.request.Request.{Request as Asked}
+use Rattle.tracer_specification.specs.Rings.{cpu_pipe_read, rings}
+use Rattle.tracer_specification.specs.Settings.{declared_events}
+use Rattle.kernel_pages.specs.declared.page_row.PageRow.{PageRow}
+use Rattle.kernel_pages.specs.Laws.{event_of}
+use Rattle.kernel_pages.specs.Pages.{lost_before}
+use Rattle.kernel_pages.specs.ReadPages.{read_page}
+use Rattle.kernel_pages.specs.Rows.{rows_of}
+use Rattle.file_list.specs.FileKinds.{kind_of_file}
+use Rattle.file_list.specs.FileTable.{file_index}
+use Rattle.file_list.specs.declared.file.FileKind.TheVariants as kinds
+use Rattle.mount_tree.specs.NodePaths.{owner_name}
+use Rattle.mount_tree.specs.declared.node.Owner.{Owner}
+use Rattle.mount_replies.specs.Mounted.{IsServed}
+use Rattle.mount_replies.specs.RawPages.{next_count, next_page, pipe_node}
+use Rattle.mount_replies.specs.Served.{is_cached, part_of}
+use Rattle.mount_replies.specs.Services.{OpenSeen, Service, Terms, file_at, scene_of}
+use Rattle.mount_replies.specs.Steps.{read_of}
+
+-- ---- whole pages
+
+-- a page, or an error
+abbrev pub IsPageOrError : Option Reply → Type 0
+IsPageOrError (Some (replies.Data bytes)) = length bytes ≡ 4096
+IsPageOrError (Some (replies.Error errno)) = ⊤
+IsPageOrError _ = ⊥
+
+-- A READ by the page cache of a CPU's pages does not wait, and gets a page of 4,096 bytes, whatever room it has, or an error: for the page cache less is
+-- the file's end.
+abbrev pub PageCacheGetsPages : Type 0
+PageCacheGetsPages =
+    (g : Terms) (before after : Service) (request : Asked) (bytes : List ℕ) (handle offset size read_flags flags : ℕ) (file : OpenSeen)
+    → (served : IsServed g before request bytes after) → request.operation ≡ operations.Read handle offset size read_flags flags
+    → is_cached read_flags ≡ true → file_at handle before.files ≡ Some file → kind_of_file file.file ≡ kinds.RawPipe → IsPageOrError served.reply
+
+-- ---- what a page has
+
+-- A READ of a CPU's pages does no command, or the one that takes as many records from the CPU's pipe as the next page has, and then its reply is the
+-- beginning of that page.
+abbrev pub PageReadsTake : Type 0
+PageReadsTake =
+    (g : Terms) (before after : Service) (request : Asked) (bytes : List ℕ) (handle offset size read_flags flags : ℕ) (file : OpenSeen)
+    → (served : IsServed g before request bytes after) → request.operation ≡ operations.Read handle offset size read_flags flags
+    → file_at handle before.files ≡ Some file → kind_of_file file.file ≡ kinds.RawPipe
+    → (after.past ≡ before.past)
+    ⊎ ((after.past ≡ read_of (scene_of g before) (pipe_node file) (Some (next_count g before file.owner (file_index file.file))) ∷ before.past)
+    × (served.reply ≡ Some (replies.Data (part_of 0 size (next_page g before file.owner (file_index file.file))))))
+
+-- the records that a `take` of so many from a CPU's pipe takes, as rows
+abbrev pub taken_rows : Terms → Service → Owner → ℕ → ℕ → List PageRow
+taken_rows g s owner cpu count =
+    rows_of (declared_events s.past)
+    (cpu_pipe_read g.config cpu (Some count) (rings g.config (owner_name (scene_of g s) owner) s.past)).taken
+
+-- times and numbers of lost records of 64 bits
+abbrev pub FitWords : List PageRow → Type 0
+FitWords rows = AllByRecursion (λ (row : PageRow). (row.time < 2 ^ 64) × (row.lost < 2 ^ 64)) rows
+
+-- And that page is read, by Linux's rules alone, as the records which that command takes: each with its time and its data, and how many were lost before
+-- the first.
+abbrev pub PagesAreReadAsTaken : Type 0
+PagesAreReadAsTaken =
+    (g : Terms) (s : Service) (owner : Owner) (cpu : ℕ) (rows : List PageRow) → rows ≡ taken_rows g s owner cpu (next_count g s owner cpu) → FitWords rows
+    → read_page (next_page g s owner cpu) ≡ record { events = map event_of rows; lost = Some (lost_before rows) }
