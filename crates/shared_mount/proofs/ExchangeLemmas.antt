@@ -1,5 +1,5 @@
 -- An exchange does commands after those that were done before it.
-use Rattle.std.proofs.Common.{◌≡◌, ℕ, List, [], ◌∷◌, ◌++◌, Option, Some, None, sym, ap}
+use Rattle.std.proofs.Common.{◌≡◌, ℕ, List, [], ◌∷◌, ◌++◌, Option, Some, None, ap}
 use Rattle.trace_command.specs.Requests.{Request}
 use Rattle.mount_replies.specs.Mounted.{AreServed, IsExchanged, TellsOwed, Right, Wrong, Unframed}
 use Rattle.mount_replies.specs.Owed.{Owed, ReplyAt, WakeupAt, owed, step_of_parked}

@@ -5,3 +5,4 @@ pub mod CalledTurns
 pub mod MountSteps
 pub mod TurnLemmas
 pub mod CallerLemmas
+pub mod ShownLemmas

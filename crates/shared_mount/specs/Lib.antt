@@ -4,4 +4,5 @@ pub mod MountHistories
 pub mod LiveMountSeen
 pub mod LiveMounts
 pub mod MountCallers
+pub mod ShownMounts
 pub mod private

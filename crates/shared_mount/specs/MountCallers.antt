@@ -14,6 +14,8 @@ use Rattle.shared_mount.specs.MountEntries.{Deed, DidCall, DidExchange, EntrySee
 use Rattle.shared_mount.specs.MountHistories.{IsNext, IsOwing, WereTaken}
 use Rattle.shared_mount.specs.declared.caller.Caller.{Caller}
 use Rattle.shared_mount.specs.declared.caller.InLine.{InLine}
+use Rattle.shared_mount.specs.declared.served.Missed.{Missed}
+use Rattle.shared_mount.specs.declared.served.Missed.TheVariants as missed
 use Rattle.shared_mount.specs.declared.served.Served.{Served}
 use Rattle.shared_mount.specs.declared.served.Served.TheVariants.{Done, NotNow}
 use Rattle.shared_mount.specs.declared.served.NoTurn.{NoTurn}
@@ -70,6 +72,10 @@ caller_in (Worn caller) = caller
 abbrev pub HasFailed : View EntrySeen → NoTurn → Type 0
 HasFailed v (Busy caller) = HasNoTurn v (caller_view caller)
 HasFailed v (Worn caller) = IsWorn v (caller_view caller)
+
+abbrev pub HasMissed : View EntrySeen → View EntrySeen → Missed → Type 0
+HasMissed v w missed.Busy = HasNoTurn v w
+HasMissed v w missed.Worn = IsWorn v w
 
 -- the front is above the tickets of all that the caller has seen
 abbrev pub IsAhead : View EntrySeen → Type 0

@@ -3,13 +3,15 @@ use Rattle.std.specs.Prelude.{ℕ, List, [], ◌∷◌, ◌++◌, Result, Ok, Er
 use Rattle.trace_command.specs.Requests.{Request}
 use Rattle.trace_command.specs.declared.command.Reply.{Reply}
 use Rattle.trace_command.specs.declared.refusal.Refusal.{Refusal}
-use Rattle.mount_replies.specs.Calls.{Turn, Called, Exchanged}
+use Rattle.mount_replies.specs.Calls.{Turn, Called, Exchanged, Shows}
+use Rattle.mount_replies.specs.declared.shown.ShownText.{ShownText}
 
 -- What a turn did: a call got its answer; or bytes were read and others written, as a request is served or, for none read, what is owed is told, which
--- did these commands, the last one first.
+-- did these commands, the last one first; or a request was served of a text that was made beside the turns.
 pub data Deed : Type 0 where
   DidCall : (request : Request) (answer : Result Reply Refusal) → Deed
   DidExchange : (asked bytes : List ℕ) (commands : List Request) → Deed
+  DidShow : (shown : ShownText) (asked bytes : List ℕ) → Deed
 
 -- the ticket of its turn, the number of the caller that had it, and what it did
 pub record EntrySeen : Type 0 where
@@ -32,6 +34,7 @@ command_if_done (Err refusal) request = []
 abbrev pub commands_of : Deed → List Request
 commands_of (DidCall request answer) = command_if_done answer request
 commands_of (DidExchange asked bytes commands) = commands
+commands_of (DidShow shown asked bytes) = []
 
 -- all that were done in these turns, the last one first
 abbrev pub done_in : List EntrySeen → List Request
@@ -42,6 +45,7 @@ done_in (entry ∷ later) = done_in later ++ commands_of entry.deed
 abbrev pub turn_of : ℕ → Deed → Turn
 turn_of limit (DidCall request answer) = Called limit request answer
 turn_of limit (DidExchange asked bytes commands) = Exchanged asked bytes
+turn_of limit (DidShow shown asked bytes) = Shows shown asked bytes
 
 -- ---- fields
 

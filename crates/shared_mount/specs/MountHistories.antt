@@ -14,7 +14,7 @@ use Rattle.mount_replies.specs.Owed.{owed}
 use Rattle.mount_replies.specs.PastLaws.{just_mounted}
 use Rattle.mount_replies.specs.Services.{Service}
 use Rattle.shared_mount.specs.LiveMountSeen.{SharedTerms}
-use Rattle.shared_mount.specs.MountEntries.{Deed, DidCall, DidExchange, EntrySeen, commands_of, done_in, turn_of}
+use Rattle.shared_mount.specs.MountEntries.{Deed, DidCall, DidExchange, DidShow, EntrySeen, commands_of, done_in, turn_of}
 
 -- ---- one turn
 
@@ -32,6 +32,7 @@ pub record IsPromised (limit : ℕ) (g : Config) (past : List Request) (request 
 abbrev pub Promises : SharedTerms → List Request → Deed → Type 0
 Promises g past (DidCall request answer) = IsPromised g.limit g.mount.config past request answer
 Promises g past (DidExchange asked bytes commands) = ⊤
+Promises g past (DidShow shown asked bytes) = ⊤
 
 -- A turn led from a service to another, and did these commands and no others.
 pub record Leads (g : SharedTerms) (before : Service) (deed : Deed) (after : Service) : Type 0 where

@@ -2,6 +2,7 @@
 
 ghost use Rattle.std.specs.Prelude.{◌≡◌, List, [], ◌∷◌, ◌++◌};
 ghost use Rattle.trace_command.specs.Requests.{Request};
+ghost use Rattle.mount_replies.specs.Calls.{answer_of};
 ghost use Rattle.shared_mount.specs.AskedRequests.{request_after};
 ghost use Rattle.shared_mount.specs.MountEntries.{DidCall, DidExchange};
 ghost use Rattle.shared_mount.specs.private.Exchanges.{IsDoneIn};
@@ -36,6 +37,7 @@ struct Call<'a> {
     ticket: u64,
     by: u32,
     asked: Snapshot<Asked<'a>>,
+    is_done: bool,
     answer: Snapshot<Result<Reply, Refusal>>,
 }
 
@@ -45,7 +47,7 @@ impl<'a> Lists<Call<'a>, Entry> for Longer {
     ghost items = { λ one. one.past.value.items ++ record {
       ticket = one.ticket;
       by = one.by;
-      deed = DidCall (request_after one.past.value.items one.asked.value) one.answer.value;
+      deed = DidCall (request_after one.past.value.items one.asked.value) (answer_of one.is_done one.answer.value);
     } ∷ [] };
 }
 
@@ -56,12 +58,13 @@ pub(crate) fn with_call(
     ticket: u64,
     by: u32,
     asked: &Asked<'_>,
+    is_done: bool,
     answer: &Result<Reply, Refusal>,
 ) -> GhostList<Entry>
     ensures { result.items ≡ past.now.items ++ record {
       ticket = ticket;
       by = by;
-      deed = DidCall (request_after past.now.items asked.now) answer.now;
+      deed = DidCall (request_after past.now.items asked.now) (answer_of is_done answer.now);
     } ∷ [] }
 {
     let one = Call {
@@ -69,6 +72,7 @@ pub(crate) fn with_call(
         ticket,
         by,
         asked: Snapshot::of(asked),
+        is_done,
         answer: Snapshot::of(answer),
     };
     GhostList::of::<Call<'_>, Longer>(&one)

@@ -3,6 +3,7 @@
 
 mod asked;
 mod caller;
+mod copying;
 mod done;
 mod entry;
 mod exchange;
@@ -12,6 +13,7 @@ mod live_mount;
 mod look;
 mod served;
 mod shared;
+mod showing;
 mod turn;
 
 pub use asked::Asked;
@@ -20,6 +22,6 @@ pub use entry::Entry;
 pub use live_mount::LiveMount;
 pub use look::{Look, Nothing};
 pub use mount_replies::Owners;
-pub use served::{NoTurn, Served};
+pub use served::{Called, Missed, NoTurn, Served};
 pub use shared::SharedMount;
 pub use tracer_state::ValuesEmission;

@@ -1,11 +1,14 @@
 //! A mounted tracer whose history is for clauses only.
 
+mod copying;
+mod showing;
+
 ghost use Rattle.std.specs.Prelude.{◌≡◌, ◌≢◌, ◌≤◌, true, false, List, [], ◌∷◌, ◌++◌, vec_capacity, IfOk, IfErr, IfSome, OnOk};
 ghost use Rattle.trace_command.specs.Configs.{IsInRange};
-ghost use Rattle.trace_command.specs.Requests.{FitsItsTypes, Request, request_of};
+ghost use Rattle.trace_command.specs.Requests.{Request};
 ghost use Rattle.trace_command.specs.declared.refusal.Refusal.TheVariants as refusal;
 ghost use Rattle.tracer.specs.Lives.{IsLive, most_done};
-ghost use Rattle.mount_replies.specs.Calls.{IsCommanded};
+ghost use Rattle.mount_replies.specs.Calls.{IsCommanded, answer_of};
 ghost use Rattle.mount_replies.specs.Mounted.{IsMounted, most_reply};
 ghost use Rattle.mount_replies.specs.Watches.{Covers};
 ghost use Rattle.shared_mount.specs.AskedRequests.{request_after};
@@ -66,18 +69,19 @@ fn run(
     mount: &mut Mount,
     watch: &Option<Watch>,
     limit: u64,
-    asked: &Asked<'_>,
-) -> Result<Reply, Refusal>
+    asked: Asked<'_>,
+    answer: &mut Result<Reply, Refusal>,
+) -> bool
     requires limit { limit ≤ most_done }
     requires covers { IfSome watch.now (Covers mount.old.files mount.old.parked) }
     ensures { (entries : List EntrySeen) → IsMounted (done_in entries) mount.old
-        → IsCommanded limit (done_in entries) mount.old mount.new (request_after entries asked.now) result }
+        → IsCommanded limit (done_in entries) mount.old mount.new (request_after entries asked.entry) (answer_of result answer.new) }
 {
     match asked {
-        Asked::Command(command) => mount.call_within(limit, command),
+        Asked::Command(command) => mount.call_within(limit, command, answer),
         Asked::Values(emission) => match watch {
-            Some(watch) => mount.call_values_watched(limit, emission, watch),
-            None => mount.call_values_within(limit, emission),
+            Some(watch) => mount.call_values_watched(limit, emission, watch, answer),
+            None => mount.call_values_within(limit, emission, answer),
         },
     }
 }
@@ -115,18 +119,24 @@ impl LiveMount {
 
     /// Runs what a call asks, or refuses it. The call and its answer become the history's next entry, under this ticket and caller's number.
     #[inline(always)]
-    pub fn call(&mut self, ticket: u64, by: u32, asked: &Asked<'_>) -> Result<Reply, Refusal>
+    pub fn call(
+        &mut self,
+        ticket: u64,
+        by: u32,
+        asked: Asked<'_>,
+        answer: &mut Result<Reply, Refusal>,
+    ) -> bool
         ensures left { self.new.entries ≡ self.old.entries ++ record {
           ticket = ticket;
           by = by;
-          deed = DidCall (request_after self.old.entries asked.now) result;
+          deed = DidCall (request_after self.old.entries asked.entry) (answer_of result answer.new);
         } ∷ [] }
-        ensures next { IsNext self.old.terms self.old.entries (DidCall (request_after self.old.entries asked.now) result) self.new.owes }
+        ensures next { IsNext self.old.terms self.old.entries (DidCall (request_after self.old.entries asked.entry) (answer_of result answer.new)) self.new.owes }
         ensures terms { self.new.terms ≡ self.old.terms }
     {
-        let answer = run(&mut self.mount, &self.watch, self.limit, asked);
-        self.past = with_call(&self.past, ticket, by, asked, &answer);
-        answer
+        let is_done = run(&mut self.mount, &self.watch, self.limit, asked, answer);
+        self.past = with_call(&self.past, ticket, by, &asked, is_done, answer);
+        is_done
     }
 
     /// Serves a request, where nothing is owed: `reply`, which is empty and has the room, gets the bytes of its reply, none if it has none or waits. The

@@ -13,6 +13,26 @@ pub enum Served {
     NotNow,
 }
 
+/// What a call came to that had a turn.
+#[derive(Drop)]
+pub struct Called<A> {
+    /// Whether it was done, and nothing is replied. Otherwise its answer stands in the place that the call was given for it.
+    pub is_done: bool,
+    /// What the look told.
+    pub told: A,
+    /// Whether something is owed then.
+    pub owes: bool,
+}
+
+/// Why a try had no turn whose caller comes back beside it. Nothing was done.
+#[derive(Clone, Copy)]
+pub enum Missed {
+    /// Somebody else has a turn, is in line for one, or drew the ticket first. A later try may have one.
+    Busy,
+    /// All tickets are drawn: nobody has a turn any more.
+    Worn,
+}
+
 /// Why a try had no turn. Nothing was done, and the caller comes back.
 #[derive(Drop)]
 pub enum NoTurn {

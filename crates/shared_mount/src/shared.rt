@@ -10,6 +10,9 @@
 //!
 //! Nothing waits. A `try_` has a turn if nobody is in line; `draw` puts a caller in line, whose turn an `_in_line` tries.
 
+mod copying;
+mod showing;
+
 ghost use Rattle.std.specs.Prelude.{◌≡◌, ◌≢◌, ◌↔◌, ◌+◌, ◌<◌, ◌≤◌, true, false, [], vec_capacity, IfOk, IfErr, IsOk, OnOk, MatchResult};
 ghost use Rattle.ticket_lock.specs.Calls.{IsRoot, AreHalves, IsMet, HasLooked};
 ghost use Rattle.ticket_lock.specs.Views.{HasAllNames};
@@ -17,6 +20,7 @@ ghost use Rattle.trace_command.specs.Configs.{IsInRange};
 ghost use Rattle.trace_command.specs.declared.refusal.Refusal.TheVariants as refusal;
 ghost use Rattle.tracer.specs.Lives.{most_done};
 ghost use Rattle.mount_replies.specs.Mounted.{most_reply};
+ghost use Rattle.mount_replies.specs.Calls.{answer_of};
 ghost use Rattle.shared_mount.specs.AskedRequests.{request_after};
 ghost use Rattle.shared_mount.specs.LiveMountSeen.{numbers_of};
 ghost use Rattle.shared_mount.specs.MountEntries.{caller_of, ticket_of};
@@ -26,11 +30,11 @@ use crate::asked::Asked;
 use crate::caller::{Caller, InLine};
 use crate::live_mount::LiveMount;
 use crate::look::Look;
-use crate::served::{NoTurn, Served};
+use crate::served::{Called, Missed, NoTurn, Served};
 use crate::turn::{answer_in_turn, call_in_turn, look_in_turn, tell_in_turn};
 use mount_replies::Owners;
 use std::alloc::Global;
-use ticket_lock::TicketLock;
+use ticket_lock::{TicketLock, TryAcquireError};
 use trace_command::{Config, Refusal, Reply};
 
 /// A mounted tracer that callers share.
@@ -54,7 +58,7 @@ impl Drop for SharedMount {
 }
 
 impl SharedMount {
-    ghost use Rattle.shared_mount.specs.MountCallers.{caller_in, caller_view, line_ticket, line_view, terms_of, calls, HadTicket, HasFailed, IsCallerOf, IsInLineOf, IsLookedAt, IsToldOf, Serves, TakesTurn};
+    ghost use Rattle.shared_mount.specs.MountCallers.{caller_in, caller_view, line_ticket, line_view, terms_of, calls, HadTicket, HasFailed, HasMissed, IsCallerOf, IsInLineOf, IsLookedAt, IsToldOf, Serves, TakesTurn};
 
     /// A tracer that was just mounted, and its root caller, which has all numbers from 0 to 65,535. Its files are these people's, and
     /// once `limit` commands were done calls do nothing more. Refused with `BadValue` exactly if a number of the configuration is out of range, otherwise
@@ -128,19 +132,24 @@ impl SharedMount {
     pub fn try_call<L: Look>(
         &self,
         caller: Caller,
-        asked: &Asked<'_>,
+        asked: Asked<'_>,
         look: &L,
-    ) -> Result<(Caller, Result<Reply, Refusal>, L::Answer, bool), NoTurn>
+        answer: &mut Result<Reply, Refusal>,
+    ) -> (Caller, Result<Called<L::Answer>, Missed>)
         requires { IsCallerOf self.now caller }
-        ensures of { MatchResult result (λ r. IsCallerOf self.now r.0) (λ no. IsCallerOf self.now (caller_in no)) }
-        ensures called { IfOk result (λ r. TakesTurn (terms_of self.now) (caller_view caller) (caller_view r.0)
-            (calls (λ found. request_after found asked.now) r.1) r.3) }
-        ensures looked { IfOk result (λ r. IsToldOf (terms_of self.now) (L.tells look.now) (caller_view r.0).seen r.2) }
-        ensures failed { IfErr result (HasFailed (caller_view caller)) }
+        ensures of { IsCallerOf self.now result.0 }
+        ensures called { IfOk result.1 (λ r. TakesTurn (terms_of self.now) (caller_view caller) (caller_view result.0)
+            (calls (λ found. request_after found asked.entry) (answer_of r.is_done answer.new)) r.owes) }
+        ensures looked { IfOk result.1 (λ r. IsToldOf (terms_of self.now) (L.tells look.now) (caller_view result.0).seen r.told) }
+        ensures missed { IfErr result.1 (HasMissed (caller_view caller) (caller_view result.0)) }
     {
         match self.lock.try_acquire(caller.into_pass()) {
-            Ok(held) => Ok(call_in_turn(&self.lock, held, asked, look)),
-            Err(error) => Err(NoTurn::of(error)),
+            Ok(held) => {
+                let (caller, called) = call_in_turn(&self.lock, held, asked, look, answer);
+                (caller, Ok(called))
+            }
+            Err(TryAcquireError::Busy(pass)) => (Caller { pass }, Err(Missed::Busy)),
+            Err(TryAcquireError::Worn(worn)) => { (Caller { pass: worn.pass }, Err(Missed::Worn)) }
         }
     }
 
@@ -164,21 +173,22 @@ impl SharedMount {
     pub fn call_in_line<L: Look>(
         &self,
         line: InLine,
-        asked: &Asked<'_>,
+        asked: Asked<'_>,
         look: &L,
-    ) -> Result<(Caller, Result<Reply, Refusal>, L::Answer, bool), InLine>
+        answer: &mut Result<Reply, Refusal>,
+    ) -> Result<(Caller, Called<L::Answer>), InLine>
         requires { IsInLineOf self.now line }
         ensures of { MatchResult result (λ r. IsCallerOf self.now r.0) (λ l. IsInLineOf self.now l) }
         ensures called { IfOk result (λ r. TakesTurn (terms_of self.now) (line_view line) (caller_view r.0)
-            (calls (λ found. request_after found asked.now) r.1) r.3) }
-        ensures looked { IfOk result (λ r. IsToldOf (terms_of self.now) (L.tells look.now) (caller_view r.0).seen r.2) }
+            (calls (λ found. request_after found asked.entry) (answer_of r.1.is_done answer.new)) r.1.owes) }
+        ensures looked { IfOk result (λ r. IsToldOf (terms_of self.now) (L.tells look.now) (caller_view r.0).seen r.1.told) }
         ensures ticket { IfOk result (λ r. HadTicket (line_ticket line) (caller_view r.0)) }
         ensures busy { IfErr result (λ l. line_view l ≡ line_view line) }
         ensures kept { IfErr result (λ l. line_ticket l ≡ line_ticket line) }
     {
         let InLine { drawn } = line;
         match self.lock.try_enter(drawn) {
-            Ok(held) => Ok(call_in_turn(&self.lock, held, asked, look)),
+            Ok(held) => Ok(call_in_turn(&self.lock, held, asked, look, answer)),
             Err(drawn) => Err(InLine { drawn }),
         }
     }

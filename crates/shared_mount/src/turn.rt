@@ -4,8 +4,9 @@ ghost use Rattle.std.specs.Prelude.{◌≡◌, ◌≢◌, ◌≤◌, true, false
 ghost use Rattle.ticket_lock.specs.Calls.{view_of, held_view, held_ticket, held_value, IsOf, IsTurnOf};
 ghost use Rattle.ticket_lock.specs.declared.views.View.{View};
 ghost use Rattle.mount_replies.specs.Mounted.{most_reply};
+ghost use Rattle.mount_replies.specs.Calls.{answer_of};
 ghost use Rattle.shared_mount.specs.AskedRequests.{request_after};
-ghost use Rattle.shared_mount.specs.LiveMountSeen.{SharedTerms, numbers_of};
+ghost use Rattle.shared_mount.specs.LiveMountSeen.{SharedTerms};
 ghost use Rattle.shared_mount.specs.MountCallers.{HadTicket, IsLookedAt, IsToldOf, Serves, TakesTurn, calls};
 ghost use Rattle.shared_mount.specs.MountEntries.{EntrySeen};
 ghost use Rattle.shared_mount.specs.private.MountTurns.{IsTurnAfter, TakenIn};
@@ -14,7 +15,7 @@ use crate::asked::Asked;
 use crate::caller::Caller;
 use crate::live_mount::LiveMount;
 use crate::look::Look;
-use crate::served::Served;
+use crate::served::{Called, Served};
 use ticket_lock::{Held, TicketLock};
 use trace_command::{Refusal, Reply};
 
@@ -23,27 +24,33 @@ use trace_command::{Refusal, Reply};
 pub(crate) fn call_in_turn<L: Look>(
     lock: &TicketLock<LiveMount>,
     held: Held<LiveMount>,
-    asked: &Asked<'_>,
+    asked: Asked<'_>,
     look: &L,
-) -> (Caller, Result<Reply, Refusal>, L::Answer, bool)
+    answer: &mut Result<Reply, Refusal>,
+) -> (Caller, Called<L::Answer>)
     requires of { IsTurnOf lock.now held }
     requires turn { (v : View EntrySeen) × IsTurnAfter v (held_view held) (held_ticket held) (held_value held) }
     ensures of { IsOf lock.now result.0.pass }
     ensures ticket { HadTicket (held_ticket held) (view_of result.0.pass) }
     ensures takes { (v : View EntrySeen) (g : SharedTerms) → TakenIn v (held_view held) (held_ticket held) (held_value held) g
-        → TakesTurn g v (view_of result.0.pass) (calls (λ found. request_after found asked.now) result.1) result.3 }
+        → TakesTurn g v (view_of result.0.pass) (calls (λ found. request_after found asked.entry) (answer_of result.1.is_done answer.new)) result.1.owes }
     ensures looked { (v : View EntrySeen) (g : SharedTerms) → TakenIn v (held_view held) (held_ticket held) (held_value held) g
-        → IsToldOf g (L.tells look.now) (view_of result.0.pass).seen result.2 }
+        → IsToldOf g (L.tells look.now) (view_of result.0.pass).seen result.1.told }
 {
     let mut held = held;
     let ticket = held.ticket();
     let by = held.by();
     let mount = held.value();
-    let answer = mount.call(ticket, by, asked);
+    let is_done = mount.call(ticket, by, asked, answer);
     let told = look.look(mount.tracer());
     let owes = mount.owes();
+    let called = Called {
+        is_done,
+        told,
+        owes,
+    };
     let pass = lock.release(held);
-    (Caller { pass }, answer, told, owes)
+    (Caller { pass }, called)
 }
 
 /// Serves a request, if nothing is owed, and ends the turn.

@@ -1,6 +1,5 @@
 use Rattle.std.proofs.Common.{◌≡◌, List, [], ◌∷◌, ◌++◌, ◌∙◌, refl, subst}
 use Rattle.trace_command.specs.Requests.{Request}
-use Rattle.mount_replies.specs.Mounted.{service_of, terms_of}
 use Rattle.shared_mount.specs.MountEntries.{DidExchange, done_in}
 use Rattle.shared_mount.specs.LiveMountSeen.{LiveMountSeen}
 use Rattle.shared_mount.specs.MountHistories.{IsNext}

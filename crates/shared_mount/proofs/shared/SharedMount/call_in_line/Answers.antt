@@ -1,5 +1,6 @@
 use Rattle.std.proofs.Common.{ℕ, ◌+◌, ap, ◌∙◌, sym}
 use Rattle.ticket_lock.specs.Calls.{held_view, held_ticket, held_value}
+use Rattle.mount_replies.specs.Calls.{answer_of}
 use Rattle.shared_mount.specs.AskedRequests.{request_after}
 use Rattle.shared_mount.specs.MountCallers.{Asks, caller_view, calls, line_view, terms_of}
 use Rattle.shared_mount.specs.private.MountTurns.{TakenIn}
@@ -16,7 +17,11 @@ returns-in-Ok-clause-of g c =
     let taken : TakenIn v (held_view held) (held_ticket held) (held_value held) k =
     record { turn = record { drawn = t.drawn; finds = t.finds; entries_are = t.entries; base = t.base }; same = sym asks.base } in
     let w = caller_view c.call_in_turn.result.0 in
-    record { of = c.call_in_turn.ensures.of; asks = asks_turned c.args.self.now v w (calls (λ found. request_after found c.args.asked.now) c.call_in_turn.result.1) c.call_in_turn.result.3 asks (c.call_in_turn.ensures.takes v k taken) }
+    record {
+      of = c.call_in_turn.ensures.of;
+      asks = asks_turned c.args.self.now v w (calls (λ found. request_after found c.args.asked) (answer_of c.call_in_turn.result.1.is_done c.call_in_turn.new.answer))
+          c.call_in_turn.result.1.owes asks (c.call_in_turn.ensures.takes v k taken);
+    }
 
 pub returns-in-Ok-clause-called : goal.returns-in-Ok-clause-called
 returns-in-Ok-clause-called g c =
