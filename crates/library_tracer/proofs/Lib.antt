@@ -1,4 +1,5 @@
 pub mod ConsoleLemmas
+pub mod ReadLemmas
 pub mod FilesLemmas
 pub mod LeavingLemmas
 pub mod WordLemmas

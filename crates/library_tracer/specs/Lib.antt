@@ -5,6 +5,7 @@ pub mod ConsolesSeen
 pub mod Fields
 pub mod Inner
 pub mod InnerPasses
+pub mod LateTexts
 pub mod ListedFiles
 pub mod Masks
 pub mod PassNames

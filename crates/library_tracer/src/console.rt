@@ -10,6 +10,7 @@
 //! ```
 
 mod asking;
+mod copying;
 mod looking;
 mod serving;
 
@@ -48,6 +49,8 @@ pub struct Console {
     idle: Option<Caller>,
     queued: Option<Queued>,
     last: Last,
+    /// Where the tracer puts an answer that is more than that a call was done.
+    answer: Result<Reply, Refusal>,
 }
 
 impl Drop for Console {
@@ -59,6 +62,7 @@ impl Drop for Console {
             idle: _,
             queued: _,
             last: _,
+            answer: _,
         } = self;
     }
 }
@@ -107,6 +111,7 @@ impl Console {
                 outcome: Outcome::Replied(Reply::Done),
                 words: "",
             },
+            answer: Ok(Reply::Done),
         }
     }
 

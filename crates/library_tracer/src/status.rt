@@ -1,8 +1,10 @@
 //! Outcomes as numbers, what of them is text, and what is wrong with a call in words.
 
-ghost use Rattle.std.specs.Prelude.{◌≡◌, List, [], Option, None, Some, IfOk};
+ghost use Rattle.std.specs.Prelude.{◌≡◌, [], Option, None, Some, IfOk};
 ghost use Rattle.trace_command.specs.declared.command.Reply.TheVariants as replies;
+ghost use Rattle.trace_command.specs.declared.refusal.Refusal.TheVariants as refusals;
 ghost use Rattle.trace_script.specs.declared.outcome.Outcome.TheVariants as outcomes;
+ghost use Rattle.mount_replies.specs.Calls.{answer_of};
 ghost use Rattle.library_tracer.specs.AskedWords.{words_asked};
 ghost use Rattle.library_tracer.specs.Consoles.{outcome_of};
 ghost use Rattle.library_tracer.specs.Inner.{words_in};
@@ -13,6 +15,7 @@ use crate::last::Last;
 use refusal_explanations::{command_words, injection_words, sentence};
 use shared_mount::Asked;
 use std::alloc::{AllocError, Global};
+use std::mem;
 use trace_command::{Refusal, Reply};
 use trace_script::{Outcome, ScriptFault};
 
@@ -47,8 +50,8 @@ pub(crate) fn status_of(outcome: &Outcome) -> u8
 }
 
 /// What is wrong with what was asked and refused so.
-fn asked_words(asked: &Asked<'_>, refusal: &Refusal) -> &'static str
-    ensures { result.now ≡ words_asked asked.now refusal.now }
+fn asked_words(asked: Asked<'_>, refusal: &Refusal) -> &'static str
+    ensures { result.now ≡ words_asked asked.entry refusal.now }
 {
     match asked {
         Asked::Command(command) => command_words(command, refusal),
@@ -56,15 +59,52 @@ fn asked_words(asked: &Asked<'_>, refusal: &Refusal) -> &'static str
     }
 }
 
-/// Keeps an answer to what was asked, and tells its status.
+/// Keeps the answer of a call, that it was done or what stands in the place for answers, and tells its status.
 #[inline(always)]
-pub(crate) fn keep(last: &mut Last, asked: &Asked<'_>, answer: Result<Reply, Refusal>) -> u8
+pub(crate) fn keep(
+    last: &mut Last,
+    asked: Asked<'_>,
+    is_done: bool,
+    answer: &mut Result<Reply, Refusal>,
+) -> u8
+    ensures kept { last.new.outcome ≡ outcome_of (answer_of is_done answer.old) }
+    ensures words { words_in last.new ≡ answer_words (words_asked asked.entry) (answer_of is_done answer.old) }
+    ensures status { result ≡ status_of last.new.outcome }
+{
+    if is_done {
+        return keep_done(last);
+    }
+    keep_other(last, asked, answer)
+}
+
+/// Keeps an answer, which is taken out of its place. (It is moved here and not where calls that are done pass.)
+#[inline(never)]
+fn keep_other(last: &mut Last, asked: Asked<'_>, answer: &mut Result<Reply, Refusal>) -> u8
+    ensures kept { last.new.outcome ≡ outcome_of answer.old }
+    ensures words { words_in last.new ≡ answer_words (words_asked asked.entry) answer.old }
+    ensures status { result ≡ status_of last.new.outcome }
+{
+    keep_answer(last, asked, mem::replace(answer, Ok(Reply::Done)))
+}
+
+/// Keeps that nothing is answered any more.
+#[cold]
+#[inline(never)]
+pub(crate) fn keep_worn(last: &mut Last, asked: Asked<'_>) -> u8
+    ensures kept { last.new.outcome ≡ outcomes.Refused refusals.Worn }
+    ensures words { words_in last.new ≡ words_asked asked.entry refusals.Worn }
+    ensures status { result ≡ status_of last.new.outcome }
+{
+    keep_answer(last, asked, Err(Refusal::Worn))
+}
+
+/// Keeps an answer to what was asked, and tells its status.
+fn keep_answer(last: &mut Last, asked: Asked<'_>, answer: Result<Reply, Refusal>) -> u8
     ensures kept { last.new.outcome ≡ outcome_of answer }
-    ensures words { words_in last.new ≡ answer_words (words_asked asked.now) answer }
+    ensures words { words_in last.new ≡ answer_words (words_asked asked.entry) answer }
     ensures status { result ≡ status_of last.new.outcome }
 {
     match answer {
-        Ok(Reply::Done) => keep_done(last),
         Ok(reply) => tell(last, Outcome::Replied(reply), ""),
         Err(refusal) => {
             let words = asked_words(asked, &refusal);
@@ -82,7 +122,7 @@ fn keep_done(last: &mut Last) -> u8
     ensures status { result ≡ 0 }
 {
     if !matches!(last.outcome, Outcome::Replied(Reply::Done)) {
-        last.outcome = Outcome::Replied(Reply::Done);
+        let _status = tell(last, Outcome::Replied(Reply::Done), "");
     }
     0
 }

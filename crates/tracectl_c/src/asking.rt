@@ -1,8 +1,8 @@
 //! Calls that ask the tracer for something: lines, emissions, writes, reads and lists. Each is one try.
 
 ghost use Rattle.std.specs.Prelude.{◌≡◌, [], ◌∷◌, IsSome};
-ghost use Rattle.trace_command.specs.declared.command.CommandOf.TheVariants as commands;
-ghost use Rattle.library_tracer.specs.Consoles.{Comes, Lists, says, said_emission, said_line};
+ghost use Rattle.library_tracer.specs.Consoles.{Comes, Lists, said_emission, said_line};
+ghost use Rattle.library_tracer.specs.LateTexts.{Reads};
 ghost use Rattle.tracectl_c.specs.Calls.{ComesMasked, IsLinedUp, MasksOrLacksMemory, OrLacksMemory, Tries, TriesMasked, limit_if, said_given, said_write};
 ghost use Rattle.tracectl_c.specs.GivenValues.{values_in};
 ghost use Rattle.tracectl_c.specs.Handles.{console_of};
@@ -174,7 +174,8 @@ fn limit_if(is_limited: u32, limit: u64) -> Option<u64>
     if is_limited == 0 { None } else { Some(limit) }
 }
 
-/// Reads a file to its end, as `cat PATH` does; or, unless `is_limited` is 0, at most so many records of a pipe, as `take LIMIT PATH`.
+/// Reads a file to its end, as `cat PATH` does; or, unless `is_limited` is 0, at most so many records of a pipe, as `take LIMIT PATH`. The text of a trace is
+/// made after the turn, while others have theirs.
 #[unsafe(no_mangle)]
 pub extern "C" fn tracectl_try_read(
     alloc: Global,
@@ -183,7 +184,7 @@ pub extern "C" fn tracectl_try_read(
     is_limited: u32,
     limit: u64,
 ) -> u32
-    ensures { Tries (Comes (says (commands.Read path.now (limit_if is_limited limit)))) (console_of thread.old) (console_of thread.new) result }
+    ensures { Tries (Reads path.now (limit_if is_limited limit)) (console_of thread.old) (console_of thread.new) result }
 {
     let Some(mut console) = thread.take(alloc) else {
         return NOT_JOINED;

@@ -15,9 +15,9 @@ use super::{Console, NO_MEMORY, Tried, line_up, settle};
 use crate::fields::{lone_pair, pairs};
 use crate::looks::Wanted;
 use crate::mask::Mask;
-use crate::status::keep;
+use crate::status::{keep, keep_worn};
 use refusal_explanations::{injection_words, line_words};
-use shared_mount::{Asked, Look, NoTurn, Nothing, ValuesEmission};
+use shared_mount::{Asked, Called, Look, Missed, Nothing, ValuesEmission};
 use std::{mem, slice};
 use trace_command::{Bytes, Command, Refusal, Reply};
 use trace_format::FieldValue;
@@ -78,7 +78,7 @@ impl Console {
             pid,
             values,
         };
-        self.ask(&Asked::Values(&emission), &Nothing).0
+        self.ask(Asked::Values(&emission), &Nothing).0
     }
 
     /// Writes a string to a file, as `echo TEXT > PATH` does, or appends it, as `echo TEXT >> PATH`, and tells which events are wanted then. One that takes
@@ -93,42 +93,37 @@ impl Console {
         let text = Bytes::new(text);
         self.run_masked(Command::Write { path, append, text }, mask)
     }
-
-    /// Reads a file to its end, as `cat PATH` does; or, with a limit, at most so many records of a pipe, as `take LIMIT PATH`.
-    pub fn read(&mut self, path: &[u8], limit: Option<u64>) -> Tried
-        requires { IsSome self.old.has }
-        ensures comes { Comes (says (commands.Read path.now limit)) self.old self.new result }
-        ensures has { IsSome self.new.has }
-    {
-        let path = Bytes::new(path);
-        self.run(Command::Read { path, limit })
-    }
 }
 
 impl Console {
     /// Has the tracer run what is asked, in one try, and keeps the answer if there is one. In the same turn it looks at the tracer.
     #[inline(always)]
-    fn ask<L: Look>(&mut self, asked: &Asked<'_>, look: &L) -> (Tried, Option<L::Answer>)
+    fn ask<L: Look>(&mut self, asked: Asked<'_>, look: &L) -> (Tried, Option<L::Answer>)
         requires { IsSome self.old.has }
-        ensures comes { Comes (Asks (λ entries. request_after entries asked.now) (words_asked asked.now)) self.old self.new result.0 }
+        ensures comes { Comes (Asks (λ entries. request_after entries asked.entry) (words_asked asked.entry)) self.old self.new result.0 }
         ensures has { IsSome self.new.has }
         ensures looked { IfSome result.1 (IsSeenNow (IsToldOf self.old.terms (L.tells look.now)) self.new result.0) }
         ensures unlooked { IfNone result.1 (HadNoTurn self.new result.0) }
     {
-        match mem::replace(&mut self.idle, None) {
-            Some(caller) => match self.tracer.try_call(caller, asked, look) {
-                Ok((caller, answer, told, owes)) => {
-                    settle(&mut self.idle, caller);
-                    let status = keep(&mut self.last, asked, answer);
-                    (Tried::Told { status, owes }, Some(told))
-                }
-                Err(NoTurn::Busy(caller)) => {
-                    settle(&mut self.idle, caller);
-                    (Tried::Busy, None)
-                }
-                Err(NoTurn::Worn(caller)) => {
-                    settle(&mut self.idle, caller);
-                    let status = keep(&mut self.last, asked, Err(Refusal::Worn));
+        let Some(caller) = mem::replace(&mut self.idle, None) else {
+            return self.ask_in_line(asked, look);
+        };
+        let (caller, tried) = self.tracer.try_call(caller, asked, look, &mut self.answer);
+        settle(&mut self.idle, caller);
+        match tried {
+            Ok(called) => {
+                let Called {
+                    is_done,
+                    told,
+                    owes,
+                } = called;
+                let status = keep(&mut self.last, asked, is_done, &mut self.answer);
+                (Tried::Told { status, owes }, Some(told))
+            }
+            Err(missed) => match missed {
+                Missed::Busy => (Tried::Busy, None),
+                Missed::Worn => {
+                    let status = keep_worn(&mut self.last, asked);
                     (
                         Tried::Told {
                             status,
@@ -138,18 +133,17 @@ impl Console {
                     )
                 }
             },
-            None => self.ask_in_line(asked, look),
         }
     }
 
     /// Has the tracer run a command.
     #[inline(always)]
-    fn run(&mut self, command: Command<'_>) -> Tried
+    pub(super) fn run(&mut self, command: Command<'_>) -> Tried
         requires { IsSome self.old.has }
         ensures comes { Comes (says command.entry) self.old self.new result }
         ensures has { IsSome self.new.has }
     {
-        self.ask(&Asked::Command(&command), &Nothing).0
+        self.ask(Asked::Command(&command), &Nothing).0
     }
 
     /// Has the tracer run a command that may change which events are wanted, and tells which are then.
@@ -159,7 +153,7 @@ impl Console {
         ensures has { IsSome self.new.has }
         ensures masked { Masks (says command.entry) self.new result mask.old mask.new }
     {
-        let (tried, wanted) = self.ask(&Asked::Command(&command), &Wanted);
+        let (tried, wanted) = self.ask(Asked::Command(&command), &Wanted);
         *mask = wanted.unwrap_or(*mask);
         tried
     }
@@ -167,9 +161,9 @@ impl Console {
     /// As `ask`, of a caller that is in line, as few are.
     #[cold]
     #[inline(never)]
-    fn ask_in_line<L: Look>(&mut self, asked: &Asked<'_>, look: &L) -> (Tried, Option<L::Answer>)
+    fn ask_in_line<L: Look>(&mut self, asked: Asked<'_>, look: &L) -> (Tried, Option<L::Answer>)
         requires { self.old.is_in_line ≡ true }
-        ensures comes { Comes (Asks (λ entries. request_after entries asked.now) (words_asked asked.now)) self.old self.new result.0 }
+        ensures comes { Comes (Asks (λ entries. request_after entries asked.entry) (words_asked asked.entry)) self.old self.new result.0 }
         ensures has { IsSome self.new.has }
         ensures looked { IfSome result.1 (IsSeenNow (IsToldOf self.old.terms (L.tells look.now)) self.new result.0) }
         ensures unlooked { IfNone result.1 (HadNoTurn self.new result.0) }
@@ -177,10 +171,18 @@ impl Console {
         let Some(queued) = mem::replace(&mut self.queued, None) else {
             return (Tried::Busy, None);
         };
-        match self.tracer.call_in_line(queued.into_line(), asked, look) {
-            Ok((caller, answer, told, owes)) => {
+        match self
+            .tracer
+            .call_in_line(queued.into_line(), asked, look, &mut self.answer)
+        {
+            Ok((caller, called)) => {
                 settle(&mut self.idle, caller);
-                let status = keep(&mut self.last, asked, answer);
+                let Called {
+                    is_done,
+                    told,
+                    owes,
+                } = called;
+                let status = keep(&mut self.last, asked, is_done, &mut self.answer);
                 (Tried::Told { status, owes }, Some(told))
             }
             Err(line) => {

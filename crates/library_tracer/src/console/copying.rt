@@ -1,0 +1,144 @@
+//! Reads. The text of a trace may be long, so it is made after the turn, of a copy that was taken in it, while others have their turns:
+//!
+//! ```text
+//!   turn       the read is done: its answer is in the history        copy
+//!   after it   others have turns                                     copy ──> text, the last outcome
+//! ```
+//!
+//! If memory is refused for the text, the read was done all the same, which changed nothing, and `Memory` is told.
+
+ghost use Rattle.std.specs.Prelude.{◌≡◌, true, None, IsSome, Result};
+ghost use Rattle.std.specs.Option.{option_map};
+ghost use Rattle.trace_command.specs.FileNames.{file_at};
+ghost use Rattle.trace_command.specs.Paths as paths;
+ghost use Rattle.trace_command.specs.declared.command.CommandOf.TheVariants as commands;
+ghost use Rattle.refusal_explanations.specs.Words.{command_words};
+ghost use Rattle.tracer.specs.LateReads.{replied};
+ghost use Rattle.library_tracer.specs.Consoles.{outcome_of};
+ghost use Rattle.library_tracer.specs.Inner.{words_in};
+ghost use Rattle.library_tracer.specs.LateTexts.{MayLoseText, Reads, shows_trace};
+ghost use Rattle.library_tracer.specs.Sentences.{answer_words};
+ghost use Rattle.library_tracer.specs.Statuses.{status_of};
+
+use super::{Console, Tried, line_up, settle};
+use crate::last::Last;
+use crate::status::tell;
+use refusal_explanations::command_words;
+use shared_mount::NoTurn;
+use std::alloc::Global;
+use std::mem;
+use trace_command::{Bytes, Command, CpuFile, FileName, Refusal, Reply, TopFile, address_of};
+use trace_instance::LateReply;
+use trace_script::Outcome;
+
+impl Console {
+    /// Reads a file to its end, as `cat PATH` does; or, with a limit, at most so many records of a pipe, as `take LIMIT PATH`. The text of a trace is made
+    /// after the turn, while others have theirs; if memory is refused for it then, the read was done, and `Memory` is told.
+    pub fn read(&mut self, path: &[u8], limit: Option<u64>) -> Tried
+        requires { IsSome self.old.has }
+        ensures comes { Reads path.now limit self.old self.new result }
+        ensures has { IsSome self.new.has }
+    {
+        if limit.is_none() && shows_trace(path) {
+            return self.read_trace(path);
+        }
+        let path = Bytes::new(path);
+        self.run(Command::Read { path, limit })
+    }
+
+    // Reads a file that shows a trace.
+    fn read_trace(&mut self, path: &[u8]) -> Tried
+        requires has { IsSome self.old.has }
+        requires shows { shows_trace (paths.address_of path.now).file ≡ true }
+        ensures comes { Reads path.now None self.old self.new result }
+        ensures has { IsSome self.new.has }
+    {
+        match mem::replace(&mut self.idle, None) {
+            Some(caller) => match self.tracer.try_copy(caller, path, None) {
+                Ok((caller, answer, owes)) => {
+                    settle(&mut self.idle, caller);
+                    let status = keep_read(self.alloc, &mut self.last, path, answer);
+                    Tried::Told { status, owes }
+                }
+                Err(NoTurn::Busy(caller)) => {
+                    settle(&mut self.idle, caller);
+                    Tried::Busy
+                }
+                Err(NoTurn::Worn(caller)) => {
+                    settle(&mut self.idle, caller);
+                    let status = keep_read(self.alloc, &mut self.last, path, Err(Refusal::Worn));
+                    Tried::Told {
+                        status,
+                        owes: false,
+                    }
+                }
+            },
+            None => self.read_trace_in_line(path),
+        }
+    }
+
+    // As `read_trace`, of a caller that is in line.
+    fn read_trace_in_line(&mut self, path: &[u8]) -> Tried
+        requires in_line { self.old.is_in_line ≡ true }
+        requires shows { shows_trace (paths.address_of path.now).file ≡ true }
+        ensures comes { Reads path.now None self.old self.new result }
+        ensures has { IsSome self.new.has }
+    {
+        let Some(queued) = mem::replace(&mut self.queued, None) else {
+            return Tried::Busy;
+        };
+        match self.tracer.copy_in_line(queued.into_line(), path, None) {
+            Ok((caller, answer, owes)) => {
+                settle(&mut self.idle, caller);
+                let status = keep_read(self.alloc, &mut self.last, path, answer);
+                Tried::Told { status, owes }
+            }
+            Err(line) => {
+                line_up(&mut self.queued, line);
+                Tried::Busy
+            }
+        }
+    }
+}
+
+/// Whether a file, if there is one, shows a trace.
+fn is_trace(file: Option<FileName<'_>>) -> bool
+    ensures { result ≡ shows_trace (option_map file_at file.entry) }
+{
+    match file {
+        Some(FileName::OfInstance(TopFile::Trace | TopFile::Snapshot)) => true,
+        Some(FileName::OfCpu(_, CpuFile::Trace)) => true,
+        _ => false,
+    }
+}
+
+/// Whether the file at this path does.
+fn shows_trace(path: &[u8]) -> bool
+    ensures { result ≡ shows_trace (paths.address_of path.now).file }
+{
+    is_trace(address_of(path).file)
+}
+
+/// The answer of a read, or that memory is refused for its reply.
+fn made(alloc: Global, answer: Result<LateReply, Refusal>) -> Result<Reply, Refusal>
+    ensures { MayLoseText (replied answer) result }
+{
+    let late = answer?;
+    let reply = late.reply(alloc)?;
+    Ok(reply)
+}
+
+/// Keeps the answer of a read of a file to its end, or that memory is refused for its reply, and tells the status.
+fn keep_read(alloc: Global, last: &mut Last, path: &[u8], answer: Result<LateReply, Refusal>) -> u8
+    ensures kept { (told : Result Reply Refusal) × MayLoseText (replied answer) told × (last.new.outcome ≡ outcome_of told)
+        × (words_in last.new ≡ answer_words (command_words (commands.Read path.now None)) told) }
+    ensures status { result ≡ status_of last.new.outcome }
+{
+    match made(alloc, answer) {
+        Ok(reply) => tell(last, Outcome::Replied(reply), ""),
+        Err(refusal) => {
+            let words = command_words(&Command::read(path), &refusal);
+            tell(last, Outcome::Refused(refusal), words)
+        }
+    }
+}
