@@ -16,6 +16,8 @@ ATTR = struct.Struct("<QQQQQQIIIIIIIIII")  # fuse_attr
 ENTRY = struct.Struct("<QQQQII")  # fuse_entry_out but for its fuse_attr
 DIRENT = struct.Struct("<QQII")  # fuse_dirent but for its name
 ROOT = 1
+# Each LOOKUP of a CPU's binary pages gives a number of its own, a multiple of OWN more than the listed one, and this size, of which GETATTR tells nothing.
+OWN, PAGES_SIZE = 1 << 47, 1 << 40
 SECONDS = 20
 
 FOPEN_DIRECT_IO, FOPEN_NONSEEKABLE, FOPEN_STREAM, FOPEN_NOFLUSH = 1, 4, 16, 32

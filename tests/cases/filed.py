@@ -9,7 +9,7 @@ PAGE = TOP / "docs" / "FILES.md"
 LEFT_OUT = TOP / "crates" / "refusal_explanations" / "src" / "left_out.rt"
 NEAR = TOP / "crates" / "refusal_explanations" / "src" / "near.rt"
 ROW = re.compile(r'\(\s*(\w+)(?:\([^"]*\))?,\s*"(\w+)",\s*(?:Both|Read|Write),?\s*\),')
-MOUNTED = ("Tool", "OfTop", "CpuSize", "EventId", "ErrorLog")  # those of a mount only; docs/MOUNT.md has inject
+MOUNTED = ("Tool", "OfTop", "CpuSize", "EventId", "ErrorLog", "Layout", "RawPipe")  # those of a mount only; docs/MOUNT.md has inject
 
 
 def last(paths):
@@ -49,7 +49,8 @@ def near_ones_are_files():
 def mounted_ones_are_told():
     rows = ROW.findall(TABLE.read_text())
     told = set(re.findall(r"only a mounted tracer has `(\w+)`", LEFT_OUT.read_text()))
-    return differ_in("files that are said to be a mount's", told, {name for kind, name in rows if kind in MOUNTED + ("Inject",)})
+    commands = {name for kind, name in rows if kind not in MOUNTED + ("Inject",)}
+    return differ_in("files that are said to be a mount's", told, {name for kind, name in rows if kind in MOUNTED + ("Inject",)} - commands)
 
 
 def file_cases():

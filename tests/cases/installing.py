@@ -211,7 +211,7 @@ def mounts(place):
         print("skipped: tracectl-mount, as nothing can be mounted here", flush=True)
         return []
     said = said_of(place, "tracectl-mount").encode()
-    session = place.do("tracectl-mount", "--", "bash", place.elsewhere / "mount" / "session")
+    session = place.do("tracectl-mount", "--cpus", "1", "--", "bash", place.elsewhere / "mount" / "session")
     found = differences(session._replace(stderr=b""), Outcome(0, (place.elsewhere / "mount" / "session.stdout").read_bytes(), b""))
     if os.geteuid() == 0:
         found += differences(place.do("bash", "-c", ON_FOLDER), Outcome(0, b"tick: n=5\n" * 3, said * 2))
@@ -229,7 +229,7 @@ def builds_in_c(flags, has_shared):
             got, stdout = place.do(source.with_suffix("")), source.with_suffix(".stdout")
             want = stdout.read_bytes() if stdout.exists() else got.stdout  # what server.c prints clocks decide; tests/library looks at it
             found += ["%s: %s" % (source.name, difference) for difference in differences(got._replace(stdout=without_times(got.stdout)), Outcome(0, without_times(want), b""))]
-            linked = b"%s/lib/libtracectl.so.0.3 " % str(place.prefix).encode() in place.do("ldd", source.with_suffix("")).stdout
+            linked = b"%s/lib/libtracectl.so.0.4 " % str(place.prefix).encode() in place.do("ldd", source.with_suffix("")).stdout
             found += [] if linked == has_shared else ["%s is %slinked to the shared library" % (source.name, "" if linked else "not ")]
         return found
 
@@ -268,7 +268,7 @@ def builds_as_the_header_says(place):
 def runs_python(place):
     """Python keeps what it compiles beside the modules, which goes with them. The package names the library of the prefix."""
     got = place.do("python3", "-c", "from tracectl.installed import LIBRARY; print(LIBRARY)")
-    found = differences(got, Outcome(0, b"%s/lib/libtracectl.so.0.3\n" % str(place.prefix).encode(), b""))
+    found = differences(got, Outcome(0, b"%s/lib/libtracectl.so.0.4\n" % str(place.prefix).encode(), b""))
     for stdout in sorted((place.elsewhere / "python").glob("*.stdout")):
         script = stdout.with_suffix(".py")
         got = place.do("python3", script)

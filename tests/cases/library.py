@@ -38,7 +38,7 @@ def built():
     subprocess.run([str(TOP / "examples" / "c" / "build"), str(folder)], check=True)
     heap = Path(subprocess.run(["rt", "doc"], stdout=subprocess.PIPE, check=True).stdout.decode().strip()).parent / "c" / "liblibc_c.a"
     wrapped = {"memory": ["-Wl,--wrap=malloc,--wrap=realloc,--wrap=free"], "refused": ["-Wl,--wrap=malloc"]}
-    for name in ("memory", "limits", "values", "refused", "explained", "threads", "wanted", "requests"):
+    for name in ("memory", "limits", "values", "refused", "explained", "threads", "copies", "wanted", "requests"):
         words = wrapped.get(name, []) + ["-I", LIBRARY.parent.parent, "-o", folder / name, CASES / (name + ".c"), folder / "libtracectl_c.a", heap, "-pthread"]
         subprocess.run([os.environ.get("CC", "cc")] + [str(word) for word in words], check=True)
     build_in_cpp(folder, heap)
@@ -64,9 +64,10 @@ def built_with_sanitizer(folder, heap):
     words = [compiler, "-shared", "-o", proved, "-Wl,--whole-archive", archive, "-Wl,--no-whole-archive", heap]
     subprocess.run([str(word) for word in words], check=True)
     programs = {}
-    for name, flags in {"threads": ["-DEMISSIONS=5000", "-DCOMING=2000"], "wanted": ["-DSWITCHES=12500"], "requests": ["-DREQUESTS=2000"]}.items():
+    fewer = {"threads": ["EMISSIONS=5000", "COMING=2000"], "copies": ["EMISSIONS=5000"], "wanted": ["SWITCHES=12500"], "requests": ["REQUESTS=2000"]}
+    for name, sizes in fewer.items():
         programs[name] = folder / (name + "_sanitized")
-        words = [compiler, "-fsanitize=thread", "-g", "-O1", *flags, "-I", LIBRARY.parent.parent, "-o", programs[name]]
+        words = [compiler, "-fsanitize=thread", "-g", "-O1", *["-D" + size for size in sizes], "-I", LIBRARY.parent.parent, "-o", programs[name]]
         words += [CASES / (name + ".c"), *[LIBRARY.parent.parent / (part + ".c") for part in PARTS_IN_C], proved, "-Wl,-rpath," + str(folder), "-pthread"]
         if subprocess.run([str(word) for word in words], stderr=subprocess.DEVNULL).returncode:
             print("skipped: ThreadSanitizer, which %s does not have" % compiler, flush=True)
@@ -250,6 +251,7 @@ def library_cases():
         example_case("tests/library_cases/refused.c", [folder / "refused"], folder, CASES / "refused.stdout"),
         example_case("tests/library_cases/explained.c", [folder / "explained"], folder, CASES / "explained.stdout"),
         example_case("tests/library_cases/threads.c", [folder / "threads"], folder, CASES / "threads.stdout"),
+        example_case("tests/library_cases/copies.c", [folder / "copies"], folder, CASES / "copies.stdout"),
         example_case("tests/library_cases/wanted.c", [folder / "wanted"], folder, CASES / "wanted.stdout"),
         example_case("tests/library_cases/requests.c", [folder / "requests"], folder, CASES / "requests.stdout"),
         example_case("examples/c/four_threads.c", [folder / "four_threads"], folder, TOP / "examples" / "c" / "four_threads.stdout"),

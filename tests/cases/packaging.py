@@ -119,7 +119,7 @@ def finds_library(place):
         found += differences(got, Outcome(0, b"%s/libtracectl.so\n" % str(place.room).encode(), b""))
     else:
         print("skipped: the library by pkg-config, which is not there", flush=True)
-    beside = place.folder()[0] / "libtracectl.so.0.3"
+    beside = place.folder()[0] / "libtracectl.so.0.4"
     shutil.copy(str(place.room / "libtracectl.so"), str(beside))
     found += differences(place.do("-c", opens, settings=[]), Outcome(0, b"%s\n" % str(beside).encode(), b""))
     beside.unlink()

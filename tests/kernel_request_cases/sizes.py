@@ -30,18 +30,24 @@ def has_size(tracer, path, node, kind):
     """The size that a node should have, by what a read of it gives."""
     if path.endswith("trace_pipe"):
         return PIPE_SIZE
+    if path.endswith("trace_pipe_raw"):
+        return 0
     is_read = kind != FOLDER and tracer.attributes(node)[MODE] & READ_BITS
     return len(tracer.cat(path)) if is_read else 0
 
 
 def of_every_file(command):
-    """LOOKUP, GETATTR and SETATTR tell how long each text is, now, with and without records, errors, triggers and instances."""
+    """LOOKUP, GETATTR and SETATTR tell how long each text is, now, with and without records, errors, triggers and instances; of binary pages LOOKUP tells
+    another size."""
     tracer = Tracer(command, "--cpus", "2", "--pages", "4")
     for turn in range(3):
         for path, node, kind in list(every_node(tracer)):
             wanted = has_size(tracer, path, node, kind)
             told = [tracer.attributes(node)[SIZE], fuse.ATTR.unpack_from(tracer.ask(fuse.SETATTR, node, bytes(88)), 16)[SIZE]]
-            told += [tracer.size_told(path)] if path else []
+            if path.endswith("trace_pipe_raw"):
+                assert tracer.size_told(path) == fuse.PAGES_SIZE
+            elif path:
+                told.append(tracer.size_told(path))
             assert set(told) == {wanted}, "%s has a size of %d, and %s are told" % (path, wanted, told)
         if turn == 0:
             tracer.mkdir("instances", "a")

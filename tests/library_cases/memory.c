@@ -1,6 +1,7 @@
 /* Each call while memory is refused: its first allocation, its second and so on, until the call is done. A call that was refused has changed nothing, and
- * the next one may be done. A look at a pipe, or at what is wanted, takes no memory. All that was given out has been given back after an open or a join
- * that was refused, and after a close. Linked with --wrap=malloc, --wrap=realloc and --wrap=free. */
+ * the next one may be done; but a read of a trace that was refused memory for its text was done. A look at a pipe, or at what is wanted, takes no memory. All
+ * that was given out has been given back after an open or a join that was refused, and after a close. Linked with --wrap=malloc, --wrap=realloc and
+ * --wrap=free. */
 #include <stdio.h>
 #include <string.h>
 
@@ -67,9 +68,15 @@ static uint32_t made(void) { return tracectl_line(&thread, TEXT("mkdir instances
 
 static uint32_t swapped(void) { return tracectl_append(&thread, TEXT("instances/long_named_instance/snapshot"), TEXT("1")); }
 
+static uint32_t taken_aside(void) { return tracectl_write(&thread, TEXT("snapshot"), TEXT("1")); }
+
 static uint32_t taken(void) { return tracectl_take(&thread, TEXT("per_cpu/cpu1/trace_pipe"), 1); }
 
 static uint32_t read_hist(void) { return tracectl_read(&thread, TEXT("events/synthetic/long_named_event/hist")); }
+
+static uint32_t read_trace(void) { return tracectl_read(&thread, TEXT("trace")); }
+
+static uint32_t read_snapshot(void) { return tracectl_read(&thread, TEXT("snapshot")); }
 
 static uint32_t listed(void) { return tracectl_files(&thread); }
 
@@ -84,6 +91,33 @@ static int is_done(const char *name, uint32_t (*call)(void)) {
         if (status == TRACECTL_DONE) return printf("%s: done\n", name) > 0;
         int leaks = (call == opened && kept) || (call == joined && kept != before);
         if (status != TRACECTL_MEMORY || tracectl_entries(&thread) != entries || leaks) return printf("%s: status %u\n", name, (unsigned)status) < 0;
+    }
+}
+
+/* Reads a trace until it is done. Tells whether each refusal was one of memory: of the copy, and the history was left as it was; or, once there was memory
+ * for that, of the text, and the read was one command more. No refusal leaves more memory taken than the one before, and the text is the one that there was
+ * without refusals. */
+static int is_read(const char *name, uint32_t (*call)(void)) {
+    char text[4096], again[4096];
+    if (call() != TRACECTL_DONE) return printf("%s: refused\n", name) < 0;
+    size_t length = tracectl_reply(&thread, 0, text, sizeof text);
+    int copied = 0;
+    long before = 0;
+    for (long count = 0;; count++) {
+        uint64_t entries = tracectl_entries(&thread);
+        left = count;
+        uint32_t status = call();
+        left = -1;
+        uint64_t more = tracectl_entries(&thread) - entries;
+        if (status == TRACECTL_DONE) {
+            int same = more == 1 && tracectl_reply(&thread, 0, again, sizeof again) == length && !memcmp(text, again, length);
+            printf("%s: done%s%s\n", name, copied ? ", also where its text was refused memory" : "", same ? "" : ", but another text");
+            return same && copied;
+        }
+        int leaks = count && kept != before;
+        before = kept;
+        if (status != TRACECTL_MEMORY || more > 1 || (copied && !more) || leaks) return printf("%s: status %u\n", name, (unsigned)status) < 0;
+        copied = copied || more;
     }
 }
 
@@ -124,6 +158,8 @@ int main(void) {
         && tells(TEXT("per_cpu/cpu1/trace_pipe"), 0) && is_done("read", read_hist) && is_done("files", listed)
         && is_done("mkdir", made) && is_done("snapshot", swapped);
     printf("entries: %llu\n", (unsigned long long)tracectl_entries(&thread));
+    done = done && is_done("emit", emitted) && is_read("read trace", read_trace) && is_done("take a snapshot", taken_aside)
+        && is_read("read snapshot", read_snapshot);
     done = is_given_back() && done;
     done = is_done("open", opened) && is_given_back() && done;
     return !done;

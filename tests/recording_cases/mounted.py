@@ -13,6 +13,7 @@ import zlib
 from pathlib import Path
 
 from cases.running import TOP, Case, run
+from kernel_page_rules import PAGE, events_in
 from recording_cases.making import PROGRAM, judged, recording, records_of, replayed
 
 RECORDING = TOP / "tests/recording"
@@ -87,8 +88,23 @@ def interrupted_read():
     assert os.waitstatus_to_exitcode(os.waitpid(reader, 0)[1]) == 42
 
 
+def events_of_pages(folder):
+    """How many events the binary pages of two CPUs have, each the first one by splice, if this Python has that, and the others by read."""
+    found = 0
+    for cpu in range(2):
+        file, (out, into) = os.open(PLACE / folder / ("per_cpu/cpu%d/trace_pipe_raw" % cpu), os.O_RDONLY | os.O_NONBLOCK), os.pipe()
+        try:
+            page = os.read(out, os.splice(file, into, PAGE)) if hasattr(os, "splice") else os.read(file, PAGE)
+            while page:
+                found += len(events_in(page)[0])
+                page = os.read(file, PAGE)
+        except BlockingIOError:
+            pass
+    return found
+
+
 def session():
-    """Writers beside a reader that waits, refusals, an instance, and an interrupted read."""
+    """Writers beside a reader that waits, refusals, an instance, binary pages, and an interrupted read."""
     put("synthetic_events", "tick u64 n\n")
     put(TICK + "enable", "1\n")
     interrupted_read()
@@ -108,6 +124,7 @@ def session():
     refused(lambda: put(TICK + "inject", "m=1\n"), errno.EINVAL)
     refused(lambda: os.mkdir(PLACE / "instances/a"), errno.EEXIST)
     assert (PLACE / "instances/a/trace").read_text().count(": tick: n=") == WRITERS * EACH
+    assert events_of_pages("instances/a") == WRITERS * EACH
     (PLACE / "instances/a").rmdir()
 
 

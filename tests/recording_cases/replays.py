@@ -8,9 +8,10 @@ from pathlib import Path
 from types import SimpleNamespace
 
 import fuse
+from kernel_page_rules import PAGE, events_in
 from recording_cases.making import OPTIONS, PROGRAM, TICK, VERSION, Session, inject, records_of, recorded, recording, replay, replayed, server_of
 
-OTHER = "tracectl-mount 0.3.0, proved, commit ba9876543210"
+OTHER = "tracectl-mount 0.4.0, proved, commit ba9876543210"
 CUTS = 1_000
 CHANGED, REPLAYED = 1_000, 20
 SECONDS = 60
@@ -192,7 +193,7 @@ def other_versions():
         got = replayed(made.file, version=OTHER)
         assert got == (5, b"", ("tracectl-mount: %s was recorded by %s; this is %s\n" % (made.file, VERSION, OTHER)).encode()), got
         assert replayed(made.file, version="tracectl-mount 0.4.0, proved").status == 5
-        for words, version in ((["--any-version"], OTHER), ([], VERSION.replace("proved", "unproved")), ([], "tracectl-mount 0.3.0, unproved")):
+        for words, version in ((["--any-version"], OTHER), ([], VERSION.replace("proved", "unproved")), ([], "tracectl-mount 0.4.0, unproved")):
             got = replayed(made.file, *words, version=version)
             assert got.status == 0 and b": as recorded; " in got.stdout and not got.stderr, got
         copied(made.file, made.folder / "other", ["--help"])
@@ -231,4 +232,50 @@ def files_are_shown():
         assert replayed(file, "events").status == 5
 
 
-TESTS = (shows_what_was_asked, beginnings, changed_bytes, other_answers, other_versions, files_are_shown)
+# ---- binary pages
+
+RAW = "per_cpu/cpu0/trace_pipe_raw"
+
+
+def ticks_in(page):
+    assert len(page) == PAGE, "%d bytes are no page" % len(page)
+    return [int.from_bytes(data[8:16], "little") for _, data in events_in(page)[0]]
+
+
+def pages_are_shown():
+    """What read(2), splice(2) and poll(2) ask, by numbers that are each LOOKUP's own; and the pages that wait after some requests."""
+    with tempfile.TemporaryDirectory() as name:
+        folder = Path(name)
+        server = server_of(folder)
+        server.echo(b"tick u64 n", "synthetic_events")
+        server.echo(b"1", TICK + "enable")
+        nodes = [server.lookup(RAW) for _ in range(3)]
+        assert len(set(nodes)) == 3, "two LOOKUPs of pages give one number"
+        handles = [server.open(node, os.O_RDONLY | os.O_NONBLOCK) for node in nodes]
+        for number in range(3):
+            inject(server, number)
+        before = len(server.requests)
+        assert ticks_in(server.read_page(nodes[0], handles[0], 0)) == [0, 1, 2]
+        assert server.poll(nodes[0], handles[0]) == 0
+        node = server.lookup(TICK + "inject")
+        writer = server.open(node, os.O_WRONLY)
+        server.write_at(node, writer, 0, b"n=3\n")
+        assert server.message() == 1
+        server.close(node, writer)
+        parts = [server.read_at(nodes[1], handles[1], 0, 100), server.read_at(nodes[1], handles[1], 100, 131_072)]
+        assert ticks_in(b"".join(parts)) == [3]
+        inject(server, 4)
+        assert server.poll(nodes[2], handles[2]) & 1
+        assert server.end() == 0
+        got = replayed(folder / "recording")
+        lines = got.stdout.decode().splitlines()
+        assert got.status == 0 and lines[-1].endswith(": as recorded; it ended with status 0"), got
+        for part in ("READ %s, file 0, 4096 bytes at 0 = 4096 " % RAW, "READ %s, file 1, 100 bytes at 0 = 100 " % RAW, "POLL %s, file 2" % RAW, "# told who polls: 1"):
+            assert sum(part in line for line in lines) == 1, "not one line has %s" % part
+        for node in nodes:
+            assert any(line.endswith("LOOKUP %s = node %d, size %d" % (RAW, node, 1 << 40)) for line in lines), "no line has the number %d" % node
+        assert ticks_in(replayed(folder / "recording", RAW).stdout) == [4]
+        assert ticks_in(replayed(folder / "recording", "--until=%d" % before, RAW).stdout) == [0, 1, 2]
+
+
+TESTS = (shows_what_was_asked, beginnings, changed_bytes, other_answers, other_versions, files_are_shown, pages_are_shown)

@@ -28,7 +28,7 @@ event() {
   while [ "$status" -eq 9 ]; do
     (
       ((BASHPID % CPUS == $1)) || exit 9
-      echo "$3" > "events/synthetic/$2/inject"
+      echo "$3" > "/sys/kernel/tracing/events/synthetic/$2/inject"
     )
     status=$?
   done
@@ -41,6 +41,21 @@ until_it_reads() {
     [[ $(cat "/proc/$1/syscall") != 0\ * ]] || break
     sleep 0.02
   done
+}
+
+# How trace-cmd records: by splice, but for a tracer that is mounted with --allow-other (MOUNT.md says why).
+splice=
+[ -z "${ALLOW-}" ] || splice=--nosplice
+
+# until_read COUNT: until so many records were read, in all instances, and then a while. What trace-cmd's recorders have not read, or not handed on, when the
+# command ends that is recorded, it may drop: `stream` always, `record` where a recorder had no time yet to begin.
+until_read() {
+  local i
+  for i in $(seq 500); do
+    (($(cat /sys/kernel/tracing/{,instances/*/}per_cpu/cpu*/stats 2> /dev/null | sed -n 's/^read events: //p' | paste -sd+) < $1)) || break
+    sleep 0.02
+  done
+  sleep 0.5
 }
 
 echo 'tick u64 n; char who[8]' > synthetic_events
