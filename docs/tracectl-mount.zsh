@@ -10,7 +10,7 @@ fi
 _arguments \
   '--over[Run the command with the tracer that is mounted on DIR already. There are no other options then.]:DIR:_directories' \
   '--replay=[Show what was asked and answered, in a recording, by asking the program again. Nothing is mounted]:FILE:_files' \
-  '--cpus=[Number of CPUs, 1 to 8 \[default: 1\]]:N: ' \
+  '--cpus=[Number of CPUs, 1 to 8 \[default: 1; with COMMAND as many as the machine has, up to 8\]]:N: ' \
   '--pages=[Pages per ring, 2 to 1024 \[default: 16\]]:N: ' \
   '--page-bytes=[Bytes per page, 64 to 4080, a multiple of 8 \[default: 4080\]]:N: ' \
   '--allow-other[Let other users in, as far as permissions allow it]' \

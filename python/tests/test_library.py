@@ -48,18 +48,18 @@ class FindLibrary(unittest.TestCase):
         self.assertEqual(library.find_library(), str(self.package / "libtracectl.so"))
 
     def test_the_installed_one_comes_before_one_beside_the_modules(self):
-        (self.package / "libtracectl.so.0.3").touch()
-        installed = self.room / "installed.so.0.3"
+        (self.package / "libtracectl.so.0.4").touch()
+        installed = self.room / "installed.so.0.4"
         self.replace(library, "LIBRARY", str(installed))
-        self.assertEqual(library.find_library(), str(self.package / "libtracectl.so.0.3"))
+        self.assertEqual(library.find_library(), str(self.package / "libtracectl.so.0.4"))
         installed.touch()
         self.assertEqual(library.find_library(), str(installed))
 
     def test_beside_the_modules_the_one_with_the_number_of_its_calls_comes_first(self):
         (self.package / "libtracectl.so").touch()
         self.assertEqual(library.find_library(), str(self.package / "libtracectl.so"))
-        (self.package / "libtracectl.so.0.3").touch()
-        self.assertEqual(library.find_library(), str(self.package / "libtracectl.so.0.3"))
+        (self.package / "libtracectl.so.0.4").touch()
+        self.assertEqual(library.find_library(), str(self.package / "libtracectl.so.0.4"))
 
     def test_pkg_config_tells_a_folder(self):
         self.place_pkg_config(PKG_CONFIG % self.told)
@@ -67,11 +67,11 @@ class FindLibrary(unittest.TestCase):
         self.assertEqual(library.find_library(), str(self.told / "libtracectl.so"))
 
     def test_the_error_lists_where_it_looked(self):
-        self.replace(library, "LIBRARY", str(self.room / "installed.so.0.3"))
+        self.replace(library, "LIBRARY", str(self.room / "installed.so.0.4"))
         self.place_pkg_config(PKG_CONFIG % self.told)
         with self.assertRaises(FileNotFoundError) as raised:
             Tracer()
-        names = [self.room / "installed.so.0.3"] + [folder / name for folder in (self.package, self.told) for name in ("libtracectl.so.0.3", "libtracectl.so")]
+        names = [self.room / "installed.so.0.4"] + [folder / name for folder in (self.package, self.told) for name in ("libtracectl.so.0.4", "libtracectl.so")]
         for part in ["TRACECTL_LIBRARY is not set", *map(str, names)]:
             self.assertIn(part, str(raised.exception))
 

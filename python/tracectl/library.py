@@ -7,7 +7,7 @@ from pathlib import Path
 
 from .installed import LIBRARY
 
-FILES = ("libtracectl.so.0.3", "libtracectl.so")
+FILES = ("libtracectl.so.0.4", "libtracectl.so")
 
 
 def files_in(folder: Path) -> list[Path]:
