@@ -78,7 +78,7 @@ def check_cases():
         **{"tests/program": 20, "tests/threads": 3, "tests/program_without_memory": 10, "tests/rattle_tests": 29, "tests/planted": 5, "tests/archive": 1},
         **{"tests/unproved_program": 7, "tests/library": 4, "tests/kernel_requests": 2, "tests/walk": 4, "tests/real_mount": 6, "tests/streams": 5},
         **{"tests/tracefs_clients": 8, "tests/watch": 9, "tests/timeline": 10, "tests/installed": 11, "tests/python_package": 12, "tests/newcomer": 13},
-        **{"tests/recording": 14, "tests/preload": 15, "tests/mounted_program": 16},
+        **{"tests/recording": 14, "tests/preload": 15, "tests/mounted_program": 16, "tests/raw_pages": 17},
     }
     tests = {name: CHECKED % (name, count, 0, 0) for name, count in counts.items()}
     whole = dict(tests, rt=CHECKED % ("rt", 100, 0, 0))
@@ -99,7 +99,7 @@ def check_cases():
     jobs = ["RT_JOBS=3"]
     each = ["rt ci RT_JOBS=3", "tests/archive  RT_JOBS=3", "tests/program  RT_JOBS=3", "tests/threads ", "tests/program_without_memory "]
     each += ["tests/rattle_tests ", "tests/unproved_program ", "tests/library ", "tests/installed ", "tests/python_package ", "tests/newcomer ", "tests/recording "]
-    each += ["tests/preload ", "tests/mounted_program "]
+    each += ["tests/preload ", "tests/mounted_program ", "tests/raw_pages "]
     no_rt = b"check: rt, the command of the Rattle kit, is needed and was not found\n"
     little = b"check: 1953 MiB of memory are free, which may be too little: up to 4096 are needed\n"
     elsewhere = ["CDPATH=.:/", "TMPDIR=/no/such/folder"] + jobs
@@ -111,21 +111,21 @@ def check_cases():
     keeping, forgetting = telling % "done in this run: 1 of the 1 proofs\n", telling % ""
     ahead = [" min: %s proved\n" % crates for crates in (*AHEAD, " ".join(CRATES))]
     return [
-        case("all of it", [], whole, each, 0, jobs, last=b"\n299 passed, 0 failed\n"),
-        case("all of it, and rt shares the processors", [], whole, ["rt ci RT_JOBS= "], 0, last=b"\n299 passed, 0 failed\n"),
-        case("all of it, and the chain is proved ahead", [], dict(tests, rt=keeping, awk="echo 20000000"), ahead, 0, last=b"\n299 passed, 0 failed\n"),
-        case("all of it, and what is proved ahead is not kept", [], dict(tests, rt=forgetting, awk="echo 20000000"), [ahead[0], ahead[-1]], 0, last=b"\n299 passed, 0 failed\n"),
-        case("all of it, and little of its memory is free", [], dict(tests, rt=keeping, awk="echo 9000000"), ahead[-1:], 0, last=b"\n299 passed, 0 failed\n", lacks=ahead[0]),
-        case("all of it, by RT_JOBS, which proves nothing ahead", [], dict(tests, rt=keeping, awk="echo 20000000"), ahead[-1:], 0, jobs, last=b"\n299 passed, 0 failed\n", lacks=ahead[0]),
-        case("by a link, with a CDPATH and a TMPDIR that isn't there", [], whole, each, 0, elsewhere, "link", last=b"\n299 passed, 0 failed\n"),
-        case("by a relative path, likewise", [], whole, each, 0, elsewhere, "relative", last=b"\n299 passed, 0 failed\n"),
-        case("a test that fails", [], dict(whole, **{"tests/threads": CHECKED % ("", 2, 1, 1)}), [], 1, jobs, last=b"\n298 passed, 1 failed\n"),
-        case("a gate that fails by its status alone", [], dict(whole, rt=CHECKED % ("rt", 100, 0, 1)), [], 1, jobs, last=b"\n299 passed, 1 failed\n"),
-        case("what is skipped is told at the end", [], skipping, [], 0, jobs, last=b" ended\ntests/real_mount skipped all\ntests/tracefs_clients skipped a, as b\n299 passed, 0 failed\n"),
-        case("a test that prints no counts", [], dict(whole, **{"tests/program": "echo nothing"}), [], 1, jobs, last=b"\n279 passed, 1 failed\n"),
-        case("quickly, with a proved program", ["--quick"], proved, ["/crates/tracectl/out/tracectl\n"], 0, last=b"\n162 passed, 0 failed (the programs are proved)\n"),
-        case("quickly, with an unproved program", ["--quick"], compiled, ["/tracectl-unproved\n"], 0, stderr=None, last=b"\n162 passed, 0 failed " + unproved.encode()),
-        case("quickly, with one proved program", ["--quick"], half, ["/out/tracectl\n"], 0, stderr=None, last=b"\n162 passed, 0 failed (one of the two programs is not proved)\n"),
+        case("all of it", [], whole, each, 0, jobs, last=b"\n316 passed, 0 failed\n"),
+        case("all of it, and rt shares the processors", [], whole, ["rt ci RT_JOBS= "], 0, last=b"\n316 passed, 0 failed\n"),
+        case("all of it, and the chain is proved ahead", [], dict(tests, rt=keeping, awk="echo 20000000"), ahead, 0, last=b"\n316 passed, 0 failed\n"),
+        case("all of it, and what is proved ahead is not kept", [], dict(tests, rt=forgetting, awk="echo 20000000"), [ahead[0], ahead[-1]], 0, last=b"\n316 passed, 0 failed\n"),
+        case("all of it, and little of its memory is free", [], dict(tests, rt=keeping, awk="echo 9000000"), ahead[-1:], 0, last=b"\n316 passed, 0 failed\n", lacks=ahead[0]),
+        case("all of it, by RT_JOBS, which proves nothing ahead", [], dict(tests, rt=keeping, awk="echo 20000000"), ahead[-1:], 0, jobs, last=b"\n316 passed, 0 failed\n", lacks=ahead[0]),
+        case("by a link, with a CDPATH and a TMPDIR that isn't there", [], whole, each, 0, elsewhere, "link", last=b"\n316 passed, 0 failed\n"),
+        case("by a relative path, likewise", [], whole, each, 0, elsewhere, "relative", last=b"\n316 passed, 0 failed\n"),
+        case("a test that fails", [], dict(whole, **{"tests/threads": CHECKED % ("", 2, 1, 1)}), [], 1, jobs, last=b"\n315 passed, 1 failed\n"),
+        case("a gate that fails by its status alone", [], dict(whole, rt=CHECKED % ("rt", 100, 0, 1)), [], 1, jobs, last=b"\n316 passed, 1 failed\n"),
+        case("what is skipped is told at the end", [], skipping, [], 0, jobs, last=b" ended\ntests/real_mount skipped all\ntests/tracefs_clients skipped a, as b\n316 passed, 0 failed\n"),
+        case("a test that prints no counts", [], dict(whole, **{"tests/program": "echo nothing"}), [], 1, jobs, last=b"\n296 passed, 1 failed\n"),
+        case("quickly, with a proved program", ["--quick"], proved, ["/crates/tracectl/out/tracectl\n"], 0, last=b"\n179 passed, 0 failed (the programs are proved)\n"),
+        case("quickly, with an unproved program", ["--quick"], compiled, ["/tracectl-unproved\n"], 0, stderr=None, last=b"\n179 passed, 0 failed " + unproved.encode()),
+        case("quickly, with one proved program", ["--quick"], half, ["/out/tracectl\n"], 0, stderr=None, last=b"\n179 passed, 0 failed (one of the two programs is not proved)\n"),
         case("quickly, and it can't be compiled", ["--quick"], dict(whole, **{"tools/unproved.py": "exit 1"}), [], 1, stderr=None, last=b"0 passed, 1 failed\n"),
         case("quickly, with nothing to compile by", ["--quick"], tests, [], 2, stderr=no_rt, last=b""),
         case("planted bugs of two crates", ["--planted", "page_ring", "trace_hist"], whole, ["tests/planted page_ring trace_hist RT_JOBS= \n"], 0),

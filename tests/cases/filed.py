@@ -24,7 +24,7 @@ def differ_in(what, page, table):
 def files_are_listed():
     table = TABLE.read_text()
     rows, size = ROW.findall(table), int(re.search(r"FILES: \[.*; (\d+)\]", table)[1])
-    commands, mounted = PAGE.read_text().split("\n## Filters\n")[0].split("\n## Of a mount only\n")
+    commands, mounted = PAGE.read_text().split("\n## Filters\n")[0].split("\n### A `format` in a mount\n")[0].split("\n## Of a mount only\n")
     headings = [path for line in re.findall(r"^## (.*)$", commands, re.M) for path in line.split(", ")]
     items = [path for line in re.findall(r"^- (.*)$", mounted, re.M) for path in re.findall(r"`([^`]+)`", line.split(":")[0])]
     return (

@@ -1,7 +1,8 @@
 /* Reads of a trace copy what they show in their turn, and make the text of it while others have theirs. Four threads emit, each on a CPU of its own, and
  * another takes snapshots, while two read `trace`, the `trace` of a CPU and `snapshot`: each text has to be that of one moment. Its times rise. Of each
  * CPU it has numbers one after another, up to the newest that was written by then, and it has as many lines, and as many records were written, as its head
- * says. A read that comes after another shows no less. At the end all that was written is shown.
+ * says. A read that comes after another shows no less. At the end all that was written is shown. Where snapshots are taken, each exchanges two sides and
+ * clears none, so what a side shows has gaps, and the next read may show the other one: there times and numbers rise, and the lines are counted.
  *
  *   numbers of a CPU:  0 1 2 .. oldest kept .. newest
  *   head of `trace`:   the number of lines, and the sum of `newest + 1` */
@@ -65,8 +66,7 @@ static void *swap(void *unused) {
     return unused;
 }
 
-/* What a reader has seen of a file: of each CPU how many records were written by then. A file of an instance of which snapshots are taken counts from the
- * last one. */
+/* What a reader has seen of a file: of each CPU how many records were written by then; and whether it is of an instance of which snapshots are taken. */
 struct seen {
     const char *path;
     int is_swapped;
@@ -95,14 +95,15 @@ static void check_file(tracectl_thread *thread, struct seen *seen, char *text) {
         uint32_t cpu;
         int found = sscanf(start, "%*s [%" SCNu32 "] %" SCNu64 ": tick: n=%" SCNu64, &cpu, &time, &n);
         if (found != 3 || cpu >= CPUS) fail("%s: what is this: %.80s", seen->path, start);
-        if (next[cpu] != UINT64_MAX && n != next[cpu]) fail("%s: %" PRIu64 " in place of %" PRIu64, seen->path, n, next[cpu]);
+        int is_right = next[cpu] == UINT64_MAX || n == next[cpu] || (seen->is_swapped && n > next[cpu]);
+        if (!is_right) fail("%s: %" PRIu64 " in place of %" PRIu64, seen->path, n, next[cpu]);
         if (lines && time <= before) fail("%s: times don't rise: %.80s", seen->path, start);
         next[cpu] = n + 1;
         before = time;
     }
     for (int cpu = 0; cpu < CPUS; cpu++) {
         if (next[cpu] == UINT64_MAX) continue;
-        if (next[cpu] < seen->written[cpu]) fail("%s: %" PRIu64 " after %" PRIu64, seen->path, next[cpu], seen->written[cpu]);
+        if (next[cpu] < seen->written[cpu] && !seen->is_swapped) fail("%s: %" PRIu64 " after %" PRIu64, seen->path, next[cpu], seen->written[cpu]);
         written += seen->written[cpu] = next[cpu];
     }
     if (head && (kept != lines || (!seen->is_swapped && told != written))) fail("%s: %" PRIu64 "/%" PRIu64 " in place of %s", seen->path, lines, written, head);

@@ -192,7 +192,7 @@ def other_versions():
         made = Session(folder)
         got = replayed(made.file, version=OTHER)
         assert got == (5, b"", ("tracectl-mount: %s was recorded by %s; this is %s\n" % (made.file, VERSION, OTHER)).encode()), got
-        assert replayed(made.file, version="tracectl-mount 0.4.0, proved").status == 5
+        assert replayed(made.file, version="tracectl-mount 0.5.0, proved").status == 5
         for words, version in ((["--any-version"], OTHER), ([], VERSION.replace("proved", "unproved")), ([], "tracectl-mount 0.4.0, unproved")):
             got = replayed(made.file, *words, version=version)
             assert got.status == 0 and b": as recorded; " in got.stdout and not got.stderr, got
