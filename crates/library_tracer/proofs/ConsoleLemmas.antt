@@ -32,7 +32,7 @@ use Rattle.library_tracer.specs.declared.queued.Queued.{Queued}
 
 -- ---- by fields
 
-abbrev terms_in : Inside → SharedTerms
+abbrev pub terms_in : Inside → SharedTerms
 terms_in i = terms_of (arc_value i.tracer)
 
 -- a console whose caller knows this
@@ -54,7 +54,7 @@ pub idle_is : (i : Inside) (caller : Caller) → i.idle ≡ Some caller → IsSo
 idle_is i caller e sound =
     ap (λ o. seen (record i { idle = o })) e ∙ ap (λ q. seen (record i { idle = Some caller; queued = q })) (not_in_line i caller e sound)
 
-still_idle : (i : Inside) (caller next : Caller) → i.idle ≡ Some caller → IsSound i → seen (record i { idle = Some next }) ≡ knowing i (known_by next) false
+pub still_idle : (i : Inside) (caller next : Caller) → i.idle ≡ Some caller → IsSound i → seen (record i { idle = Some next }) ≡ knowing i (known_by next) false
 still_idle i caller next e sound = ap (λ q. seen (record i { idle = Some next; queued = q })) (not_in_line i caller e sound)
 
 -- and one that is in line is not idle
@@ -65,7 +65,7 @@ not_idle i queued e sound = by i.idle sound.one
     by None one = refl
     by (Some caller) one = let none : i.queued ≡ None = one refl in absurd (cc)
 
-line_is : (i : Inside) (queued : Queued) → i.queued ≡ Some queued → IsSound i → seen i ≡ knowing i (known_in queued) true
+pub line_is : (i : Inside) (queued : Queued) → i.queued ≡ Some queued → IsSound i → seen i ≡ knowing i (known_in queued) true
 line_is i queued e sound =
     ap (λ q. seen (record i { queued = q })) e ∙ ap (λ o. seen (record i { idle = o; queued = Some queued })) (not_idle i queued e sound)
 
@@ -73,14 +73,14 @@ still_in_line : (i : Inside) (queued next : Queued) → i.queued ≡ Some queued
 still_in_line i queued next e sound = ap (λ o. seen (record i { idle = o; queued = Some next })) (not_idle i queued e sound)
 
 -- the numbers of the tracer that a caller knows
-idle_base : (i : Inside) (caller : Caller) → i.idle ≡ Some caller → IsSound i → (caller_view caller).base ≡ numbers_of (terms_in i)
+pub idle_base : (i : Inside) (caller : Caller) → i.idle ≡ Some caller → IsSound i → (caller_view caller).base ≡ numbers_of (terms_in i)
 idle_base i caller e sound = by i.idle e sound.idle
   where
     by : (idle : Option Caller) → idle ≡ Some caller → IfSome idle (IsCallerOf (arc_value i.tracer)) → (caller_view caller).base ≡ numbers_of (terms_in i)
     by None e of = absurd (cc)
     by (Some other) e of = let same : other ≡ caller = cc in subst (λ c. (caller_view c).base ≡ numbers_of (terms_in i)) same of.asks.base
 
-line_base : (i : Inside) (queued : Queued) → i.queued ≡ Some queued → IsSound i → (line_view queued.line).base ≡ numbers_of (terms_in i)
+pub line_base : (i : Inside) (queued : Queued) → i.queued ≡ Some queued → IsSound i → (line_view queued.line).base ≡ numbers_of (terms_in i)
 line_base i queued e sound = by i.queued e sound.in_line
   where
     by : (was : Option Queued) → was ≡ Some queued → IfSome was (λ queued. IsInLineOf (arc_value i.tracer) queued.line)

@@ -1,5 +1,6 @@
 pub mod ConsoleLemmas
 pub mod ReadLemmas
+pub mod ShownLemmas
 pub mod FilesLemmas
 pub mod LeavingLemmas
 pub mod WordLemmas

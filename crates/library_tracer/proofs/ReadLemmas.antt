@@ -1,5 +1,5 @@
 -- What a try of a read leaves of a console.
-use Rattle.std.proofs.Common.{◌≡◌, inl, inr, ℕ, Bool, true, List, Option, Some, None, Result, Ok, Err, refl, ap, subst, ◌∙◌}
+use Rattle.std.proofs.Common.{◌≡◌, ◌⊎◌, inl, inr, ℕ, Bool, true, List, Option, Some, None, Result, Ok, Err, refl, ap, subst, ◌∙◌}
 use Rattle.refusal_explanations.specs.Words.{command_words}
 use Rattle.trace_command.specs.Paths.{address_of}
 use Rattle.trace_command.specs.Requests.{Request, request_of}

@@ -5,6 +5,7 @@ use Rattle.shared_mount.specs.MountCallers.{caller_view, line_view, terms_of, Is
 use Rattle.shared_mount.specs.declared.caller.Caller.{Caller}
 use Rattle.library_tracer.specs.ConsolesSeen.{ConsoleSeen, Known}
 use Rattle.library_tracer.specs.Sentences.{words_of}
+use Rattle.library_tracer.specs.ShownReplies.{IsShownTo}
 use Rattle.library_tracer.specs.declared.console.Console.TheInside.{Inside}
 use Rattle.library_tracer.specs.declared.last.Last.{Last}
 use Rattle.library_tracer.specs.declared.queued.Queued.{Queued}
@@ -37,8 +38,9 @@ seen c = record {
   words = words_in c.last;
 }
 
--- The caller is one of its tracer's, and idle or in line.
+-- The caller is one of its tracer's, and idle or in line. A text that is kept was shown after turns that it has seen.
 pub record IsSound (c : Inside) : Type 0 where
   pub idle : IfSome c.idle (IsCallerOf (arc_value c.tracer))
   pub in_line : IfSome c.queued (λ queued. IsInLineOf (arc_value c.tracer) queued.line)
   pub one : IsSome c.idle → c.queued ≡ None
+  pub shown : IfSome c.shown (IsShownTo (seen c))

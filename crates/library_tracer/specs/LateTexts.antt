@@ -16,7 +16,7 @@ use Rattle.library_tracer.specs.Consoles.{Comes, says}
 use Rattle.library_tracer.specs.ConsolesSeen.{ConsoleSeen, Known}
 use Rattle.library_tracer.specs.Statuses.{status_of}
 use Rattle.library_tracer.specs.declared.console.Tried.{Tried}
-use Rattle.library_tracer.specs.declared.console.Tried.TheVariants.{Told}
+use Rattle.library_tracer.specs.declared.console.Tried.TheVariants.{Told, Busy}
 
 -- the file shows a trace, or that of one CPU, or the spare side
 abbrev pub shows_trace : Option File → Bool

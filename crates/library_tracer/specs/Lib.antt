@@ -11,6 +11,7 @@ pub mod Masks
 pub mod PassNames
 pub mod PassesSeen
 pub mod Sentences
+pub mod ShownReplies
 pub mod Statuses
 pub mod Tiled
 pub mod private

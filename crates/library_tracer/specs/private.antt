@@ -1,2 +1,3 @@
 -- Words of private functions and of proofs: no public clause cites them.
+pub mod MadeTexts
 pub mod Turns

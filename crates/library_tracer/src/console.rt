@@ -13,6 +13,7 @@ mod asking;
 mod copying;
 mod looking;
 mod serving;
+mod showing;
 
 ghost use Rattle.std.specs.Prelude.{◌≡◌, ◌⊎◌, [], false, true, Some, IsSome, IfOk, IfSome, IfNone};
 ghost use Rattle.std.specs.Arc.{arc_value};
@@ -28,6 +29,7 @@ ghost use Rattle.library_tracer.specs.Statuses.{offset_in, reply_in, status_of};
 use crate::last::Last;
 use crate::queued::Queued;
 use crate::status::{self, tell};
+use mount_replies::ShownText;
 use shared_mount::{Caller, InLine, NoTurn, Nothing, SharedMount};
 use std::alloc::{AllocError, Global};
 use std::marker::Model;
@@ -51,6 +53,9 @@ pub struct Console {
     last: Last,
     /// Where the tracer puts an answer that is more than that a call was done.
     answer: Result<Reply, Refusal>,
+    /// The number of the kernel's request for which a trace was looked for, until the request is served, and the text that was made for it, if it wants one.
+    looked: Option<u64>,
+    shown: Option<ShownText>,
 }
 
 impl Drop for Console {
@@ -63,6 +68,8 @@ impl Drop for Console {
             queued: _,
             last: _,
             answer: _,
+            looked: _,
+            shown: _,
         } = self;
     }
 }
@@ -112,6 +119,8 @@ impl Console {
                 words: "",
             },
             answer: Ok(Reply::Done),
+            looked: None,
+            shown: None,
         }
     }
 
@@ -202,6 +211,7 @@ impl Console {
         if self.queued.is_some() {
             return self.leave_line();
         }
+        forget(&mut self.shown);
         mem::replace(&mut self.idle, None)
     }
 
@@ -213,7 +223,10 @@ impl Console {
         ensures busy { IfNone result (self.new ≡ self.old) }
     {
         match self.look_in_line(&Nothing) {
-            Some(_) => mem::replace(&mut self.idle, None),
+            Some(_) => {
+                forget(&mut self.shown);
+                mem::replace(&mut self.idle, None)
+            }
             None => None,
         }
     }
@@ -233,4 +246,12 @@ fn line_up(queued: &mut Option<Queued>, line: InLine)
     ensures { queued.new ≡ Some (record { line = line }) }
 {
     *queued = Some(Queued { line });
+}
+
+/// Drops a text that is kept for a request.
+#[inline(always)]
+fn forget(shown: &mut Option<ShownText>)
+    ensures { shown.new ≡ None }
+{
+    *shown = None;
 }

@@ -5,3 +5,4 @@ pub mod ReplyLemmas
 pub mod ThreadLemmas
 pub mod TracerLemmas
 pub mod ValueLemmas
+pub mod ServedTries

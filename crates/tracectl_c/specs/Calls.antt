@@ -12,7 +12,7 @@ use Rattle.trace_script.specs.declared.outcome.Outcome.TheVariants.{Refused}
 use Rattle.mount_replies.specs.declared.mount.Owners.{Owners}
 use Rattle.shared_mount.specs.declared.served.Served.{Served}
 use Rattle.shared_mount.specs.declared.served.Served.TheVariants.{Done, NotNow}
-use Rattle.library_tracer.specs.Consoles.{Comes, HasLeft, IsBusy, IsWornOut, LacksMemory, Looks, Said, ServesOnce, Tells, TellsWaiting, said_values, says}
+use Rattle.library_tracer.specs.Consoles.{Comes, HasLeft, IsBusy, IsWornOut, LacksMemory, Looks, Said, Tells, TellsWaiting, said_values, says}
 use Rattle.library_tracer.specs.ConsolesSeen.{ConsoleSeen, Known}
 use Rattle.library_tracer.specs.Masks.{IsMaskOf, Masks}
 use Rattle.library_tracer.specs.PassesSeen.{HasBack, HasTaken, NoneIsThere, PassesSeen}
@@ -196,14 +196,15 @@ pub record IsNotTried (was now : List ℕ) (count owes this status : ℕ) : Type
   pub count_none : count ≡ 0
   pub reply_same : now ≡ was
 
--- One try that serves a request of some bytes, unless something is owed; or, with no bytes, that tells something that is owed, unless nothing is. 203 of a
--- thread that has not joined, and 23 where memory for the reply is refused: nothing changes.
-abbrev pub TriesServing : List ℕ → Bool → Option ConsoleSeen → Option ConsoleSeen → List ℕ → List ℕ → ℕ → ℕ → ℕ → Type 0
-TriesServing asked owed None after was now count owes status = (after ≡ None) × IsNotTried was now count owes 203 status
-TriesServing asked owed (Some before) None was now count owes status = ⊥
-TriesServing asked owed (Some before) (Some after) was now count owes status =
+-- One try that serves, of whose bytes `serves` says what the console's try of it comes to. 203 of a thread that has not joined, and 23 where memory for the
+-- reply is refused: nothing changes.
+abbrev pub TriesServing : (List ℕ → ConsoleSeen → ConsoleSeen → Option (Result Served Refusal) → Type 0) → Option ConsoleSeen → Option ConsoleSeen
+    → List ℕ → List ℕ → ℕ → ℕ → ℕ → Type 0
+TriesServing serves None after was now count owes status = (after ≡ None) × IsNotTried was now count owes 203 status
+TriesServing serves (Some before) None was now count owes status = ⊥
+TriesServing serves (Some before) (Some after) was now count owes status =
     ((after ≡ before) × IsNotTried was now count owes 23 status)
-    ⊎ ((bytes : List ℕ) × (tried : Option (Result Served Refusal)) × ServesOnce asked bytes owed before after tried
+    ⊎ ((bytes : List ℕ) × (tried : Option (Result Served Refusal)) × serves bytes before after tried
     × IsToldServed tried bytes was now count owes status)
 
 -- the status where a request without bytes is to be served: 4, or 203 of a thread that has not joined

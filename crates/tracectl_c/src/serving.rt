@@ -1,6 +1,8 @@
 //! What the thread asks that serves a mount: a request of the kernel answered, and what is owed told. Each is one try.
 
-ghost use Rattle.std.specs.Prelude.{◌≡◌, ◌≢◌, false, true, []};
+ghost use Rattle.std.specs.Prelude.{◌≡◌, ◌≢◌, false, []};
+ghost use Rattle.library_tracer.specs.Consoles.{ServesOnce};
+ghost use Rattle.library_tracer.specs.ShownReplies.{Answers};
 ghost use Rattle.tracectl_c.specs.Calls.{IsNotTried, IsToldServed, TriesServing, status_of_empty};
 ghost use Rattle.tracectl_c.specs.Handles.{console_of};
 
@@ -47,7 +49,7 @@ pub extern "C" fn tracectl_try_answer(
     owes: &mut u32,
 ) -> u32
     ensures serves { request.now ≢ []
-        → TriesServing request.now true (console_of thread.old) (console_of thread.new) reply.old reply.new reply_length.new owes.new result }
+        → TriesServing (Answers request.now) (console_of thread.old) (console_of thread.new) reply.old reply.new reply_length.new owes.new result }
     ensures empty { request.now ≡ [] → (console_of thread.new ≡ console_of thread.old)
         × IsNotTried reply.old reply.new reply_length.new owes.new (status_of_empty (console_of thread.old)) result }
 {
@@ -78,7 +80,7 @@ pub extern "C" fn tracectl_try_tell(
     reply_length: &mut usize,
     owes: &mut u32,
 ) -> u32
-    ensures { TriesServing [] false (console_of thread.old) (console_of thread.new) reply.old reply.new reply_length.new owes.new result }
+    ensures { TriesServing (λ bytes. ServesOnce [] bytes false) (console_of thread.old) (console_of thread.new) reply.old reply.new reply_length.new owes.new result }
 {
     *reply_length = 0;
     *owes = 0;

@@ -11,7 +11,7 @@ ghost use Rattle.library_tracer.specs.Masks.{Masks};
 ghost use Rattle.library_tracer.specs.private.Turns.{HadNoTurn, IsSeenNow};
 ghost use Rattle.library_tracer.specs.Sentences.{told_words};
 
-use super::{Console, NO_MEMORY, Tried, line_up, settle};
+use super::{Console, NO_MEMORY, Tried, forget, line_up, settle};
 use crate::fields::{lone_pair, pairs};
 use crate::looks::Wanted;
 use crate::mask::Mask;
@@ -105,6 +105,7 @@ impl Console {
         ensures looked { IfSome result.1 (IsSeenNow (IsToldOf self.old.terms (L.tells look.now)) self.new result.0) }
         ensures unlooked { IfNone result.1 (HadNoTurn self.new result.0) }
     {
+        forget(&mut self.shown);
         let Some(caller) = mem::replace(&mut self.idle, None) else {
             return self.ask_in_line(asked, look);
         };
@@ -168,6 +169,7 @@ impl Console {
         ensures looked { IfSome result.1 (IsSeenNow (IsToldOf self.old.terms (L.tells look.now)) self.new result.0) }
         ensures unlooked { IfNone result.1 (HadNoTurn self.new result.0) }
     {
+        forget(&mut self.shown);
         let Some(queued) = mem::replace(&mut self.queued, None) else {
             return (Tried::Busy, None);
         };

@@ -20,7 +20,7 @@ ghost use Rattle.library_tracer.specs.LateTexts.{MayLoseText, Reads, shows_trace
 ghost use Rattle.library_tracer.specs.Sentences.{answer_words};
 ghost use Rattle.library_tracer.specs.Statuses.{status_of};
 
-use super::{Console, Tried, line_up, settle};
+use super::{Console, Tried, forget, line_up, settle};
 use crate::last::Last;
 use crate::status::tell;
 use refusal_explanations::command_words;
@@ -53,6 +53,7 @@ impl Console {
         ensures comes { Reads path.now None self.old self.new result }
         ensures has { IsSome self.new.has }
     {
+        forget(&mut self.shown);
         match mem::replace(&mut self.idle, None) {
             Some(caller) => match self.tracer.try_copy(caller, path, None) {
                 Ok((caller, answer, owes)) => {
@@ -84,6 +85,7 @@ impl Console {
         ensures comes { Reads path.now None self.old self.new result }
         ensures has { IsSome self.new.has }
     {
+        forget(&mut self.shown);
         let Some(queued) = mem::replace(&mut self.queued, None) else {
             return Tried::Busy;
         };

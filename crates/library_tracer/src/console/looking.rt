@@ -6,7 +6,7 @@ ghost use Rattle.shared_mount.specs.MountCallers.{IsToldOf};
 ghost use Rattle.library_tracer.specs.Consoles.{Lists, Looks, TellsWaiting};
 ghost use Rattle.library_tracer.specs.Masks.{IsMaskOf};
 
-use super::{ALL_DRAWN, Console, NO_MEMORY, Tried, line_up, settle};
+use super::{ALL_DRAWN, Console, NO_MEMORY, Tried, forget, line_up, settle};
 use crate::looks::{Files, Waiting, Wanted};
 use crate::mask::Mask;
 use shared_mount::{Look, NoTurn};
@@ -63,6 +63,7 @@ impl Console {
         ensures in_line { self.old.is_in_line ≡ true → IfSome result (λ seen. IsOk seen) }
         ensures waits { self.old.is_in_line ≡ true → IfNone result (self.new ≡ self.old) }
     {
+        forget(&mut self.shown);
         match mem::replace(&mut self.idle, None) {
             Some(caller) => match self.tracer.try_look(caller, look) {
                 Ok((caller, answer)) => {
@@ -90,6 +91,7 @@ impl Console {
         ensures in_line { IfSome result (λ seen. IsOk seen) }
         ensures waits { IfNone result (self.new ≡ self.old) }
     {
+        forget(&mut self.shown);
         let queued = mem::replace(&mut self.queued, None)?;
         match self.tracer.look_in_line(queued.into_line(), look) {
             Ok((caller, answer)) => {

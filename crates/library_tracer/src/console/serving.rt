@@ -4,15 +4,18 @@ ghost use Rattle.std.specs.Prelude.{◌≡◌, ◌≢◌, ◌≤◌, [], vec_cap
 ghost use Rattle.mount_replies.specs.Mounted.{most_reply};
 ghost use Rattle.library_tracer.specs.Consoles.{ServesOnce};
 
-use super::{Console, line_up, settle};
+use super::{Console, forget, line_up, settle};
 use shared_mount::{NoTurn, Served};
 use std::mem;
 use trace_command::Refusal;
 
 impl Console {
-    /// Serves a request of the mount, as the kernel wrote it, in one try: `reply`, which is empty and has the room, gets the bytes of its reply, none if it
-    /// has none or waits. Where something is owed, nothing is done. It keeps what the last call came to.
-    pub fn answer(&mut self, request: &[u8], reply: &mut Vec<u8>) -> Option<Result<Served, Refusal>>
+    /// As `answer`, of no text that was made beside the turns.
+    pub(super) fn answer_as_ever(
+        &mut self,
+        request: &[u8],
+        reply: &mut Vec<u8>,
+    ) -> Option<Result<Served, Refusal>>
         requires has { IsSome self.old.has }
         requires room { most_reply ≤ vec_capacity reply.old }
         requires empty { reply.old.items ≡ [] }
@@ -21,6 +24,7 @@ impl Console {
         ensures has { IsSome self.new.has }
         ensures capacity { vec_capacity reply.old ≤ vec_capacity reply.new }
     {
+        forget(&mut self.shown);
         match mem::replace(&mut self.idle, None) {
             Some(caller) => match self.tracer.try_answer(caller, request, reply) {
                 Ok((caller, served)) => {
@@ -40,7 +44,7 @@ impl Console {
         }
     }
 
-    // As `answer`, of a caller that is in line.
+    // As `answer_as_ever`, of a caller that is in line.
     fn answer_in_line(
         &mut self,
         request: &[u8],
@@ -54,6 +58,7 @@ impl Console {
         ensures has { IsSome self.new.has }
         ensures capacity { vec_capacity reply.old ≤ vec_capacity reply.new }
     {
+        forget(&mut self.shown);
         let queued = mem::replace(&mut self.queued, None)?;
         match self
             .tracer
@@ -80,6 +85,7 @@ impl Console {
         ensures has { IsSome self.new.has }
         ensures capacity { vec_capacity reply.old ≤ vec_capacity reply.new }
     {
+        forget(&mut self.shown);
         match mem::replace(&mut self.idle, None) {
             Some(caller) => match self.tracer.try_tell(caller, reply) {
                 Ok((caller, served)) => {
@@ -108,6 +114,7 @@ impl Console {
         ensures has { IsSome self.new.has }
         ensures capacity { vec_capacity reply.old ≤ vec_capacity reply.new }
     {
+        forget(&mut self.shown);
         let queued = mem::replace(&mut self.queued, None)?;
         match self.tracer.tell_in_line(queued.into_line(), reply) {
             Ok((caller, served)) => {

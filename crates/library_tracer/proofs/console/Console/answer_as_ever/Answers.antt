@@ -1,6 +1,6 @@
 use Rattle.std.proofs.Common.{true, refl, sym, ◌∙◌}
 use Rattle.library_tracer.proofs.ConsoleLemmas.{idle_busy, idle_served, idle_worn}
-use Rattle.library_tracer.proofs.console.Console.answer.Goals as goal
+use Rattle.library_tracer.proofs.console.Console.answer_as_ever.Goals as goal
 
 pub returns-in-Err-Busy-clause-serves : goal.returns-in-Err-Busy-clause-serves
 returns-in-Err-Busy-clause-serves c =
