@@ -3,8 +3,9 @@
  *   program emit FOLDER THREADS SECONDS   threads emit as fast as they can. Prints events a second of all, and, of each 64th emission, nanoseconds: the
  *                                         middle, 99 of 100, 99.99 of 100, the longest
  *   program paced FOLDER RATE SECONDS     four threads emit so many a second together. Prints how many they were
- *   program held COUNT                    reads files as a kernel asks for them so many times each, with full rings. Prints of each nanoseconds of the
- *                                         thread's processor clock: the middle, the longest
+ *   program held PAGES COUNT              reads files as a kernel asks for them so many times each, with full rings of so many pages. Prints of each, in
+ *                                         nanoseconds, how long another thread that tries again and again found the tracer taken: the middle, the
+ *                                         longest; and of what the read took, by its thread's processor clock, the middle
  *
  * The first two say `ready`, wait for a line, and once they are done for the end of standard input, with the mount still there. */
 #define _GNU_SOURCE
@@ -140,6 +141,23 @@ static int emit_paced(char **words) {
 
 static char request[4096], reply[MOST];
 static uint64_t last;
+static uint64_t held; /* the longest time that the tracer was found taken */
+static int is_over;
+
+/* Tries to have a turn again and again, and notes how long it got none. */
+static void *probe(void *unused) {
+    tracectl_thread own = TRACECTL_LEFT;
+    if (tracectl_join(&tracer, &own)) exit(1);
+    for (uint64_t had = tracectl_now(); !__atomic_load_n(&is_over, __ATOMIC_RELAXED); had = tracectl_now()) {
+        struct tracectl_mask mask;
+        if (tracectl_try_wanted(&own.seat->console, &mask) != TRACECTL_TRY_BUSY) continue;
+        while (tracectl_try_wanted(&own.seat->console, &mask) == TRACECTL_TRY_BUSY) {}
+        uint64_t took = tracectl_now() - had;
+        if (took > __atomic_load_n(&held, __ATOMIC_RELAXED)) __atomic_store_n(&held, took, __ATOMIC_RELAXED);
+    }
+    tracectl_leave(&own);
+    return unused;
+}
 
 static uint64_t processor_time(void) {
     struct timespec time;
@@ -152,18 +170,20 @@ static uint64_t served(uint32_t opcode, uint64_t node, const void *body, size_t 
     struct { uint32_t length, opcode; uint64_t unique, node; uint32_t uid, gid, pid, padding; } head = {
         (uint32_t)(sizeof head + length), opcode, last += 2, node, 0, 0, 7, 0};
     size_t reply_length = 0;
-    uint32_t owes = 0;
+    uint32_t owes = 0, tries = 0, status;
     memcpy(request, &head, sizeof head);
     memcpy(request + sizeof head, body, length);
     uint64_t begun = processor_time();
-    if (tracectl_try_answer(&thread.seat->console, request, sizeof head + length, reply, sizeof reply, &reply_length, &owes)) exit(1);
+    while ((status = tracectl_try_answer(&thread.seat->console, request, sizeof head + length, reply, sizeof reply, &reply_length, &owes)))
+        if (status != TRACECTL_TRY_BUSY) exit(1);
+        else tracectl_wait(&thread.seat->console, ++tries);
     uint64_t took = processor_time() - begun;
     if (reply_length >= 24) memcpy(told, reply + 16, sizeof *told);
     return took;
 }
 
-/* How long the first read of an open file takes, which makes its text, or takes its records. */
-static uint32_t time_of_read(const char *path) {
+/* How long the first read of an open file takes, which makes its text, or takes its records; and for how long it holds the tracer. */
+static uint32_t time_of_read(const char *path, uint32_t *held_for) {
     struct { uint64_t handle, offset; uint32_t size, read_flags; uint64_t owner; uint32_t flags, padding; } read = {0, 0, 131072, 2, 1, 0, 0};
     uint32_t open[2] = {0, 0};
     uint64_t node = 1, unused;
@@ -173,32 +193,45 @@ static uint32_t time_of_read(const char *path) {
         served(1, node, name, strlen(name) + 1, &node);
     }
     served(14, node, open, sizeof open, &read.handle);
+    __atomic_store_n(&held, 0, __ATOMIC_RELAXED);
     uint64_t took = served(15, node, &read, sizeof read, &unused), release[3] = {read.handle, 0, 0};
+    *held_for = (uint32_t)__atomic_load_n(&held, __ATOMIC_RELAXED);
     served(18, node, release, sizeof release, &unused);
     return (uint32_t)took;
 }
 
+/* Emits so many events on each CPU that its ring is full, of as many different numbers as a histogram has entries. */
+static int filled(uint32_t pages) {
+    for (uint32_t each = 0; each < pages * 700; each++) {
+        tracectl_value value = tracectl_unsigned(each % ENTRIES);
+        if (tracectl_emit_values(&thread, TICK, each % 4, 7, &value, 1)) return 0;
+    }
+    return 1;
+}
+
 static int time_reads(char **words) {
     static const char *const FILES[] = {"trace", "per_cpu/cpu0/trace", "trace_pipe", "per_cpu/cpu0/stats", "events/synthetic/tick/hist", "snapshot"};
-    int count = atoi(words[0]);
-    uint32_t *times = malloc((size_t)count * sizeof *times);
-    if (!times || count < 1 || !opened(16) || !line("echo 'hist:keys=n:size=2048' > events/synthetic/tick/trigger")) return 1;
+    uint32_t pages = (uint32_t)atoi(words[0]);
+    int count = atoi(words[1]);
+    pthread_t prober;
+    uint32_t *times = malloc((size_t)count * sizeof *times), *holds = malloc((size_t)count * sizeof *holds);
+    if (!times || !holds || count < 1 || !opened(pages) || !line("echo 'hist:keys=n:size=2048' > events/synthetic/tick/trigger")) return 1;
+    if (pthread_create(&prober, NULL, probe, NULL)) return 1;
     for (size_t file = 0; file < sizeof FILES / sizeof *FILES; file++) {
         for (int i = 0; i < count; i++) {
-            for (uint32_t each = 0; each < ENTRIES * 6; each++) {
-                tracectl_value value = tracectl_unsigned(each % ENTRIES);
-                if (tracectl_emit_values(&thread, TICK, each % 4, 7, &value, 1)) return 1;
-            }
-            times[i] = time_of_read(FILES[file]);
+            if (!filled(pages)) return 1;
+            times[i] = time_of_read(FILES[file], &holds[i]);
         }
         qsort(times, (size_t)count, sizeof *times, is_less);
-        printf("%s %u %u\n", FILES[file], times[count / 2], times[count - 1]);
+        qsort(holds, (size_t)count, sizeof *holds, is_less);
+        printf("%s %u %u %u\n", FILES[file], holds[count / 2], holds[count - 1], times[count / 2]);
     }
-    return 0;
+    __atomic_store_n(&is_over, 1, __ATOMIC_RELAXED);
+    return pthread_join(prober, NULL);
 }
 
 int main(int count, char **words) {
     if (count == 5 && !strcmp(words[1], "emit")) return emit_fast(words + 2);
     if (count == 5 && !strcmp(words[1], "paced")) return emit_paced(words + 2);
-    return count == 3 && !strcmp(words[1], "held") ? time_reads(words + 2) : 2;
+    return count == 4 && !strcmp(words[1], "held") ? time_reads(words + 2) : 2;
 }

@@ -22,7 +22,12 @@ static int is_ready;
 
 /* ---- Trying again. ---- */
 
-enum { FIRST_PAUSES = 8, DOUBLINGS = 8, MOST_PAUSES = FIRST_PAUSES << DOUBLINGS, TRIES_OUT_OF_LINE = 1000, TRIES_BEFORE_YIELDING = 2000 };
+enum { FIRST_PAUSES = 8, DOUBLINGS = 8, MOST_PAUSES = FIRST_PAUSES << DOUBLINGS };
+enum { TRIES_OUT_OF_LINE = 12, MOST_TRIES_OUT_OF_LINE = 1000, TRIES_BEFORE_YIELDING = 1000, LONG_IN_LINE = 20000, LATE_WAITS = 1000 };
+
+/* How many more waits get in line late, since one in line was long: a thread before it was not running, as where more threads are at work than there are
+ * processors. Then a line makes all wait for that one, while out of line whoever runs goes on. */
+static uint32_t late_waits;
 
 static void pause_so_often(uint32_t count) {
     for (uint32_t i = 0; i < count; i++) {
@@ -34,16 +39,29 @@ static void pause_so_often(uint32_t count) {
     }
 }
 
+/* Whether it is time to get in line after this try: soon, so that no wait is much longer than others, unless lines are slow now. A mount's server gets there
+ * late, so that threads which emit go before it while they fight for turns. */
+static int is_to_line_up(const struct tracectl_seat *seat, uint32_t tries) {
+    if (tries < TRIES_OUT_OF_LINE || tries >= MOST_TRIES_OUT_OF_LINE) return tries >= MOST_TRIES_OUT_OF_LINE;
+    uint32_t late = __atomic_load_n(&late_waits, __ATOMIC_RELAXED);
+    if (late && tries == TRIES_OUT_OF_LINE) __atomic_store_n(&late_waits, late - 1, __ATOMIC_RELAXED);
+    return !late && !seat->is_server;
+}
+
 /* Out of line each failure doubles the pauses, so that whoever has the tracer does several calls in a row, and its memory goes from core to core less
  * often. In line all others wait for this thread once its ticket is served, so it looks without a pause, and lets others run after a while. */
 void tracectl_wait(struct tracectl_console *console, uint32_t tries) {
-    if (tries < TRIES_OUT_OF_LINE) {
+    struct tracectl_seat *seat = (struct tracectl_seat *)console; /* which begins with it */
+    if (tries == 1) seat->lined_up = 0;
+    if (!seat->lined_up && is_to_line_up(seat, tries)) seat->lined_up = tries;
+    if (!seat->lined_up) {
         pause_so_often(tries <= DOUBLINGS ? FIRST_PAUSES << (tries - 1) : MOST_PAUSES);
         if (tries > DOUBLINGS) sched_yield(); /* whoever has the tracer is perhaps not running */
         return;
     }
     tracectl_try_line_up(console); /* which may come to nothing, and changes nothing once it is in line */
-    if (tries >= TRIES_BEFORE_YIELDING) sched_yield();
+    if (tries - seat->lined_up >= TRIES_BEFORE_YIELDING) sched_yield();
+    if (tries - seat->lined_up >= LONG_IN_LINE) __atomic_store_n(&late_waits, LATE_WAITS, __ATOMIC_RELAXED);
 }
 
 /* ---- Which events are wanted. ---- */

@@ -92,6 +92,8 @@ struct tracectl_seat {
     tracectl *tracer;
     struct tracectl_seat *next; /* of the same thread, in another tracer */
     int32_t thread;
+    uint32_t is_server; /* of a mount */
+    uint32_t lined_up;  /* while it waits for its turn: after which try it got in line, or 0 */
 };
 
 /* A thread's handle. Its field belongs to the library. */
@@ -260,7 +262,7 @@ TRACECTL_FUNCTION void tracectl_end(const tracectl_thread *thread) {
     thread->seat->in_call = 0;
 }
 
-/* Waits a little after this try, the so-many-th that came to nothing. Who tried a thousand times gets in line, where its turn is sure to come. */
+/* Waits a little after this try, the so-many-th that came to nothing, of a seat's console. Who tried often gets in line, where its turn is sure to come. */
 void tracectl_wait(struct tracectl_console *console, uint32_t tries);
 
 /* Wakes the server of a tracer's mount, if there is one and nobody has since it last looked: by one write. */

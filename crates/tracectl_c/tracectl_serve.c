@@ -273,6 +273,7 @@ void *tracectl_serve(void *mounted) {
     int is_joined = !mount->status;
     sem_post(&mount->is_ready);
     if (is_joined && !tracectl_begin(&mount->thread)) {
+        mount->thread.seat->is_server = 1;
         serve(mount);
         tracectl_close_device(mount);
         leave_nothing(mount);
