@@ -4,6 +4,8 @@ ghost use Rattle.std.specs.Prelude.{◌≡◌, slice_index};
 ghost use Rattle.trace_record.specs.Record.{timestamp};
 ghost use Rattle.trace_buffer.specs.private.Nexts.{sooner_of};
 
+use trace_record::HEAD_SIZE;
+
 /// A CPU, and the timestamp of the first record that its ring keeps.
 #[derive(Clone, Copy)]
 pub(crate) struct Next {
@@ -30,10 +32,9 @@ fn byte_at(rec: &[u8], at: usize) -> u8
     rec.get(at).copied().unwrap_or(0)
 }
 
-/// When a record was written. Unlike `trace_record::timestamp` it takes bytes of any length, and reads zeros where there are none, since a
-/// list of kept records doesn't tell that each has a head.
+// The same of fewer bytes than a record's head has.
 #[tactic(auto, unfolding(trace_record::specs::Record::timestamp))]
-pub(crate) fn time_of(rec: &[u8]) -> u64
+fn time_of_few(rec: &[u8]) -> u64
     ensures { result ≡ timestamp rec.now }
 {
     u64::from_le_bytes([
@@ -46,4 +47,16 @@ pub(crate) fn time_of(rec: &[u8]) -> u64
         byte_at(rec, 6),
         byte_at(rec, 7),
     ])
+}
+
+/// When a record was written. Unlike `trace_record::timestamp` it takes bytes of any length, and reads zeros where there are none, since a
+/// list of kept records doesn't tell that each has a head.
+#[inline]
+pub(crate) fn time_of(rec: &[u8]) -> u64
+    ensures { result ≡ timestamp rec.now }
+{
+    if rec.len() >= HEAD_SIZE {
+        return trace_record::timestamp(rec);
+    }
+    time_of_few(rec)
 }
