@@ -23,7 +23,8 @@ static int is_ready;
 /* ---- Trying again. ---- */
 
 enum { FIRST_PAUSES = 8, DOUBLINGS = 8, MOST_PAUSES = FIRST_PAUSES << DOUBLINGS };
-enum { TRIES_OUT_OF_LINE = 12, MOST_TRIES_OUT_OF_LINE = 1000, TRIES_BEFORE_YIELDING = 1000, LONG_IN_LINE = 20000, LATE_WAITS = 1000 };
+enum { TRIES_OUT_OF_LINE = 12, SERVERS_TRIES_OUT_OF_LINE = 100, MOST_TRIES_OUT_OF_LINE = 1000 };
+enum { TRIES_BEFORE_YIELDING = 1000, LONG_IN_LINE = 20000, LATE_WAITS = 1000 };
 
 /* How many more waits get in line late, since one in line was long: a thread before it was not running, as where more threads are at work than there are
  * processors. Then a line makes all wait for that one, while out of line whoever runs goes on. */
@@ -40,12 +41,12 @@ static void pause_so_often(uint32_t count) {
 }
 
 /* Whether it is time to get in line after this try: soon, so that no wait is much longer than others, unless lines are slow now. A mount's server gets there
- * late, so that threads which emit go before it while they fight for turns. */
+ * later, so that threads which emit go before it while they fight for turns. */
 static int is_to_line_up(const struct tracectl_seat *seat, uint32_t tries) {
     if (tries < TRIES_OUT_OF_LINE || tries >= MOST_TRIES_OUT_OF_LINE) return tries >= MOST_TRIES_OUT_OF_LINE;
     uint32_t late = __atomic_load_n(&late_waits, __ATOMIC_RELAXED);
     if (late && tries == TRIES_OUT_OF_LINE) __atomic_store_n(&late_waits, late - 1, __ATOMIC_RELAXED);
-    return !late && !seat->is_server;
+    return !late && (!seat->is_server || tries >= SERVERS_TRIES_OUT_OF_LINE);
 }
 
 /* Out of line each failure doubles the pauses, so that whoever has the tracer does several calls in a row, and its memory goes from core to core less
