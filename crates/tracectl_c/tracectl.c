@@ -4,7 +4,7 @@
  * A tracer's handle is used under one lock of the process: threads join and leave seldom. What calls do to the tracer they do under the lock of the proved
  * part, of which each makes one try. */
 #define _GNU_SOURCE
-#define TRACECTL_FUNCTION
+#define TRACECTL_FUNCTION extern inline /* without `inline`, -fPIC lets no function of this file be inlined in another */
 #include "tracectl_mounted.h"
 
 #include <errno.h>
@@ -76,6 +76,19 @@ void tracectl_take_mask(tracectl *tracer, const struct tracectl_mask *mask) {
         __atomic_store_n(&tracer->mask.events, mask->events, __ATOMIC_RELEASE);
     }
     __atomic_store_n(&tracer->mask_lock, 0, __ATOMIC_RELEASE);
+}
+
+/* A CPU's number is divided only where it has to be: that takes as long as ten other instructions. */
+extern inline tracectl_place tracectl_here(const tracectl_thread *thread) {
+    const struct tracectl_seat *seat = thread->seat;
+    tracectl_place place = {0, 0};
+    if (seat) {
+        int cpu = sched_getcpu();
+        place.cpu = cpu < 0 ? 0 : (uint32_t)cpu;
+        if (place.cpu >= seat->tracer->cpus) place.cpu %= seat->tracer->cpus;
+        place.thread = seat->thread;
+    }
+    return place;
 }
 
 uint32_t tracectl_emit_here(tracectl_thread *thread, uint32_t event, const tracectl_value *values, size_t count) {
@@ -262,16 +275,6 @@ uint32_t tracectl_leave(tracectl_thread *thread) {
     thread->seat = NULL;
     free(seat);
     return TRACECTL_DONE;
-}
-
-tracectl_place tracectl_here(const tracectl_thread *thread) {
-    tracectl_place place = {0, 0};
-    if (thread->seat) {
-        int cpu = sched_getcpu();
-        place.cpu = cpu < 0 ? 0 : (uint32_t)cpu % thread->seat->tracer->cpus;
-        place.thread = thread->seat->thread;
-    }
-    return place;
 }
 
 /* ---- Names of statuses. ---- */

@@ -26,6 +26,7 @@
 #include <errno.h>
 #include <fcntl.h>
 #include <pthread.h>
+#include <sched.h>
 #include <stdarg.h>
 #include <stdint.h>
 #include <stdio.h>
@@ -92,13 +93,63 @@ static const char SHOWN_BY_DEFAULT[] = "events/synthetic/malloc/hist";
 static int state;
 static tracectl tracer = TRACECTL_CLOSED;
 static pthread_key_t key; /* of threads that have joined */
-static struct {
-    _Alignas(64) uint64_t mallocs, frees, untraced;
-} counts;
 
 OF_THREAD tracectl_thread handle;
 OF_THREAD int inside; /* a call within another one is the tracer's own */
 OF_THREAD int has_ended;
+
+/* ---- How many calls were traced. Each thread counts its own, so that none waits for another. ---- */
+
+struct counts {
+    uint64_t of[FREE + 1]; /* of each event */
+    struct counts *next;
+};
+
+OF_THREAD struct counts own;
+static struct counts *of_threads; /* that have joined */
+static uint64_t of_ended[FREE + 1];
+static uint64_t untraced;
+static int counts_lock;
+
+static void lock_counts(void) {
+    while (__atomic_exchange_n(&counts_lock, 1, __ATOMIC_ACQUIRE)) sched_yield();
+}
+
+static void unlock_counts(void) {
+    __atomic_store_n(&counts_lock, 0, __ATOMIC_RELEASE);
+}
+
+static void begin_counts(void) {
+    lock_counts();
+    own.next = of_threads;
+    of_threads = &own;
+    unlock_counts();
+}
+
+static void end_counts(void) {
+    lock_counts();
+    struct counts **at = &of_threads;
+    while (*at && *at != &own) at = &(*at)->next;
+    if (*at) *at = own.next;
+    for (int event = 0; event <= FREE; event++) of_ended[event] += own.of[event];
+    unlock_counts();
+}
+
+/* A report of another thread may read the count meanwhile. */
+static inline void count_call(uint32_t event) {
+    __atomic_store_n(&own.of[event], own.of[event] + 1, __ATOMIC_RELAXED);
+}
+
+/* The calls of all threads. */
+static uint64_t count_of(uint32_t event) {
+    lock_counts();
+    uint64_t count = of_ended[event];
+    for (struct counts *each = of_threads; each; each = each->next) count += __atomic_load_n(&each->of[event], __ATOMIC_RELAXED);
+    unlock_counts();
+    return count;
+}
+
+/* ---- Threads that join, and the tracer that is opened. ---- */
 
 static void tell(const char *format, ...) {
     char line[5000];
@@ -114,6 +165,7 @@ static void leave(void *joined) {
     (void)joined;
     inside = 1;
     has_ended = 1;
+    end_counts();
     tracectl_leave(&handle);
     inside = 0;
 }
@@ -122,9 +174,12 @@ static void leave(void *joined) {
 static int is_joined(void) {
     if (handle.seat) return 1;
     if (has_ended || tracectl_join(&tracer, &handle)) return 0;
-    if (!pthread_setspecific(key, &handle)) return 1;
-    tracectl_leave(&handle);
-    return 0;
+    if (pthread_setspecific(key, &handle)) {
+        tracectl_leave(&handle);
+        return 0;
+    }
+    begin_counts();
+    return 1;
 }
 
 static void stop_in_child(void) {
@@ -171,44 +226,48 @@ static void begin(void) {
     __atomic_store_n(&state, is_on ? ON : OFF, __ATOMIC_RELEASE);
 }
 
-/* Whether a call may be emitted. If so, `inside` is set. */
-static inline int may_emit(void) {
+/* Joins for the first call of a thread. If it can't, the call is not traced. */
+static int joins(void) {
+    inside = 1;
+    int has_joined = is_joined();
+    inside = 0;
+    if (!has_joined) __atomic_fetch_add(&untraced, 1, __ATOMIC_RELAXED);
+    return has_joined;
+}
+
+/* Whether a call is to be emitted. Most calls of an event that nobody wants do no more than this. */
+static inline int is_emitted(uint32_t event) {
     if (__builtin_expect(inside, 0)) return 0;
     if (__builtin_expect(__atomic_load_n(&state, __ATOMIC_ACQUIRE) != ON, 0)) {
         if (state == OFF) return 0;
         begin();
         if (state != ON) return 0;
     }
-    inside = 1;
-    if (__builtin_expect(!handle.seat, 0) && !is_joined()) {
-        inside = 0;
-        __atomic_fetch_add(&counts.untraced, 1, __ATOMIC_RELAXED);
-        return 0;
-    }
-    return 1;
+    if (__builtin_expect(!handle.seat, 0) && !joins()) return 0;
+    return tracectl_is_wanted(&handle, event);
 }
 
-/* Ends it, and counts it if it was made. */
-static inline void emitted(uint32_t event, uint64_t *count, const tracectl_value *values, size_t length) {
-    if (tracectl_is_wanted(&handle, event)) {
-        int error = errno;
-        __atomic_fetch_add(tracectl_emit_here(&handle, event, values, length) ? &counts.untraced : count, 1, __ATOMIC_RELAXED);
-        errno = error;
-    }
+/* Emits a call, and counts it. */
+static inline void emit(uint32_t event, const tracectl_value *values, size_t length) {
+    int error = errno;
+    inside = 1;
+    if (tracectl_emit_here(&handle, event, values, length)) __atomic_fetch_add(&untraced, 1, __ATOMIC_RELAXED);
+    else count_call(event);
     inside = 0;
+    errno = error;
 }
 
 static inline void emit_malloc(const void *call_site, size_t bytes, const void *block, const void *old) {
-    if (!may_emit()) return;
+    if (!is_emitted(MALLOC)) return;
     const tracectl_value values[] = {tracectl_unsigned((uintptr_t)call_site), tracectl_unsigned(bytes), tracectl_unsigned((uintptr_t)block),
                                      tracectl_unsigned((uintptr_t)old)};
-    emitted(MALLOC, &counts.mallocs, values, 4);
+    emit(MALLOC, values, 4);
 }
 
-static inline void emit_free(const void *call_site, const void *block) {
-    if (!may_emit()) return;
+/* Apart from `free`, most calls of which do not come here. */
+static __attribute__((noinline)) void emit_free(const void *call_site, const void *block) {
     const tracectl_value values[] = {tracectl_unsigned((uintptr_t)call_site), tracectl_unsigned((uintptr_t)block)};
-    emitted(FREE, &counts.frees, values, 2);
+    emit(FREE, values, 2);
 }
 
 /* ---- The functions in place of the C library's. ---- */
@@ -246,7 +305,7 @@ EXPORTED void *realloc(void *old, size_t bytes) {
 EXPORTED void free(void *block) {
     if (__builtin_expect(is_early(block), 0)) return;
     if (__builtin_expect(!next.free, 0)) begin();
-    emit_free(HERE, block);
+    if (is_emitted(FREE)) emit_free(HERE, block);
     if (next.free) next.free(block);
 }
 
@@ -300,13 +359,13 @@ static void write_report(void *unused) {
     const char *report = setting(REPORT, ""), *shown = setting(SHOWN, SHOWN_BY_DEFAULT);
     if (state != ON || inside || !*report) return;
     inside = 1;
-    uint64_t mallocs = counts.mallocs, frees = counts.frees, untraced = counts.untraced;
+    unsigned long long mallocs = count_of(MALLOC), frees = count_of(FREE), others = __atomic_load_n(&untraced, __ATOMIC_RELAXED);
     int file = open(report, O_WRONLY | O_CREAT | O_TRUNC | O_CLOEXEC, 0666);
     if (file < 0) {
         tell("trace-malloc: %s: %s\n", report, strerror(errno));
         return;
     }
-    dprintf(file, "malloc: %llu\nfree: %llu\nnot traced: %llu\n", (unsigned long long)mallocs, (unsigned long long)frees, (unsigned long long)untraced);
+    dprintf(file, "malloc: %llu\nfree: %llu\nnot traced: %llu\n", mallocs, frees, others);
     uint32_t status = is_joined() ? tracectl_read(&handle, shown, strlen(shown)) : TRACECTL_NO_PASS_LEFT;
     size_t length = status ? 0 : tracectl_reply_length(&handle);
     char *text = mapped(length + 1);
