@@ -5,3 +5,4 @@ pub mod PageLemmas
 pub mod FormatLemmas
 pub mod LayoutLemmas
 pub mod RowLemmas
+pub mod FillingLemmas

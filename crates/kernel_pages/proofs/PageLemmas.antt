@@ -1,10 +1,10 @@
 -- What is read of a page, and how long it is.
-use Rattle.std.proofs.Common.{◌≡◌, ℕ, ◌+◌, ◌-◌, ◌*◌, ◌/◌, ◌%◌, ◌^◌, ◌<◌, ◌≤◌, ◌==◌, Bool, if◌then◌else◌, true, false, List, [], ◌∷◌, ◌++◌, length, take, drop, replicate, map, Some, None, IfSome, refl, sym, ap, ◌∙◌, arith, lit<, length-append}
+use Rattle.std.proofs.Common.{◌≡◌, ℕ, ◌+◌, ◌-◌, ◌*◌, ◌/◌, ◌%◌, ◌^◌, ◌<◌, ◌≤◌, ◌==◌, Bool, if◌then◌else◌, true, false, List, [], ◌∷◌, ◌++◌, length, take, drop, replicate, map, Some, None, IfSome, refl, sym, ap, ◌∙◌, arith, lit<, append_assoc, length-append}
 use Rattle.std.specs.Prelude.{slice_get}
 use Rattle.std.specs.Int.{w64, to_le_bytes}
 use Rattle.std.specs.List.{AllByRecursion}
 use Rattle.std.proofs.lemmas.Bool.Decides.{nat_tests}
-use Rattle.std.proofs.lemmas.List.{take_at, drop_at, drop-drop, length-replicate}
+use Rattle.std.proofs.lemmas.List.{take_all, take_at, drop_at, drop-drop, length-replicate}
 use Rattle.std.proofs.lemmas.Nat.{from_le_bytes-to_le_bytes_8}
 use Rattle.trace_record.specs.Record.{number_at}
 use Rattle.kernel_pages.specs.declared.page_row.PageRow.{PageRow}
@@ -89,6 +89,33 @@ page_has_its_size rows page =
     let zeros : List ℕ = replicate (4080 - (length events + length lost)) 0 in
     let room = page.room in
     omega (arith, length-append events (lost ++ zeros), length-append lost zeros, length-replicate {A = ℕ} (4080 - (length events + length lost)) 0)
+
+-- the bytes of a page, written one part after another, and filled up with zeros
+pub page_filled : (rows : List PageRow) (time lost commit count : ℕ) (events p0 p1 p2 p3 p4 page : List ℕ) → first_time rows ≡ time → lost_before rows ≡ lost
+    → events_of rows ≡ events → length events + length (lost_bytes lost) ≤ 4080 → p0 ≡ [] → p1 ≡ p0 ++ to_le_bytes w64 time
+    → commit ≡ commit_of (length events) lost → p2 ≡ p1 ++ to_le_bytes w64 commit → p3 ≡ p2 ++ events → p4 ≡ p3 ++ lost_bytes lost → count ≡ length p4
+    → page ≡ take 4096 p4 ++ replicate (4096 - count) 0 → page ≡ page_of rows
+unfolding page_of
+page_filled rows time lost commit count events p0 p1 p2 p3 p4 page starts before are room e0 e1 commits e2 e3 e4 counted is =
+    let told = to_le_bytes w64 (commit_of (length events) lost) in
+    let all : p4 ≡ ((to_le_bytes w64 time ++ told) ++ events) ++ lost_bytes lost =
+    e4 ∙ ap (λ front. front ++ lost_bytes lost) (e3 ∙ ap (λ front. front ++ events)
+    (e2 ∙ (λ i. (e1 ∙ ap (λ front. front ++ to_le_bytes w64 time) e0) i ++ to_le_bytes w64 (commits i)))) in
+    let size : length p4 ≡ 16 + (length events + length (lost_bytes lost)) =
+    omega (arith, ap length all, length-append ((to_le_bytes w64 time ++ told) ++ events) (lost_bytes lost), length-append (to_le_bytes w64 time ++ told) events) in
+    let few : length p4 ≤ 4096 = omega arith in
+    let same : 4096 - count ≡ 4080 - (length events + length (lost_bytes lost)) = omega arith in
+    let zeros : List ℕ = replicate (4080 - (length events + length (lost_bytes lost))) 0 in
+    let regroup : (((to_le_bytes w64 time ++ told) ++ events) ++ lost_bytes lost) ++ zeros ≡ to_le_bytes w64 time ++ (told ++ (events ++ (lost_bytes lost ++ zeros))) =
+    append_assoc ((to_le_bytes w64 time ++ told) ++ events) (lost_bytes lost) zeros
+    ∙ append_assoc (to_le_bytes w64 time ++ told) events (lost_bytes lost ++ zeros)
+    ∙ append_assoc (to_le_bytes w64 time) told (events ++ (lost_bytes lost ++ zeros)) in
+    is
+    ∙ (λ i. take_all 4096 p4 few i ++ replicate (same i) 0)
+    ∙ ap (λ front. front ++ zeros) all
+    ∙ regroup
+    ∙ (λ i. to_le_bytes w64 (sym starts i) ++ (to_le_bytes w64 (commit_of (length (sym are i)) (sym before i))
+    ++ (sym are i ++ (lost_bytes (sym before i) ++ replicate (4080 - (length (sym are i) + length (lost_bytes (sym before i)))) 0))))
 
 pub row_fits : RowFits
 row_fits row few =

@@ -51,7 +51,7 @@ room_left-some room delta left bytes e =
     let same : room - size ≡ left = cc (tests.1) in
     omega (arith, length-event_bytes delta bytes)
 
-room_left-fits : (room delta : ℕ) (bytes : List ℕ) → length (event_bytes delta bytes) ≤ room → room_left room delta (length bytes) ≡ Some (room - length (event_bytes delta bytes))
+pub room_left-fits : (room delta : ℕ) (bytes : List ℕ) → length (event_bytes delta bytes) ≤ room → room_left room delta (length bytes) ≡ Some (room - length (event_bytes delta bytes))
 unfolding room_left
 room_left-fits room delta bytes fits =
     let size = event_head_size delta (length bytes) + length bytes in

@@ -9,7 +9,9 @@ use Rattle.trace_format.specs.Kinds.{size_of}
 use Rattle.trace_format.specs.Definitions.{Definition, IsDefinition}
 use Rattle.trace_format.specs.Cells.{Cells, Datum, IsRowOf, field_bytes, payload_of}
 use Rattle.record_text.specs.Laws.{IsHeadOf, IsValueBehind}
-use Rattle.kernel_pages.specs.Rows.{row_of}
+use Rattle.trace_buffer.specs.Families.{CpuReading}
+use Rattle.kernel_pages.specs.Pages.{IsOnePage}
+use Rattle.kernel_pages.specs.Rows.{row_of, rows_of}
 use Rattle.kernel_pages.specs.KernelFormats.{kernel_id, alignment, start_of, end_of, record_data, field_line, field_lines, common_lines, id_text, own_text, format_text}
 
 -- where fields end
@@ -72,3 +74,7 @@ FitPage fields = (head : Head) (payload : List ℕ) → length (record_data head
 -- a record of any event that can be declared fits a page
 abbrev pub EventFitsPage : Type 0
 EventFitsPage = (definition : Definition) → IsDefinition definition → length definition.fields ≤ 16 → FitPage definition.fields
+
+-- a page tells at most 340 records, whatever they are: each takes 12 bytes or more
+abbrev pub PageHasFewRecords : Type 0
+PageHasFewRecords = (events : List Definition) (readings : List CpuReading) → IsOnePage (rows_of events readings) → length readings ≤ 340

@@ -44,7 +44,7 @@ fn push_extend(out: &mut Vec<u8>, delta: u64) -> Result<(), AllocError>
 
 /// Appends data with a time extend before them where their delta needs one.
 #[tactic(auto, unfolding(crate::specs::Pages::event_bytes))]
-fn push_event(out: &mut Vec<u8>, delta: u64, bytes: &[u8]) -> Result<(), AllocError>
+pub(crate) fn push_event(out: &mut Vec<u8>, delta: u64, bytes: &[u8]) -> Result<(), AllocError>
     requires delta { delta < 2 ^ 59 }
     requires size { length bytes.now ≤ 4080 }
     ensures { OnOk result (out.new.items ≡ out.old.items ++ pages.event_bytes delta bytes.now) }

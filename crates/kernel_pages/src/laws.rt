@@ -18,6 +18,11 @@ pub fn page_has_few_rows()
     ensures { laws.PageHasFewRows }
 {}
 
+/// No page tells more than 340 records of a ring, so whoever gives it so many has left out none that fits.
+pub fn page_has_few_records()
+    ensures { formats.PageHasFewRecords }
+{}
+
 /// Each row of at most 4,056 bytes of data fits a page, so a page takes one row at least.
 pub fn row_fits()
     ensures { laws.RowFits }

@@ -1,14 +1,14 @@
 //! A ring's binary page.
 
-ghost use Rattle.std.specs.Prelude.{◌≡◌, ℕ, ◌≤◌, ◌<◌, ◌++◌, take, length, slice_get, IfOk, IfSome, OnOk};
+ghost use Rattle.std.specs.Prelude.{◌≡◌, ℕ, ◌≤◌, ◌<◌, ◌+◌, ◌++◌, take, length, slice_get, List, IfOk, IfSome, OnOk};
 ghost use Rattle.std.specs.Int.{w64, to_le_bytes};
 ghost use Rattle.kernel_pages.specs.Pages as pages;
 ghost use Rattle.kernel_pages.specs.Taking.{taken_of};
+ghost use Rattle.kernel_pages.specs.declared.page_row.PageRow.{PageRow};
 
 use crate::event::push_events;
 use crate::page_row::PageRow;
-use crate::room::{ROOM, count_taken, lost_size};
-use crate::zeros::push_zeros;
+use crate::room::{ROOM, count_taken};
 use std::alloc::{AllocError, Global};
 use trace_format::Text;
 
@@ -79,23 +79,36 @@ fn commit_of(size: usize, lost: u64) -> u64
     }
 }
 
-/// The page of rows that are one page.
+/// The page of events, the first of them at a time, and so many records lost before it.
 #[tactic(auto, unfolding(crate::specs::Pages::page_of))]
+pub(crate) fn page_with(
+    alloc: Global,
+    time: u64,
+    lost: u64,
+    events: &[u8],
+) -> Result<Vec<u8>, AllocError>
+    requires { length events.now + length (pages.lost_bytes lost) ≤ 4080 }
+    ensures { (rows : List PageRow) → pages.first_time rows ≡ time → pages.lost_before rows ≡ lost
+        → pages.events_of rows ≡ events.now → IfOk result (λ page. page.items ≡ pages.page_of rows) }
+{
+    let mut page = Vec::with_capacity(alloc, PAGE_SIZE)?;
+    push_number(&mut page, time)?;
+    push_number(&mut page, commit_of(events.len(), lost))?;
+    page.extend_from_slice(events)?;
+    push_lost(&mut page, lost)?;
+    page.resize(PAGE_SIZE, 0)?;
+    Ok(page)
+}
+
+/// The page of rows that are one page.
 fn page_of(alloc: Global, rows: &[PageRow]) -> Result<Vec<u8>, AllocError>
     requires { pages.IsOnePage rows.now }
     ensures { IfOk result (λ page. page.items ≡ pages.page_of rows.now) }
 {
     let time = first_time(rows);
-    let lost = lost_before(rows);
     let mut events = Vec::with_capacity(alloc, ROOM)?;
     push_events(&mut events, time, rows)?;
-    let mut page = Vec::with_capacity(alloc, PAGE_SIZE)?;
-    push_number(&mut page, time)?;
-    push_number(&mut page, commit_of(events.len(), lost))?;
-    page.extend_from_slice(&events)?;
-    push_lost(&mut page, lost)?;
-    push_zeros(&mut page, ROOM - events.len() - lost_size(lost))?;
-    Ok(page)
+    page_with(alloc, time, lost_before(rows), &events)
 }
 
 /// The page of the first rows, of as many as one page can tell; with no row an empty page. The rest are for the pages after it, so the number of

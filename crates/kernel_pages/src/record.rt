@@ -27,10 +27,9 @@ pub(crate) fn kernel_id(number: u16) -> u32
 fn push_common(out: &mut Vec<u8>, head: &Head) -> Result<(), AllocError>
     ensures { OnOk result (out.new.items ≡ out.old.items ++ formats.common_data head.now) }
 {
-    let id = (kernel_id(head.event) % (1 << 16)) as u16;
-    out.extend_from_slice(&id.to_le_bytes())?;
-    out.extend_from_slice(&[0, 0])?;
-    out.extend_from_slice(&head.pid.to_le_bytes())
+    let id = ((kernel_id(head.event) % (1 << 16)) as u16).to_le_bytes();
+    let pid = head.pid.to_le_bytes();
+    out.extend_from_slice(&[id[0], id[1], 0, 0, pid[0], pid[1], pid[2], pid[3]])
 }
 
 /// What follows so many bytes.
@@ -55,22 +54,6 @@ fn push_fields(out: &mut Vec<u8>, fields: &[Field], payload: &[u8]) -> Result<()
         at = start + size as u128;
     }
     push_zeros(out, (end_of_record(at) - at) as usize)
-}
-
-/// The bytes of a record of fields.
-#[tactic(auto, unfolding(crate::specs::KernelFormats::record_data))]
-fn record_data(
-    alloc: Global,
-    head: &Head,
-    fields: &[Field],
-    payload: &[u8],
-) -> Result<Vec<u8>, AllocError>
-    ensures { IfOk result (λ bytes. bytes.items ≡ formats.record_data head.now fields.now payload.now) }
-{
-    let mut bytes = Vec::new(alloc);
-    push_common(&mut bytes, head)?;
-    push_fields(&mut bytes, fields, payload)?;
-    Ok(bytes)
 }
 
 /// The head of a record, all 0 where the bytes are too few for one.
@@ -99,11 +82,28 @@ fn fields_of(catalog: &Catalog, number: u16) -> &[Field]
     }
 }
 
+/// Writes the data of a record of a ring, with nothing before them, and returns when it was written.
+#[tactic(auto, unfolding(crate::specs::Rows::data_of, crate::specs::KernelFormats::record_data))]
+pub(crate) fn write_data(
+    catalog: &Catalog,
+    rec: &[u8],
+    out: &mut Vec<u8>,
+) -> Result<u64, AllocError>
+    ensures time { IfOk result (λ time. time ≡ (rows.head_in rec.now).ts) }
+    ensures data { OnOk result (out.new.items ≡ rows.data_of catalog.now rec.now) }
+    ensures fits { OnOk result (length out.new.items ≤ 4056) }
+{
+    let head = head_in(rec);
+    out.clear();
+    push_common(out, &head)?;
+    push_fields(out, fields_of(catalog, head.event), payload_in(&head, rec))?;
+    Ok(head.ts)
+}
+
 /// What a page tells of a record of a ring before which so many were lost.
 ///
 /// A record in a ring has a head that names an event of the catalog, and is a row of that event. Bytes that are no such record are told likewise,
 /// with zeros for what they lack.
-#[tactic(auto, unfolding(crate::specs::Rows::data_of))]
 pub fn row_of_record(
     alloc: Global,
     catalog: &Catalog,
@@ -114,15 +114,10 @@ pub fn row_of_record(
     ensures is_row { IfOk result IsPageRow }
     ensures fits { IfOk result (λ row. length row.bytes ≤ 4056) }
 {
-    let head = head_in(rec);
-    let bytes = record_data(
-        alloc,
-        &head,
-        fields_of(catalog, head.event),
-        payload_in(&head, rec),
-    )?;
+    let mut bytes = Vec::new(alloc);
+    let time = write_data(catalog, rec, &mut bytes)?;
     Ok(PageRow {
-        time: head.ts,
+        time,
         lost,
         bytes: Text::from(bytes),
     })

@@ -1,6 +1,6 @@
 //! How many rows a page has room for.
 
-ghost use Rattle.std.specs.Prelude.{◌≡◌, ◌≤◌, length};
+ghost use Rattle.std.specs.Prelude.{◌≡◌, ◌≤◌, ◌<◌, ◌-◌, ◌^◌, length, IfSome};
 ghost use Rattle.kernel_pages.specs.Pages.{lost_bytes};
 ghost use Rattle.kernel_pages.specs.Taking as taking;
 
@@ -18,6 +18,9 @@ const FIRST_UNTOLD: u64 = 1 << 59;
 /// The most bytes of data whose words an event's head counts.
 pub(crate) const MOST_SHORT: usize = 112;
 
+/// The most bytes of data that a record of a ring is told with.
+pub(crate) const MOST_DATA: usize = 4056;
+
 /// How many bytes an event has before its data.
 fn event_head_size(delta: u64, size: usize) -> usize
     ensures { result ≡ taking.event_head_size delta size }
@@ -29,7 +32,7 @@ fn event_head_size(delta: u64, size: usize) -> usize
 
 /// The room that data of a size leaves, if there is room for them.
 #[tactic(auto, unfolding(crate::specs::Taking::room_left))]
-fn room_left(room: usize, delta: u64, size: usize) -> Option<usize>
+pub(crate) fn room_left(room: usize, delta: u64, size: usize) -> Option<usize>
     ensures { result ≡ taking.room_left room delta size }
 {
     let left = room.checked_sub(size)?;
@@ -38,13 +41,20 @@ fn room_left(room: usize, delta: u64, size: usize) -> Option<usize>
 
 /// The room that a row leaves which follows a row of a time, if it can.
 #[tactic(auto, unfolding(crate::specs::Taking::room_after))]
-fn room_after(room: usize, time: u64, row: &PageRow) -> Option<usize>
-    ensures { result ≡ taking.room_after room time row.now }
+pub(crate) fn room_after(
+    room: usize,
+    last: u64,
+    lost: u64,
+    time: u64,
+    bytes: &[u8],
+) -> Option<usize>
+    ensures room { result ≡ taking.room_after room last (record { time = time; lost = lost; bytes = bytes.now }) }
+    ensures told { IfSome result (λ _. (last ≤ time) × (time - last < 2 ^ 59)) }
 {
-    if row.lost != 0 || row.time < time || row.time - time >= FIRST_UNTOLD {
+    if lost != 0 || time < last || time - last >= FIRST_UNTOLD {
         return None;
     }
-    room_left(room, row.time - time, row.bytes.as_bytes().len())
+    room_left(room, time - last, bytes.len())
 }
 
 /// How many rows can follow a row of a time, if so much room is left.
@@ -56,7 +66,7 @@ fn count_after(room: usize, time: u64, rows: &[PageRow]) -> usize
     let mut last = time;
     let mut count = 0;
     for row in rows {
-        match room_after(left, last, row) {
+        match room_after(left, last, row.lost, row.time, row.bytes.as_bytes()) {
             Some(room) => left = room,
             None => return count,
         }
