@@ -23,8 +23,9 @@ use Rattle.kernel_pages.specs.ReadPages.{read_page}
 use Rattle.kernel_pages.specs.Rows.{data_of, fields_of, head_in, row_of, rows_of}
 use Rattle.kernel_pages.specs.Taking.{room_after, room_left, taken_after, taken_of}
 use Rattle.kernel_pages.proofs.LayoutLemmas.{is_page_row}
-use Rattle.kernel_pages.proofs.PageLemmas.{page_has_its_size, page_is_read}
-use Rattle.kernel_pages.proofs.TakingLemmas.{taken_are_a_page}
+use Rattle.kernel_pages.proofs.PageLemmas.{page_has_its_size, page_is_read, row_fits}
+use Rattle.kernel_pages.proofs.RowLemmas.{page_has_few_records}
+use Rattle.kernel_pages.proofs.TakingLemmas.{page_is_all, taken_are_a_page}
 use Rattle.file_list.specs.FileKinds.{kind_of_file}
 use Rattle.file_list.specs.FileTable.{file_index}
 use Rattle.file_list.specs.declared.file.FileKind.{FileKind}
@@ -33,7 +34,7 @@ use Rattle.mount_tree.specs.Children.{is_there}
 use Rattle.mount_tree.specs.NodePaths.{owner_name}
 use Rattle.mount_tree.specs.declared.node.Owner.{Owner}
 use Rattle.mount_replies.specs.Mounted.{Does}
-use Rattle.mount_replies.specs.PageLaws.{FitWords, IsPageOrError, PageCacheGetsPages, PageReadsTake, PagesAreReadAsTaken, taken_rows}
+use Rattle.mount_replies.specs.PageLaws.{FitWords, IsPageOrError, PageCacheGetsPages, PageReadsTake, PagesAreReadAsTaken, PagesTakeAllThatFits, PagesTakeSome, taken_rows}
 use Rattle.mount_replies.specs.Pipes.{ends, is_dry, is_used_up}
 use Rattle.mount_replies.specs.RawPages.{next_count, next_page, next_rows, pipe_node}
 use Rattle.mount_replies.specs.Served.{given_records, is_cached, is_nonblocking, part_of, read_dry, read_file, read_kind, read_no_page, read_page as page_step, read_pages, read_raw, read_whole_page, step_of}
@@ -218,7 +219,7 @@ next-taken : (g : Terms) (s : Service) (owner : Owner) (cpu : ℕ)
     → take (next_count g s owner cpu) (next_rows g s owner cpu) ≡ taken_rows g s owner cpu (next_count g s owner cpu)
 next-taken g s owner cpu =
     let events = declared_events s.past in
-    first-rows (λ (r : CpuReading). row_of events r.lost r.rec) (on_cpu cpu) (next_count g s owner cpu) 510
+    first-rows (λ (r : CpuReading). row_of events r.lost r.rec) (on_cpu cpu) (next_count g s owner cpu) 340
     (cpu_readings g.config.pages g.config.page_bytes (rings g.config (owner_name (scene_of g s) owner) s.past) cpu)
     (taken-few (next_rows g s owner cpu))
 
@@ -242,3 +243,36 @@ pages_are_read_as_taken g s owner cpu rows are fit =
     let each : AllByRecursion IsPageRow rows =
     subst (AllByRecursion IsPageRow) (sym are) (page-rows (declared_events s.past) _ (subst FitWords are fit)) in
     ap (λ (r : List PageRow). read_page (page_of r)) taken ∙ page_is_read rows page each
+
+-- ---- what a page takes
+
+pub pages_take_all_that_fit : PagesTakeAllThatFits
+pages_take_all_that_fit g s owner cpu =
+    let events = declared_events s.past in
+    let row = λ (r : CpuReading). row_of events r.lost r.rec in
+    let readings = cpu_readings g.config.pages g.config.page_bytes (rings g.config (owner_name (scene_of g s) owner) s.past) cpu in
+    let next = next_rows g s owner cpu in
+    let few = taken-few next in
+    let size : (count : ℕ) → length (map row (map (on_cpu cpu) (take (min count (length readings)) readings))) ≡ min count (length readings) =
+    λ count.
+    let kept = take (min count (length readings)) readings in
+    omega (arith, length-map (map (on_cpu cpu) kept) row, length-map kept (on_cpu cpu), length-take (min count (length readings)) readings) in
+    record {
+      many = omega (arith, size (next_count g s owner cpu), size 340);
+      page = subst IsOnePage (next-taken g s owner cpu) (taken_are_a_page next);
+      longest = λ count page.
+          let many = min count (length readings) in
+          let three : length (map (on_cpu cpu) (take many readings)) ≤ 340 = page_has_few_records events (map (on_cpu cpu) (take many readings)) page in
+          let small : many ≤ 340 = omega (arith, length-map (take many readings) (on_cpu cpu), length-take many readings) in
+          let within : many ≤ length next = omega (arith, size 340) in
+          let same : min many (length readings) ≡ many = omega arith in
+          let first : take many next ≡ taken_rows g s owner cpu count =
+          first-rows row (on_cpu cpu) many 340 readings within ∙ ap (λ n. map row (map (on_cpu cpu) (take n readings))) same in
+          let all = page_is_all next many within (subst IsOnePage (sym first) page) in
+          omega (arith, size count);
+    }
+
+pub pages_take_some : PagesTakeSome
+pages_take_some g s owner cpu row one few =
+    let longest = (pages_take_all_that_fit g s owner cpu).longest 1 (subst IsOnePage (sym one) (row_fits row few)) in
+    omega (arith, ap length one)

@@ -1,5 +1,5 @@
 -- Binary pages, as theorems that speak of no program.
-use Rattle.std.specs.Prelude.{◌≡◌, ◌⊎◌, ⊤, ℕ, ◌^◌, ◌<◌, true, List, ◌∷◌, length, map, Option, Some}
+use Rattle.std.specs.Prelude.{◌≡◌, ◌⊎◌, ⊤, ℕ, ◌^◌, ◌<◌, ◌≤◌, true, List, [], ◌∷◌, length, map, Option, Some}
 use Rattle.std.specs.List.{AllByRecursion}
 use Rattle.fuse_wire.specs.declared.reply.Reply.{Reply}
 use Rattle.fuse_wire.specs.declared.reply.Reply.TheVariants as replies
@@ -9,7 +9,7 @@ use Rattle.tracer_specification.specs.Rings.{cpu_pipe_read, rings}
 use Rattle.tracer_specification.specs.Settings.{declared_events}
 use Rattle.kernel_pages.specs.declared.page_row.PageRow.{PageRow}
 use Rattle.kernel_pages.specs.Laws.{event_of}
-use Rattle.kernel_pages.specs.Pages.{lost_before}
+use Rattle.kernel_pages.specs.Pages.{lost_before, IsOnePage}
 use Rattle.kernel_pages.specs.ReadPages.{read_page}
 use Rattle.kernel_pages.specs.Rows.{rows_of}
 use Rattle.file_list.specs.FileKinds.{kind_of_file}
@@ -68,3 +68,19 @@ abbrev pub PagesAreReadAsTaken : Type 0
 PagesAreReadAsTaken =
     (g : Terms) (s : Service) (owner : Owner) (cpu : ℕ) (rows : List PageRow) → rows ≡ taken_rows g s owner cpu (next_count g s owner cpu) → FitWords rows
     → read_page (next_page g s owner cpu) ≡ record { events = map event_of rows; lost = Some (lost_before rows) }
+
+-- What is taken is the longest prefix of the records that wait which is one page: it is a page of so many records, and a take of more that would also be
+-- one page takes no more of them.
+pub record TakesLongestPage (g : Terms) (s : Service) (owner : Owner) (cpu : ℕ) : Type 0 where
+  pub many : length (taken_rows g s owner cpu (next_count g s owner cpu)) ≡ next_count g s owner cpu
+  pub page : IsOnePage (taken_rows g s owner cpu (next_count g s owner cpu))
+  pub longest : (count : ℕ) → IsOnePage (taken_rows g s owner cpu count) → length (taken_rows g s owner cpu count) ≤ next_count g s owner cpu
+
+abbrev pub PagesTakeAllThatFits : Type 0
+PagesTakeAllThatFits = (g : Terms) (s : Service) (owner : Owner) (cpu : ℕ) → TakesLongestPage g s owner cpu
+
+-- So where a record waits, one is taken at least, if its data fit a page, as those of any event that can be declared do.
+abbrev pub PagesTakeSome : Type 0
+PagesTakeSome =
+    (g : Terms) (s : Service) (owner : Owner) (cpu : ℕ) (row : PageRow) → taken_rows g s owner cpu 1 ≡ row ∷ [] → length row.bytes ≤ 4056
+    → 1 ≤ next_count g s owner cpu

@@ -16,11 +16,11 @@ use Rattle.mount_tree.specs.declared.node.Node.TheVariants as nodes
 use Rattle.mount_tree.specs.declared.node.Owner.{Owner}
 use Rattle.mount_replies.specs.Services.{OpenSeen, Service, Terms, scene_of}
 
--- the records that wait on a CPU, as many as a page may tell, as rows
+-- the records that wait on a CPU, as many as a page may tell, as rows: a page tells at most 340, since each takes 12 of its 4,080 bytes or more
 abbrev pub next_rows : Terms → Service → Owner → ℕ → List PageRow
 next_rows g s owner cpu =
     rows_of (declared_events s.past)
-    (cpu_pipe_read g.config cpu (Some 510) (rings g.config (owner_name (scene_of g s) owner) s.past)).taken
+    (cpu_pipe_read g.config cpu (Some 340) (rings g.config (owner_name (scene_of g s) owner) s.past)).taken
 
 -- as many of them as one page tells, and that page
 abbrev pub next_count : Terms → Service → Owner → ℕ → ℕ

@@ -6,7 +6,7 @@ ghost use Rattle.mount_replies.specs.ComputedSteps.{StepsAreComputed};
 ghost use Rattle.mount_replies.specs.EntryNumbers.{EntryNumbersDiffer, EntryNumbersName};
 ghost use Rattle.mount_replies.specs.MountExamples.{SessionsAreServed};
 ghost use Rattle.mount_replies.specs.MountLaws.{CutsDontMatter, LinesEndAtNewlines, NothingLeftIsAll, OthersFlushNothing, ReadsGoOn, StepsDoCommands, StreamsLoseNothing};
-ghost use Rattle.mount_replies.specs.PageLaws.{PageCacheGetsPages, PageReadsTake, PagesAreReadAsTaken};
+ghost use Rattle.mount_replies.specs.PageLaws.{PageCacheGetsPages, PageReadsTake, PagesAreReadAsTaken, PagesTakeAllThatFits, PagesTakeSome};
 ghost use Rattle.mount_replies.specs.PageTurns.{CachedReadsKeepNothing, NoPageIsLostOrToldTwice, PagesAreOfOneRead};
 ghost use Rattle.mount_replies.specs.ParkedLaws.{ClosedReadsTakeNothing, InterruptedReadsTakeNothing, NoPollWaitsForWhatIsThere, NoReadWaitsForWhatIsThere, NoRecordIsLostOrToldTwice, OldestIsAnsweredFirst, ParkedReadsArmPolls, ReadsAreAnsweredOnce, ReadsArmPolls, TakenTextIsGivenOrKept, TellingDoesOneCommandAtMost};
 ghost use Rattle.mount_replies.specs.PastLaws.{ErrorsAreOfInstances, LaterReadsGoOn, PastsAreDone, PastsFitTheirTypes, ReadsEndWithTheText, ReadsShowThePast, RemovedFilesAreMissing, ServedScenesAreSound, SizesAreLengths, StatsShowThePast, ToolReadsShowThePast, WritesAreCommands};
@@ -77,6 +77,13 @@ pub fn pages_show_what_is_taken()
     ensures whole { PageCacheGetsPages }
     ensures take { PageReadsTake }
     ensures read { PagesAreReadAsTaken }
+{}
+
+/// What is taken for a page is the longest prefix of the records that wait which is one page (`longest`): all that fit, and one at least where one waits whose
+/// data fit a page, as those of any event that can be declared do (`some`).
+pub fn pages_take_all_that_fits()
+    ensures longest { PagesTakeAllThatFits }
+    ensures some { PagesTakeSome }
 {}
 
 /// Where something waits, no read does that could take it, and no poll that is to be told of it, whenever nothing is owed, as where a request is answered;

@@ -23,8 +23,8 @@ use mount_tree::{File, Owner};
 use std::alloc::AllocError;
 use trace_command::CpuFile;
 
-/// The most records that a page tells.
-const MOST_ROWS: u64 = 510;
+/// The most records that a page tells (`kernel_pages::laws::page_has_few_records`).
+const MOST_ROWS: u64 = 340;
 
 impl Mount {
     /// READ of a CPU's binary pages.
