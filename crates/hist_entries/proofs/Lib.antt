@@ -1,5 +1,6 @@
 pub mod BucketLaws
 pub mod BucketLemmas
+pub mod Copying
 pub mod Filling
 pub mod Keys
 pub mod Numbers

@@ -5,7 +5,6 @@ use Rattle.std.specs.Map.{keys_of, values_of}
 use Rattle.std.specs.Cmp.Lexicographic.{pointwise}
 use Rattle.std.specs.Global.{Vec}
 use Rattle.std.proofs.lemmas.Bool.{cases_Bool, cond-true, cond-false}
-use Rattle.std.proofs.lemmas.List.{map-append}
 use Rattle.std.proofs.lemmas.Iterator.Adapters.{position_from-zero}
 use Rattle.std.proofs.lemmas.List.Quantifiers.{position-Some}
 use Rattle.trace_format.specs.Cells.{Datum}
@@ -17,8 +16,6 @@ use Rattle.indexmap.specs.IndexMap.{insert_entry, set_value_at}
 use Rattle.hist_entries.specs.HistEntries.{Entry, same_cell, same_key, is_among, added}
 use Rattle.hist_entries.specs.RowPlaces.{entry_keys}
 use Rattle.hist_entries.specs.KeptEntries.{datum_in, cells_in, entry_in, entries_in, empty_entry, AreCounted, counted_at}
-use Rattle.hist_entries.specs.declared.entry.HistRow.{HistRow}
-use Rattle.hist_entries.specs.PrintOrder.{row_in}
 use Rattle.hist_entries.specs.Numbers.{AreWithin}
 use Rattle.hist_entries.proofs.Keys.{key_decided}
 use Rattle.hist_entries.proofs.SumLaws.{within-more}
@@ -179,20 +176,11 @@ distinct-is (p ∷ pairs) h = (apart-is p.0 pairs h.0, distinct-is pairs h.1)
 
 -- ---- entries that are shown
 
-entries-more : (pairs : List (Vec KeyCell × Tally)) (i : ℕ) (pair : Vec KeyCell × Tally) → Some pair ≡ slice_get pairs i
+pub entries-more : (pairs : List (Vec KeyCell × Tally)) (i : ℕ) (pair : Vec KeyCell × Tally) → Some pair ≡ slice_get pairs i
     → take (suc i) (entries_in pairs) ≡ take i (entries_in pairs) ++ entry_in pair ∷ []
 entries-more [] i pair at = cc
 entries-more (p ∷ pairs) zero pair at = ap (λ (q : Vec KeyCell × Tally). entry_in q ∷ []) (sym (some_same at))
 entries-more (p ∷ pairs) (suc i) pair at = ap (λ l. entry_in p ∷ l) (entries-more pairs i pair at)
-
-pub rows-more : (pairs : List (Vec KeyCell × Tally)) (i : ℕ) (pair : Vec KeyCell × Tally) → Some pair ≡ slice_get pairs i
-    → (rows : List HistRow) (row : HistRow) (more : List HistRow) → map row_in rows ≡ take i (entries_in pairs) → row_in row ≡ entry_in pair
-    → more ≡ rows ++ row ∷ [] → map row_in more ≡ take (i + 1) (entries_in pairs)
-rows-more pairs i pair at rows row more built same e =
-    let next : suc i ≡ i + 1 = omega arith in
-    ap (map row_in) e ∙ map-append row_in rows (row ∷ []) ∙ ap (λ l. l ++ row_in row ∷ []) built
-    ∙ ap (λ (x : Entry). take i (entries_in pairs) ++ x ∷ []) same ∙ sym (entries-more pairs i pair at)
-    ∙ ap (λ n. take n (entries_in pairs)) next
 
 -- ---- a new entry
 

@@ -1,4 +1,6 @@
 pub mod Buckets
+pub mod EntriesCopies
+pub mod FlatCells
 pub mod HistEntries
 pub mod Hits
 pub mod KeptEntries

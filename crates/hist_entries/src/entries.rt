@@ -3,20 +3,17 @@
 ghost use Rattle.std.specs.Prelude.{◌≡◌, ℕ, ◌+◌, ◌<◌, ◌≤◌, ◌++◌, ◌∷◌, [], map, length, take, slice_get, Some, false, IsTrue, IfOk, IfSome, IfNone, OnOk, OnErr};
 ghost use Rattle.std.specs.List.{IsDistinct};
 ghost use Rattle.indexmap.specs.IndexMap.{spare};
-ghost use Rattle.trace_format.specs.Cells.{datum_of};
 ghost use Rattle.hist_entries.specs.Hits.{number_at};
 ghost use Rattle.hist_entries.specs.HistEntries.{is_among, same_cell, same_key};
 ghost use Rattle.hist_entries.specs.RowPlaces.{entry_keys, most_rows};
-ghost use Rattle.hist_entries.specs.PrintOrder as order;
 ghost use Rattle.hist_entries.specs.KeptEntries.{datum_in, datum_read, cells_in, entry_in, entries_in, empty_entry, AreCounted, key_of, counted_at};
 
 use crate::cell::key_cell;
-use crate::entry::HistRow;
-use crate::key_cell::{KeyCell, RowCell, borrowed, keep, value_of};
+use crate::key_cell::{KeyCell, RowCell, borrowed, keep};
 use crate::tally::Tally;
 use indexmap::IndexMap;
 use std::alloc::{AllocError, Global};
-use trace_format::{Emission, Key, Operand, Value};
+use trace_format::{Emission, Key, Operand};
 
 /// A key has the cells of the trigger's keys, in the order in which it names them.
 pub type Entries = IndexMap<Vec<KeyCell<'static>>, Tally>;
@@ -229,41 +226,4 @@ pub fn count_row(entries: &mut Entries, index: usize, operands: &[Operand], emis
         unreachable!()
     };
     tally.count(operands, emission);
-}
-
-/// The values of a kept key.
-fn values_of(alloc: Global, cells: &[KeyCell<'static>]) -> Result<Vec<Value>, AllocError>
-    ensures { IfOk result (λ values. map datum_of values.items ≡ map datum_in cells.now) }
-{
-    let mut values = Vec::with_capacity(alloc, cells.len())?;
-    for cell in cells {
-        values.push_reserved(value_of(alloc, cell)?);
-    }
-    Ok(values)
-}
-
-/// An entry, to be shown.
-fn row_of(alloc: Global, key: &Vec<KeyCell<'static>>, tally: &Tally) -> Result<HistRow, AllocError>
-    ensures { IfOk result (λ row. order.row_in row ≡ entry_in (key.now, tally.now)) }
-{
-    Ok(HistRow {
-        keys: values_of(alloc, key)?,
-        hitcount: tally.hitcount,
-        sums: Vec::from_slice(alloc, &tally.sums)?,
-    })
-}
-
-/// The first so many entries, in first-seen order.
-pub fn rows_of(alloc: Global, entries: &Entries, count: usize) -> Result<Vec<HistRow>, AllocError>
-    requires { count ≤ length entries.now.entries }
-    ensures { IfOk result (λ rows. map order.row_in rows.items ≡ take count (entries_in entries.now.entries)) }
-{
-    let mut rows = Vec::with_capacity(alloc, count)?;
-    for index in 0..count {
-        let Some((key, tally)) = entries.get_index(index) else {
-            unreachable!()
-        };
-        rows.push_reserved(row_of(alloc, key, tally)?);
-    }
-    Ok(rows)
 }

@@ -56,13 +56,3 @@ pub(crate) fn keep<'a>(alloc: Global, cell: RowCell<'a>) -> Result<KeyCell<'stat
         }
     }
 }
-
-/// The value of a cell.
-pub(crate) fn value_of<'a>(alloc: Global, cell: &KeyCell<'a>) -> Result<Value, AllocError>
-    ensures { IfOk result (λ value. datum_of value ≡ datum_in cell.now) }
-{
-    match cell {
-        KeyCell::Num(number) => Ok(Value::Num(*number)),
-        KeyCell::Text(bytes) => Ok(Value::Text(Vec::from_slice(alloc, bytes.as_slice())?)),
-    }
-}
