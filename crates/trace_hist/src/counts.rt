@@ -1,19 +1,17 @@
 //! What a histogram has counted: its entries and totals, and where the next row is counted.
 
-ghost use Rattle.std.specs.Prelude.{◌≡◌, ◌≢◌, ◌+◌, ◌<◌, false, length, map, IfOk, OnOk, OnErr};
+ghost use Rattle.std.specs.Prelude.{◌≡◌, ◌≢◌, ◌+◌, ◌<◌, false, length, IfOk, OnOk, OnErr};
 ghost use Rattle.hist_entries.specs.HistEntries.{is_among};
 ghost use Rattle.hist_entries.specs.RowPlaces.{In, IsPlaceOf, entry_keys, most_rows};
 ghost use Rattle.trace_hist.specs.TriggerHits.{hit_of};
-ghost use Rattle.hist_entries.specs.PrintOrder.{row_in, printed};
 ghost use Rattle.trace_hist.specs.private.Steps.{after_hit, none_kept};
 
-use crate::sort::entries_in_order;
 use crate::totals::Totals;
-use hist_entries::{EntryTable, HistRow, Next, count_row, shown_with};
+use hist_entries::{EntriesCopy, EntryTable, Next, copy_entries, count_row, shown_with};
 use std::alloc::{AllocError, Global};
 use std::marker::Model;
 use trace_format::Emission;
-use trace_trigger::{HistSpec, SortRule};
+use trace_trigger::HistSpec;
 
 /// The entries and totals of a histogram.
 #[derive(Drop)]
@@ -110,10 +108,10 @@ impl Counts {
         }
     }
 
-    /// The entries that are shown, in print order.
-    pub(crate) fn rows(&self, alloc: Global, rules: &[SortRule]) -> Result<Vec<HistRow>, AllocError>
-        ensures { IfOk result (λ shown. map row_in shown.items ≡ printed rules.now self.now.table.entries) }
+    /// A copy of the entries that are shown, in first-seen order.
+    pub(crate) fn copy_entries(&self, alloc: Global) -> Result<EntriesCopy, AllocError>
+        ensures { IfOk result (λ copy. copy ≡ self.now.table.entries) }
     {
-        entries_in_order(alloc, rules, &self.kept.entries, self.kept.shown)
+        copy_entries(alloc, &self.kept.entries, self.kept.shown)
     }
 }

@@ -32,15 +32,15 @@
 //!
 //! Sums have 128 bits. A row's number is from -2^63 to 2^64 - 1, and a histogram counts so few rows (`HasRoom`) that no sum overflows.
 
-ghost use Rattle.std.specs.Prelude.{◌≡◌, [], IsOk, IfOk, OnOk, OnErr, length, map, IsTrue, ◌↔◌, false, true};
+ghost use Rattle.std.specs.Prelude.{◌≡◌, [], IsOk, IfOk, OnOk, OnErr, length, IsTrue, ◌↔◌, false, true};
 ghost use Rattle.trace_trigger.specs.declared.spec.Action.TheVariants as actions;
-ghost use Rattle.hist_entries.specs.PrintOrder.{row_in, printed};
+ghost use Rattle.trace_hist.specs.HistCopies.{copied};
 ghost use Rattle.trace_hist.specs.Hists.{StandsFor, IsReserved, IsReservedAs, NeedsEntry, NeedsEntryAs, HasRoom, IsReservedFor, IsCountedFor};
 
 use crate::counts::Counts;
+use crate::hist_copy::HistCopy;
 use crate::shared::SharedSpec;
 use crate::totals::Totals;
-use hist_entries::HistRow;
 use std::alloc::{AllocError, Global};
 use std::marker::Model;
 use trace_format::{Emission, Row};
@@ -191,10 +191,13 @@ impl Hist {
         self.counts.totals()
     }
 
-    /// The entries in print order: by the sort keys in turn, those that tie in order of first occurrence.
-    pub fn rows(&self) -> Result<Vec<HistRow>, AllocError>
-        ensures { IfOk result (λ shown. map row_in shown.items ≡ printed self.now.spec.sort_sources self.now.table.entries) }
+    /// A copy of what it shows, of which the entries are put into print order later. It takes a few blocks of memory, however many entries there are.
+    /// The only error is that memory is refused.
+    pub fn copy(&self) -> Result<HistCopy, AllocError>
+        ensures { IfOk result (λ copy. copy ≡ copied self.now) }
     {
-        self.counts.rows(self.alloc, self.spec.sort_sources())
+        let spec = self.spec.share()?;
+        let entries = self.counts.copy_entries(self.alloc)?;
+        Ok(HistCopy::new(spec, self.paused, self.counts.totals(), entries))
     }
 }

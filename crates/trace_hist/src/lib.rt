@@ -6,12 +6,14 @@
 
 mod counts;
 mod hist;
+mod hist_copy;
 pub mod laws;
 mod shared;
 mod sort;
 mod totals;
 
 pub use hist::Hist;
+pub use hist_copy::HistCopy;
 pub use hist_entries::HistRow;
 pub use shared::SharedSpec;
 pub use totals::Totals;

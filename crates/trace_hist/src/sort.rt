@@ -1,10 +1,9 @@
 //! The order in which entries are printed.
 
-ghost use Rattle.std.specs.Prelude.{◌≡◌, ◌≤◌, map, length, take, IfOk, OnOk, false};
-ghost use Rattle.hist_entries.specs.KeptEntries.{entries_in};
+ghost use Rattle.std.specs.Prelude.{◌≡◌, map, IfOk, OnOk, false};
 ghost use Rattle.hist_entries.specs.PrintOrder as order;
 
-use hist_entries::{Entries, HistRow, compare_keys, rows_of, sum_at};
+use hist_entries::{EntriesCopy, HistRow, compare_keys, sum_at};
 use std::alloc::{AllocError, Global};
 use std::cmp::Ordering;
 use trace_trigger::{SortRule, SortSource};
@@ -51,18 +50,15 @@ fn sort_entries(entries: &mut Vec<HistRow>, rules: &[SortRule]) -> Result<(), Al
     entries.sort_by(|left, right| compare(rules, left, right))
 }
 
-/// The first so many entries, in print order.
-pub(crate) fn entries_in_order(
+/// Copied entries in print order.
+pub(crate) fn rows_in_order(
     alloc: Global,
     rules: &[SortRule],
-    entries: &Entries,
-    count: usize,
+    copy: &EntriesCopy,
 ) -> Result<Vec<HistRow>, AllocError>
-    requires { count ≤ length entries.now.entries }
-    ensures { IfOk result (λ shown. map order.row_in shown.items ≡ order.printed rules.now
-        (take count (entries_in entries.now.entries))) }
+    ensures { IfOk result (λ shown. map order.row_in shown.items ≡ order.printed rules.now copy.now) }
 {
-    let mut rows = rows_of(alloc, entries, count)?;
+    let mut rows = copy.rows(alloc)?;
     sort_entries(&mut rows, rules)?;
     Ok(rows)
 }
