@@ -1,3 +1,4 @@
+pub mod CopyLemmas
 pub mod LoopLemmas
 pub mod ZipLemmas
 pub mod HistTextExamples

@@ -1,3 +1,4 @@
+pub mod CopiedHists
 pub mod TriggerText
 pub mod EntryText
 pub mod HistText

@@ -10,7 +10,7 @@ mod hist_line;
 pub mod laws;
 mod trigger;
 
-pub use hist::hist_text;
+pub use hist::{CopiedHist, copied_hist_text, copy_hists, hist_text};
 pub use record_text::{
     declaration_text, format_text, pipe_text, snapshot_text, stats_text, trace_text,
 };

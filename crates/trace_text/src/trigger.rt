@@ -9,14 +9,14 @@ use crate::hist_line::{push_condition, push_hist_line};
 use record_text::append::{push, push_with_number};
 use std::alloc::{AllocError, Global};
 use trace_format::Text;
-use trace_hist::{Hist, HistSpec};
+use trace_hist::{Hist, SharedSpec};
 
 /// A trigger as its event's files show it, `trigger` and `hist`.
 #[derive(Clone, Copy)]
 pub enum Shown<'a> {
     /// A hist trigger and its histogram ("hist triggers" of histogram.rst). The line of the trigger and the names of keys and values are taken
     /// from the first; entries in print order, totals, and whether it is paused, from the second.
-    Hist(&'a HistSpec, &'a Hist),
+    Hist(&'a SharedSpec, &'a Hist),
     /// A trigger that takes snapshots ("snapshot" of events.rst, "Event triggers").
     Snapshot {
         /// How many snapshots it may still take; no number means no end.

@@ -1,10 +1,10 @@
-use Rattle.std.proofs.Common.{◌≡◌, Bool, true, false, ℕ, List, ◌∷◌, ◌++◌, codes, map, filter_map, [], drop, ◌+◌, sym, ap, ◌∙◌, append_assoc, append-nil, refl, Vec, Global}
+use Rattle.std.proofs.Common.{◌≡◌, Bool, true, false, ℕ, List, ◌∷◌, ◌++◌, codes, map, [], drop, sym, ap, ◌∙◌, append_assoc, append-nil, refl, Vec, Global}
 use Rattle.std.proofs.lemmas.List.{drop_all}
 use Rattle.trace_format.proofs.LoopLemmas.{left}
-use Rattle.trace_text.specs.HistText.{hist_of, one_hist}
-use Rattle.trace_text.specs.ShownTriggers.{shown_hist, shown_trigger}
+use Rattle.trace_text.specs.CopiedHists.{shown_copy}
+use Rattle.trace_text.specs.HistText.{one_hist}
 use Rattle.trace_text.specs.TriggerText.{ShownHist}
-use Rattle.trace_text.specs.declared.trigger.Shown.{Shown}
+use Rattle.trace_text.specs.declared.hist.CopiedHist.{CopiedHist}
 use Rattle.trace_text.proofs.LoopLemmas.{one_more_after}
 use Rattle.trace_text.proofs.hist.push_hists.Invariants.{left_to_write}
 use Rattle.trace_text.proofs.hist.push_hists.Goals as goal
@@ -27,34 +27,23 @@ nothing_left : (is_first : Bool) → left_to_write is_first [] ≡ []
 nothing_left true = refl
 nothing_left false = refl
 
-pub loop-trigger-preserved-in_default : goal.loop-trigger-preserved-in_default
-loop-trigger-preserved-in_default c =
-    let shown = c.args.shown.now in
-    let index = c.loop-trigger.trigger-index in
-    let other = ap (λ (ts : List Shown). filter_map hist_of (map shown_trigger ts)) (left shown index c.trigger-item.result c.loop-trigger-test.true c.trigger-item.is)
-    ∙ ap (λ (t : Shown). filter_map hist_of (map shown_trigger (t ∷ drop (index + 1) shown))) c.in_default.is in
-    ap (λ (hists : List ShownHist). c.loop-trigger.out.items ++ left_to_write c.loop-trigger.is_first hists) (sym other) ∙ c.loop-trigger.invariant
-
 pub returns : goal.returns
 returns c =
-    let old = c.loop-trigger.out.items in
-    let is_first = c.loop-trigger.is_first in
+    let old = c.loop-hist.out.items in
+    let is_first = c.loop-hist.is_first in
     sym (append-nil old)
     ∙ ap (λ (rest : List ℕ). old ++ rest) (sym (nothing_left is_first))
-    ∙ ap (λ (triggers : List Shown). old ++ left_to_write is_first (filter_map hist_of (map shown_trigger triggers))) (sym (drop_all c.loop-trigger.trigger-index c.args.shown.now c.loop-trigger-test.false))
-    ∙ c.loop-trigger.invariant
+    ∙ ap (λ (hists : List CopiedHist). old ++ left_to_write is_first (map shown_copy hists)) (sym (drop_all c.loop-hist.hist-index c.args.hists.now c.loop-hist-test.false))
+    ∙ c.loop-hist.invariant
 
-pub loop-trigger-preserved : goal.loop-trigger-preserved
-loop-trigger-preserved c =
-    let shown = c.args.shown.now in
-    let index = c.loop-trigger.trigger-index in
-    let old = c.loop-trigger.out.items in
-    let hist = shown_hist c.in-Hist.spec.now c.in-Hist.hist.now in
-    let first = ap (λ (ts : List Shown). filter_map hist_of (map shown_trigger ts)) (left shown index c.trigger-item.result c.loop-trigger-test.true c.trigger-item.is)
-    ∙ ap (λ (t : Shown). filter_map hist_of (map shown_trigger (t ∷ drop (index + 1) shown))) c.in-Hist.is in
+pub loop-hist-preserved : goal.loop-hist-preserved
+loop-hist-preserved c =
+    let old = c.loop-hist.out.items in
+    let hist = shown_copy c.hist-item.result in
+    let first = ap (map shown_copy) (left c.args.hists.now c.loop-hist.hist-index c.hist-item.result c.loop-hist-test.true c.hist-item.is) in
     elim c.if-not-is_first.branch [
-      | then-not-is_first+in_ok-push w ↦ after_next hist _ _ c.loop-trigger.is_first old _ _ _ first w.if-not-is_first.true w.in_ok-push.ensures.text
-          (c.in_ok-push_hist.ensures ∙ ap (λ (out : Vec ℕ Global). out.items ++ one_hist hist) w.out-is) c.loop-trigger.invariant
-      | else-not-is_first w ↦ after_first hist _ _ c.loop-trigger.is_first old _ _ first w.if-not-is_first.false
-          (c.in_ok-push_hist.ensures ∙ ap (λ (out : Vec ℕ Global). out.items ++ one_hist hist) w.out-is) c.loop-trigger.invariant
+      | then-not-is_first+in_ok-push w ↦ after_next hist _ _ c.loop-hist.is_first old _ _ _ first w.if-not-is_first.true w.in_ok-push.ensures.text
+          (c.in_ok-push_hist.ensures ∙ ap (λ (out : Vec ℕ Global). out.items ++ one_hist hist) w.out-is) c.loop-hist.invariant
+      | else-not-is_first w ↦ after_first hist _ _ c.loop-hist.is_first old _ _ first w.if-not-is_first.false
+          (c.in_ok-push_hist.ensures ∙ ap (λ (out : Vec ℕ Global). out.items ++ one_hist hist) w.out-is) c.loop-hist.invariant
     ]
