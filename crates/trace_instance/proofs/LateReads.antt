@@ -14,11 +14,12 @@ use Rattle.trace_format.specs.Definitions.{Definition}
 use Rattle.record_text.specs.BufferText.{trace_text}
 use Rattle.record_text.specs.CopyText.{copied_text}
 use Rattle.record_text.specs.declared.trace_copies.TraceCopy.{TraceCopy}
+use Rattle.tracer_specification.specs.History.{text_of}
 use Rattle.tracer_specification.specs.Rings.{rings}
 use Rattle.tracer_specification.specs.Settings.{declared_events}
 use Rattle.tracer_specification.specs.FileTexts.{shown_snapshot, shown_trace}
 use Rattle.trace_instance.specs.FileAnswers.{IsRead, IsSource}
-use Rattle.trace_instance.specs.LateReplies.{trace_file}
+use Rattle.trace_instance.specs.LateReplies.{hist_file, trace_file}
 use Rattle.trace_instance.specs.declared.change.InstanceChange.TheVariants.{Keep}
 use Rattle.trace_instance.specs.declared.read.FileSource.{FileSource}
 
@@ -39,6 +40,12 @@ snapshot_read g name past reply is = (ap Ok (sym is), tt, refl)
 
 pub snapshot_refused : (g : Config) (name : Option (List ℕ)) (past : List Request) → IsRead g name past None (OfInstance top.Snapshot) (Err Memory)
 snapshot_refused g name past = (λ other. absurd (other refl), λ early. absurd early)
+
+-- histograms
+pub hist_read : (g : Config) (name : Option (List ℕ)) (past : List Request) (events : List Definition) (event : ℕ) (reply : Reply)
+    → reply ≡ Text (text_of g name past (hist_file events event))
+    → IsRead g name past None (hist_file events event) (Ok (record { change = Keep; reply = reply }))
+hist_read g name past events event reply is = (ap Ok (sym is), tt, refl)
 
 -- what is shown of a copy of the live side is what the requests say
 pub trace_shown : (g : Config) (name : Option (List ℕ)) (past : List Request) (source : FileSource) (buffer : Seen) (events : List Definition) (cpu : Option ℕ)

@@ -1,23 +1,28 @@
 //! Reads of the files of an instance of which only a copy is taken at first: the text is made of it later, when the tracer was let go.
 
-ghost use Rattle.std.specs.Prelude.{◌≡◌, ℕ, ◌<◌, ◌≤◌, List, length, Option, Some, None, IfOk, IfSome};
+ghost use Rattle.std.specs.Prelude.{◌≡◌, ℕ, ◌<◌, ◌≤◌, List, [], length, map, slice_index_or, Option, Some, None, IfOk, IfSome};
 ghost use Rattle.trace_command.specs.Requests.{Request};
 ghost use Rattle.trace_command.specs.Paths as paths;
 ghost use Rattle.trace_command.specs.declared.command.Config.{Config};
 ghost use Rattle.trace_command.specs.declared.file_name.TopFile.TheVariants as top;
 ghost use Rattle.trace_buffer.specs.Buffers as buffers;
 ghost use Rattle.record_text.specs.CopyText as copies;
-ghost use Rattle.trace_instance.specs.FileAnswers.{IsRead, IsReadable, IsSource};
+ghost use Rattle.trace_text.specs.CopiedHists as copied;
+ghost use Rattle.trace_text.specs.HistText.{hist_text as hist_text_of};
+ghost use Rattle.trace_instance.specs.FileAnswers.{AreThere, HasAll, IsRead, IsReadable, IsSource};
 ghost use Rattle.trace_instance.specs.Files.{IsThere, file_at};
-ghost use Rattle.trace_instance.specs.LateReplies.{reply_of, shown_of, trace_file};
+ghost use Rattle.trace_instance.specs.private.Commands.{shown_attached};
+ghost use Rattle.trace_instance.specs.LateReplies.{hist_file, reply_of, shown_of, trace_file};
 
 use crate::change::InstanceChange;
 use crate::file::File;
+use crate::instance::Instance;
 use crate::read::{FileSource, Shown, read_file};
 use record_text::{TraceCopy, copied_snapshot_text, snapshot_copy, trace_copy};
 use std::alloc::{AllocError, Global};
-use trace_command::{CpuFile, Refusal, Reply, TopFile};
+use trace_command::{CpuFile, EventFile, Refusal, Reply, TopFile};
 use trace_format::Catalog;
+use trace_text::{CopiedHist, copied_hist_text, copy_hists};
 
 /// The reply of a read that was done.
 #[derive(Drop)]
@@ -26,6 +31,8 @@ pub enum LateReply {
     Made(Reply),
     /// The text of a trace, to be made of a copy of it and of the events that were declared.
     Trace(Catalog, TraceCopy),
+    /// The text of an event's `hist` file, to be made of copies of its hist triggers and their histograms.
+    Hists(Vec<CopiedHist>),
 }
 
 impl LateReply {
@@ -39,6 +46,10 @@ impl LateReply {
                 let text = copy.text(alloc, &catalog)?;
                 Ok(Reply::Text(text))
             }
+            LateReply::Hists(hists) => {
+                let text = copied_hist_text(alloc, &hists)?;
+                Ok(Reply::Text(text))
+            }
         }
     }
 }
@@ -50,8 +61,8 @@ pub struct Copied {
     pub late: LateReply,
 }
 
-/// As `read_file`, but of a file that shows a trace, which may be long, only a copy is taken. It takes at most the memory of the pages of the rings that
-/// are shown, and that of the declared events.
+/// As `read_file`, but of a file that shows a trace or histograms, which may be long, only a copy is taken. Of a trace it takes at most the memory of the
+/// pages of the rings that are shown, and that of the declared events; of histograms that of their entries, in a few blocks.
 pub fn copy_file(
     alloc: Global,
     source: FileSource<'_>,
@@ -68,6 +79,7 @@ pub fn copy_file(
         (File::OfInstance(TopFile::Trace), None) => copy_trace(source, None),
         (File::OfCpu(cpu, CpuFile::Trace), None) => copy_trace(source, Some(cpu)),
         (File::OfInstance(TopFile::Snapshot), None) => copy_snapshot(alloc, source),
+        (File::OfEvent(event, EventFile::Hist), None) => copy_histograms(alloc, source, event),
         _ => {
             let Shown { change, reply } = read_file(alloc, source, file, limit)?;
             Ok(Copied {
@@ -103,6 +115,35 @@ fn copy_snapshot(alloc: Global, source: FileSource<'_>) -> Result<Copied, Refusa
         change: InstanceChange::Keep,
         late,
     })
+}
+
+// Copies of the hist triggers of an event and their histograms.
+fn copy_histograms(alloc: Global, source: FileSource<'_>, event: usize) -> Result<Copied, Refusal>
+    requires { HasAll source event }
+    ensures { (g : Config) (name : Option (List ℕ)) (past : List Request)
+        → IsSource g name past source.entry → IsRead g name past None (hist_file source.entry.catalog.now event) (shown_of result) }
+{
+    let hists = copied_histograms(alloc, source.instance, event)?;
+    Ok(Copied {
+        change: InstanceChange::Keep,
+        late: LateReply::Hists(hists),
+    })
+}
+
+// The copies.
+fn copied_histograms(
+    alloc: Global,
+    instance: &Instance,
+    event: usize,
+) -> Result<Vec<CopiedHist>, AllocError>
+    requires hists { event < length instance.now.hists }
+    requires tables { AreThere instance.now.tables (slice_index_or instance.now.hists event []) }
+    ensures { IfOk result (λ hists. copied.copied_hist_text hists.items
+        ≡ hist_text_of (map (shown_attached instance.now.tables) (slice_index_or instance.now.hists event []))) }
+{
+    let kept = instance.event(event);
+    let shown = kept.triggers.shown(alloc, instance.tables())?;
+    copy_hists(alloc, &shown)
 }
 
 // The reply that shows a copied spare side, or that there is none.
