@@ -337,7 +337,7 @@ then-counted g past ranges was shown one = record {
         (and_parts (owner_is_there (scene_after g.config.cpus past) other) (file_is_there (scene_after g.config.cpus past) other fellow) found).1 in
         let same = one-file shown.owner other shown.file fellow small little (sym number) in
         let text : shown.text ≡ text_now g (only_past past) shown.owner shown.file =
-        trace-kind (λ (k : FileKind). shown.text ≡ text_of_kind g (only_past past) shown.owner shown.file k) shown.file one.was.trace
+        trace-kind (λ (k : FileKind). shown.text ≡ text_of_kind g (only_past past) shown.owner shown.file k) shown.file one.was.long
         (sym (ap text_answered shows)) (sym (ap text_answered shows)) in
         ap (λ (t : List ℕ). length t) text ∙ ap (λ (o : Owner). length (text_now g (only_past past) o shown.file)) same.0
         ∙ ap (λ (f : File). length (text_now g (only_past past) other f)) same.1

@@ -20,6 +20,7 @@ pub mod DoneLemmas
 pub mod AddressLemmas
 pub mod CallLemmas
 pub mod CopyLemmas
+pub mod UnwantedEmissions
 pub mod WatchLemmas
 pub mod SwitchLemmas
 pub mod ShownLemmas

@@ -61,7 +61,7 @@ none-any p xs none = by (list_any p xs) refl
         let less = lt-ltb (position_or_len p xs) (length xs) (any-len p xs e) in
         absurd (let wrong : Some (position_or_len p xs) ≡ None = rw less at none in cc)
 
-none-due : (g : Terms) (s : Service) → owed g s ≡ None → list_any (is_due g s) s.parked ≡ false
+pub none-due : (g : Terms) (s : Service) → owed g s ≡ None → list_any (is_due g s) s.parked ≡ false
 none-due g s none = none-any (is_due g s) s.parked (by (position (is_due g s) s.parked) (position (is_ready g s) s.files) none)
   where
     by : (due ready : Option ℕ) → first_owed due ready ≡ None → due ≡ None
@@ -76,7 +76,7 @@ none-ready g s none = none-any (is_ready g s) s.files (by (position (is_due g s)
     by None (Some handle) e = absurd (cc)
     by (Some index) ready e = absurd (cc)
 
-still-none : (g : Terms) (s : Service) → list_any (is_due g s) s.parked ≡ false → list_any (is_ready g s) s.files ≡ false → owed g s ≡ None
+pub still-none : (g : Terms) (s : Service) → list_any (is_due g s) s.parked ≡ false → list_any (is_ready g s) s.files ≡ false → owed g s ≡ None
 still-none g s due ready =
     ap (λ (index : Option ℕ). first_owed index (position (is_ready g s) s.files)) (no-first (is_due g s) s.parked due)
     ∙ ap (λ (handle : Option ℕ). first_owed None handle) (no-first (is_ready g s) s.files ready)

@@ -24,7 +24,7 @@ use Rattle.mount_replies.specs.PageTurns.{page_next}
 use Rattle.mount_replies.specs.Pipes.{ends, is_dry, is_used_up}
 use Rattle.mount_replies.specs.Served.{given_counted, given_page, given_records, given_text, given_tool, goes_on_in, is_cached, is_nonblocking, makes_text, part_of, read_dry, read_file, read_kind, read_log, read_new, read_no_page, read_page, read_pages, read_pipe, read_shown, read_text, read_tool, read_whole_page, step_of, taken_records, text_counted, unless_counted, with_going_on}
 use Rattle.mount_replies.specs.Services.{OpenSeen, Service, Terms, after_reading, armed, file_at, is_read_out, most_data, node_of, read_of_pipe, scene_of, text_at, with_dry_read, with_reading, with_records, without_read, without_wakeup}
-use Rattle.mount_replies.specs.ShownTexts.{node_shown, shown_step, text_wanted, shows_trace}
+use Rattle.mount_replies.specs.ShownTexts.{node_shown, shown_step, text_wanted, shows_long_text}
 use Rattle.mount_replies.specs.Sizes.{text_in}
 use Rattle.mount_replies.specs.Steps.{Asks, AsksLines, AsksNoting, Counts, Interrupts, Parks, Plain, Ran, Step, Takes, Tells}
 use Rattle.mount_replies.specs.declared.shown.ShownText.{ShownText}
@@ -403,7 +403,7 @@ asked-even handle g before asked bytes after (Unframed none told same) old new w
 
 -- what a trace shows is given to no pipe
 pub shown-step-keeps : (handle : ℕ) (g : Terms) (s : Service) (unique : ℕ) (target : Option Node) (shown : ShownText) (operation : Operation) (old : OpenSeen)
-    → file_at handle s.files ≡ Some old → (shows_trace old.file ≡ true → ⊥) → text_wanted (scene_of g s) s.files target operation ≡ Some (node_shown shown)
+    → file_at handle s.files ≡ Some old → (shows_long_text old.file ≡ true → ⊥) → text_wanted (scene_of g s) s.files target operation ≡ Some (node_shown shown)
     → KeepsText handle s.files (shown_step g s unique shown operation)
 shown-step-keeps handle g s unique target shown (operations.Lookup name) old was no-trace wanted = same-kept handle s.files
 shown-step-keeps handle g s unique target shown (operations.Read other offset size read_flags flags) old was no-trace wanted = by (other == handle) refl

@@ -1,4 +1,4 @@
--- Requests that are served of a text which was made beside the turns: one that a trace showed after earlier commands. Whoever serves copies the trace in one
+-- Requests that are served of a text which was made beside the turns: one that a file showed after earlier commands. Whoever serves copies what it shows in one
 -- turn, makes the text while others have theirs, and serves the request of it in a later turn.
 use Rattle.std.specs.Prelude.{◌≡◌, ℕ, ◌==◌, Bool, true, false, not, ◌&&◌, List, ◌++◌, length, Option, Some, None, Ok, if◌then◌else◌}
 use Rattle.std.specs.Option.{option_map}
@@ -11,11 +11,12 @@ use Rattle.fuse_wire.specs.declared.request.Request.{Request as Asked}
 use Rattle.trace_command.specs.Requests.{Request}
 use Rattle.trace_command.specs.declared.command.Reply.TheVariants as answers
 use Rattle.trace_command.specs.declared.file_name.CpuFile.TheVariants as per_cpu
+use Rattle.trace_command.specs.declared.file_name.EventFile.TheVariants as per_event
 use Rattle.trace_command.specs.declared.file_name.TopFile.TheVariants as top
 use Rattle.trace_instance.specs.LateReplies.{reply_of}
 use Rattle.tracer.specs.Lives.{live_answer}
 use Rattle.file_list.specs.declared.file.File.{File}
-use Rattle.file_list.specs.declared.file.File.TheVariants.{OfCpu, OfInstance}
+use Rattle.file_list.specs.declared.file.File.TheVariants.{OfCpu, OfEvent, OfInstance}
 use Rattle.mount_tree.specs.Children.{is_there}
 use Rattle.mount_tree.specs.Nodes.{number_of}
 use Rattle.mount_tree.specs.Scenes.{SceneSeen}
@@ -36,25 +37,26 @@ use Rattle.mount_replies.specs.declared.shown.ShownText.{ShownText}
 
 -- ---- which text is wanted
 
--- the file shows a trace, which may be long: a live side or a spare one, of all CPUs or of one
-abbrev pub shows_trace : File → Bool
-shows_trace (OfInstance top.Trace) = true
-shows_trace (OfInstance top.Snapshot) = true
-shows_trace (OfCpu cpu per_cpu.Trace) = true
-shows_trace _ = false
+-- the file has a text that may be long: it shows a trace, a live side or a spare one, of all CPUs or of one, or an event's histograms
+abbrev pub shows_long_text : File → Bool
+shows_long_text (OfInstance top.Trace) = true
+shows_long_text (OfInstance top.Snapshot) = true
+shows_long_text (OfCpu cpu per_cpu.Trace) = true
+shows_long_text (OfEvent event per_event.Hist) = true
+shows_long_text _ = false
 
-abbrev pub trace_node : Option Node → Option Node
-trace_node None = None
-trace_node (Some (nodes.Folder owner folder)) = None
-trace_node (Some (nodes.File owner file)) = if shows_trace file then Some (nodes.File owner file) else None
+abbrev pub long_text_node : Option Node → Option Node
+long_text_node None = None
+long_text_node (Some (nodes.Folder owner folder)) = None
+long_text_node (Some (nodes.File owner file)) = if shows_long_text file then Some (nodes.File owner file) else None
 
 -- The file whose text a request shows, about this node, if its number is one's: one of which the size is told, or one that is read from its beginning by
 -- read(2). What the page cache reads is what was counted for it.
 abbrev pub text_wanted : SceneSeen → List (Option OpenSeen) → Option Node → Operation → Option Node
-text_wanted scene files target (operations.Lookup name) = trace_node (found_in scene name target)
-text_wanted scene files target operations.GetAttr = trace_node (known scene target)
+text_wanted scene files target (operations.Lookup name) = long_text_node (found_in scene name target)
+text_wanted scene files target operations.GetAttr = long_text_node (known scene target)
 text_wanted scene files target (operations.Read handle offset size read_flags flags) =
-    if offset == 0 && not (is_cached read_flags) then trace_node (known scene (option_map node_of (file_at handle files))) else None
+    if offset == 0 && not (is_cached read_flags) then long_text_node (known scene (option_map node_of (file_at handle files))) else None
 text_wanted scene files target _ = None
 
 -- ---- what was shown
@@ -62,9 +64,9 @@ text_wanted scene files target _ = None
 abbrev pub node_shown : ShownText → Node
 node_shown shown = nodes.File shown.owner shown.file
 
--- the file shows a trace and is there after these commands, so many of them, and its text is this
+-- the file has a long text and is there after these commands, so many of them, and its text is this
 pub record IsText (g : Terms) (past : List Request) (owner : Owner) (file : File) (after : ℕ) (text : List ℕ) : Type 0 where
-  pub trace : shows_trace file ≡ true
+  pub long : shows_long_text file ≡ true
   pub after_is : after ≡ length past
   pub there : is_there (scene_after g.config.cpus past) (nodes.File owner file) ≡ true
   pub shows : live_answer g.config past (read_of (scene_after g.config.cpus past) (nodes.File owner file) None) ≡ Ok (answers.Text text)
@@ -76,7 +78,7 @@ pub record WasShown (g : Terms) (past : List Request) (shown : ShownText) : Type
   pub is : past ≡ later ++ earlier
   pub was : IsText g earlier shown.owner shown.file shown.after shown.text
 
--- a copy is of a trace as it is after these commands
+-- a copy is of what a file shows after these commands
 abbrev pub IsCopied : Terms → List Request → CopiedText → Type 0
 IsCopied g past copied = (text : List ℕ) × (reply_of copied.late ≡ answers.Text text) × IsText g past copied.owner copied.file copied.after text
 

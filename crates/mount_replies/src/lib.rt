@@ -29,6 +29,7 @@ mod sizes;
 mod stream;
 mod telling;
 mod told;
+mod wanted_events;
 mod watch;
 mod writing;
 

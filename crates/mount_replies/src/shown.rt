@@ -1,8 +1,9 @@
 //! Requests that are served of a text which was made beside the turns.
 //!
-//! The text of a trace may be long, and whoever shares the mounted tracer would wait while it is made. So whoever serves a request that wants one may ask
-//! for a copy (`copy_wanted`), let the mounted tracer go, make the text of the copy, and then serve the request of it (`answer_shown`): the size that a
-//! look-up tells, or the text that a READ begins. It is what the file showed when it was copied. Where this isn't done, `answer` makes the text itself.
+//! The text of a trace or of histograms may be long, and whoever shares the mounted tracer would wait while it is made. So whoever serves a request that
+//! wants one may ask for a copy (`copy_wanted`), let the mounted tracer go, make the text of the copy, and then serve the request of it (`answer_shown`):
+//! the size that a look-up tells, or the text that a READ begins. It is what the file showed when it was copied. Where this isn't done, `answer` makes the
+//! text itself.
 
 ghost use Rattle.std.specs.Prelude.{◌≡◌, ◌≤◌, ℕ, List, [], None, Ok, Some, IfOk, IfSome, true, false, vec_capacity};
 ghost use Rattle.std.specs.Option.{option_map};
@@ -31,12 +32,12 @@ use fuse_wire::{Errno, Operation, Reply, Request, decode};
 use mount_tree::{File, Node, Owner};
 use std::alloc::{AllocError, Global};
 use std::mem;
-use trace_command::{CpuFile, Reply as Answer, TopFile};
+use trace_command::{CpuFile, EventFile, Reply as Answer, TopFile};
 use trace_instance::LateReply;
 use trace_lex::Text;
 use tracer::MOST_DONE;
 
-/// What a trace showed: whose file it is and which, after how many commands, and the text.
+/// What a file with a long text showed: whose it is and which, after how many commands, and the text.
 #[derive(Drop)]
 pub struct ShownText {
     pub owner: Owner,
@@ -45,7 +46,7 @@ pub struct ShownText {
     pub text: Text,
 }
 
-/// A copy of a trace: whose file it is and which, after how many commands it was copied, and the reply of a read of it, to be made of the copy.
+/// A copy of what such a file shows: whose it is and which, after how many commands it was copied, and the reply of a read of it, to be made of the copy.
 #[derive(Drop)]
 pub struct CopiedText {
     pub owner: Owner,
@@ -78,23 +79,24 @@ impl CopiedText {
     }
 }
 
-/// Whether a file shows a trace.
-fn shows_trace(file: File) -> bool
-    ensures { result ≡ texts.shows_trace file }
+/// Whether a file has a long text: it shows a trace or histograms.
+fn shows_long_text(file: File) -> bool
+    ensures { result ≡ texts.shows_long_text file }
 {
     match file {
         File::OfInstance(TopFile::Trace | TopFile::Snapshot) => true,
         File::OfCpu(_, CpuFile::Trace) => true,
+        File::OfEvent(_, EventFile::Hist) => true,
         _ => false,
     }
 }
 
-/// The node, if it is a file that shows a trace.
-fn trace_node(node: Option<Node>) -> Option<Node>
-    ensures { result ≡ texts.trace_node node }
+/// The node, if it is a file with a long text.
+fn long_text_node(node: Option<Node>) -> Option<Node>
+    ensures { result ≡ texts.long_text_node node }
 {
     match node {
-        Some(Node::File(owner, file)) if shows_trace(file) => Some(Node::File(owner, file)),
+        Some(Node::File(owner, file)) if shows_long_text(file) => Some(Node::File(owner, file)),
         _ => None,
     }
 }
@@ -107,6 +109,7 @@ fn is_text(late: &LateReply) -> bool
         LateReply::Made(Answer::Done) => false,
         LateReply::Made(Answer::Text(_)) => true,
         LateReply::Trace(_, _) => true,
+        LateReply::Hists(_) => true,
     }
 }
 
@@ -121,14 +124,17 @@ fn is_same_owner(one: Owner, other: Owner) -> bool
     }
 }
 
-/// Whether it is the same file that shows a trace.
-fn is_same_trace(one: File, other: File) -> bool
+/// Whether it is the same file with a long text.
+fn is_same_file(one: File, other: File) -> bool
     ensures { result ≡ true → one ≡ other }
 {
     match (one, other) {
         (File::OfInstance(TopFile::Trace), File::OfInstance(TopFile::Trace)) => true,
         (File::OfInstance(TopFile::Snapshot), File::OfInstance(TopFile::Snapshot)) => true,
         (File::OfCpu(one, CpuFile::Trace), File::OfCpu(other, CpuFile::Trace)) => one == other,
+        (File::OfEvent(one, EventFile::Hist), File::OfEvent(other, EventFile::Hist)) => {
+            one == other
+        }
         _ => false,
     }
 }
@@ -139,14 +145,14 @@ fn is_of(node: Option<Node>, shown: &ShownText) -> bool
 {
     match node {
         Some(Node::File(owner, file)) => {
-            is_same_owner(owner, shown.owner) && is_same_trace(file, shown.file)
+            is_same_owner(owner, shown.owner) && is_same_file(file, shown.file)
         }
         _ => false,
     }
 }
 
 impl Mount {
-    /// A copy of the trace whose text a request wants. None, if it wants none, or the size of one that is remembered, or if memory is refused.
+    /// A copy of what the file shows whose long text a request wants. None, if it wants none, or the size of one that is remembered, or if memory is refused.
     pub fn copy_wanted(&self, asked: &[u8]) -> Option<CopiedText>
         ensures { (past : List Command) → IsMounted past self.now → IfSome result (λ copied. IsCopied (terms_of self.now) past copied) }
     {
@@ -169,11 +175,11 @@ impl Mount {
         }
     }
 
-    // A copy of what a file shows, if it is there and shows a trace.
+    // A copy of what a file shows, if it is there and has a long text.
     fn copy_text(&self, owner: Owner, file: File) -> Option<CopiedText>
         ensures { (past : List Command) → HasLedTo past self.now → IfSome result (λ copied. IsCopied (terms_of self.now) past copied) }
     {
-        if !shows_trace(file) || !self.scene.exists(Node::File(owner, file)) {
+        if !shows_long_text(file) || !self.scene.exists(Node::File(owner, file)) {
             return None;
         }
         let late = self.copy_shown(owner, file)?;
@@ -229,8 +235,8 @@ impl Mount {
         ensures { result ≡ texts.text_wanted self.now.scene self.now.files node operation.now }
     {
         match operation {
-            Operation::Lookup { name } => trace_node(self.named(node, name.as_slice())),
-            Operation::GetAttr => trace_node(self.known(node)),
+            Operation::Lookup { name } => long_text_node(self.named(node, name.as_slice())),
+            Operation::GetAttr => long_text_node(self.known(node)),
             Operation::Read {
                 handle,
                 offset,
@@ -240,7 +246,7 @@ impl Mount {
                 if *offset != 0 || is_cached(*read_flags) {
                     return None;
                 }
-                trace_node(self.known(self.open_node(*handle)))
+                long_text_node(self.known(self.open_node(*handle)))
             }
             _ => None,
         }

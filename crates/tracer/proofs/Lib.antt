@@ -3,4 +3,4 @@ pub mod Living
 pub mod Calls
 mod LateCalls
 pub mod BookAnswers
-mod LiveMasks
+pub mod LiveMasks

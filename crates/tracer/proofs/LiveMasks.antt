@@ -62,7 +62,7 @@ module _ (g : Config) (name : Option (List ℕ)) (past : List Request) (i : Inst
   abbrev events : List Definition
   events = declared_events past
 
-  wants-told : (event : Definition) → slice_get events index ≡ Some event → wants_event i index ≡ wants name event past
+  pub wants-told : (event : Definition) → slice_get events index ≡ Some event → wants_event i index ≡ wants name event past
   wants-told event there =
       let inside : index < length events = slice_get_within events index event there in
       let is : get_or events index event ≡ event = get_or_from_slice_get events index event event there in
