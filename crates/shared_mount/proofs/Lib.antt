@@ -6,3 +6,4 @@ pub mod MountSteps
 pub mod TurnLemmas
 pub mod CallerLemmas
 pub mod ShownLemmas
+pub mod KnownEvents

@@ -72,7 +72,7 @@ stands-owing limit entries mount stands =
 -- ---- a call
 
 -- what a call does comes before what was done
-called-past : (answer : Result Reply Refusal) (request : Request) (past : List Request)
+pub called-past : (answer : Result Reply Refusal) (request : Request) (past : List Request)
     → past_after answer request past ≡ commands_of (DidCall request answer) ++ past
 called-past (Ok reply) request past = refl
 called-past (Err refusal) request past = refl

@@ -3,14 +3,16 @@
 mod copying;
 mod showing;
 
-ghost use Rattle.std.specs.Prelude.{◌≡◌, ◌≢◌, ◌≤◌, true, false, List, [], ◌∷◌, ◌++◌, vec_capacity, IfOk, IfErr, IfSome, OnOk};
+ghost use Rattle.std.specs.Prelude.{◌≡◌, ◌≢◌, ◌≤◌, All, true, false, List, [], ◌∷◌, ◌++◌, vec_capacity, IfOk, IfErr, IfSome, OnOk};
+ghost use Rattle.std.specs.Option.{option_map};
 ghost use Rattle.trace_command.specs.Configs.{IsInRange};
 ghost use Rattle.trace_command.specs.Requests.{Request};
 ghost use Rattle.trace_command.specs.declared.refusal.Refusal.TheVariants as refusal;
 ghost use Rattle.tracer.specs.Lives.{IsLive, most_done};
 ghost use Rattle.mount_replies.specs.Calls.{IsCommanded, answer_of};
-ghost use Rattle.mount_replies.specs.Mounted.{IsMounted, most_reply};
-ghost use Rattle.mount_replies.specs.Watches.{Covers};
+ghost use Rattle.mount_replies.specs.Mounted.{IsMounted, most_reply, past_after};
+ghost use Rattle.mount_replies.specs.Watches.{AreKnown, Covers, slots_of};
+ghost use Rattle.mount_replies.specs.declared.wanted_events.Wanted.TheVariants.{Unknown};
 ghost use Rattle.shared_mount.specs.AskedRequests.{request_after};
 ghost use Rattle.shared_mount.specs.LiveMountSeen.{numbers_of};
 ghost use Rattle.shared_mount.specs.MountEntries.{DidCall, DidExchange, EntrySeen, caller_of, done_in, ticket_of};
@@ -62,23 +64,43 @@ impl Model for LiveMount {
     ghost invariant = { IsSound };
 }
 
+// After a command nothing is known of the events that instances of watched pipes want.
+pub(crate) fn forget_events(watch: &mut Option<Watch>)
+    ensures slots { option_map slots_of watch.new ≡ option_map slots_of watch.old }
+    ensures events { IfSome watch.new (λ w. All (λ wanted. wanted ≡ Unknown) w.events) }
+{
+    if let Some(watch) = watch {
+        watch.forget_events();
+    }
+}
+
 // Has the mounted tracer run what is asked, unless so many commands were done. Where the parked reads wait for some pipes, an emission by values looks at
 // these.
 #[inline(always)]
+#[tactic(auto, using(crate::proofs::KnownEvents::fresh_known))]
 fn run(
     mount: &mut Mount,
-    watch: &Option<Watch>,
+    watch: &mut Option<Watch>,
     limit: u64,
     asked: Asked<'_>,
     answer: &mut Result<Reply, Refusal>,
 ) -> bool
     requires limit { limit ≤ most_done }
-    requires covers { IfSome watch.now (Covers mount.old.files mount.old.parked) }
-    ensures { (entries : List EntrySeen) → IsMounted (done_in entries) mount.old
+    requires covers { IfSome watch.old (λ watch. Covers mount.old.files mount.old.parked watch.slots) }
+    ensures commanded { (entries : List EntrySeen) → IsMounted (done_in entries) mount.old
+        → IfSome watch.old (AreKnown mount.old.live.config.cpus (done_in entries))
         → IsCommanded limit (done_in entries) mount.old mount.new (request_after entries asked.entry) (answer_of result answer.new) }
+    ensures slots { option_map slots_of watch.new ≡ option_map slots_of watch.old }
+    ensures known { (entries : List EntrySeen) → IsMounted (done_in entries) mount.old
+        → IfSome watch.old (AreKnown mount.old.live.config.cpus (done_in entries))
+        → IfSome watch.new (AreKnown mount.old.live.config.cpus
+        (past_after (answer_of result answer.new) (request_after entries asked.entry) (done_in entries))) }
 {
     match asked {
-        Asked::Command(command) => mount.call_within(limit, command, answer),
+        Asked::Command(command) => {
+            forget_events(watch);
+            mount.call_within(limit, command, answer)
+        }
         Asked::Values(emission) => match watch {
             Some(watch) => mount.call_values_watched(limit, emission, watch, answer),
             None => mount.call_values_within(limit, emission, answer),
@@ -134,7 +156,7 @@ impl LiveMount {
         ensures next { IsNext self.old.terms self.old.entries (DidCall (request_after self.old.entries asked.entry) (answer_of result answer.new)) self.new.owes }
         ensures terms { self.new.terms ≡ self.old.terms }
     {
-        let is_done = run(&mut self.mount, &self.watch, self.limit, asked, answer);
+        let is_done = run(&mut self.mount, &mut self.watch, self.limit, asked, answer);
         self.past = with_call(&self.past, ticket, by, &asked, is_done, answer);
         is_done
     }

@@ -7,7 +7,7 @@ ghost use Rattle.tracer.specs.LateReads.{replied};
 ghost use Rattle.shared_mount.specs.MountEntries.{DidCall};
 ghost use Rattle.shared_mount.specs.MountHistories.{IsNext};
 
-use super::LiveMount;
+use super::{LiveMount, forget_events};
 use crate::copying::with_copy;
 use trace_command::Refusal;
 use trace_instance::LateReply;
@@ -30,6 +30,7 @@ impl LiveMount {
         ensures next { IsNext self.old.terms self.old.entries (DidCall (request_of (commands.Read path.now most)) (replied result)) self.new.owes }
         ensures terms { self.new.terms ≡ self.old.terms }
     {
+        forget_events(&mut self.watch);
         let answer = self.mount.copy_within(self.limit, path, most);
         self.past = with_copy(&self.past, ticket, by, path, most, &answer);
         answer

@@ -6,6 +6,7 @@ use Rattle.shared_mount.specs.LiveMountSeen.{LiveMountSeen, SharedTerms}
 use Rattle.shared_mount.specs.MountEntries.{done_in}
 use Rattle.shared_mount.specs.ShownMounts.{IsShownIn}
 use Rattle.shared_mount.specs.declared.exchange.Exchange.{Exchange}
+use Rattle.shared_mount.proofs.KnownEvents.{fresh_known}
 use Rattle.shared_mount.proofs.MountSteps.{Stands, exchange-done, exchange-left, exchange-stands, served-exchanged}
 use Rattle.shared_mount.proofs.ShownLemmas.{LeavesOf, exchange-left-of, show-left, show-stands, was-shown}
 use Rattle.shared_mount.proofs.live_mount.LiveMount.answer_shown.Goals as goal
@@ -26,7 +27,7 @@ invariant_of-self c =
     show-stands c.self.inside.limit entries old new c.of-text.result.value c.args.shown c.args.asked.now c.deref.result.now bytes c.args.ticket c.args.by left
     (record { mounted = c.self.invariant.mounted; led = c.self.invariant.led }) served c.of-text.ensures c.deref.ensures.value
     c.with_shown-self-inside.ensures in
-    record { mounted = s.mounted; few = c.self.invariant.few; covers = c.watch-self-inside.ensures; led = s.led }
+    record { mounted = s.mounted; few = c.self.invariant.few; covers = c.watch-self-inside.ensures.covers; known = fresh_known new.live.config.cpus (done_in left) c.watch-self-inside.result c.watch-self-inside.ensures.events; led = s.led }
 
 pub returns-then-is_shown-clause-left : goal.returns-then-is_shown-clause-left
 returns-then-is_shown-clause-left c =
@@ -73,7 +74,7 @@ invariant_of-self-2 c =
     exchange-stands c.self.inside.limit e c.self.inside.past.items c.self.inside.mount new c.args.ticket c.args.by c.with_exchange-self-inside.result.items
     past c.of-before.ensures c.of-2.ensures (record { mounted = c.self.invariant.mounted; led = c.self.invariant.led })
     c.with_exchange-self-inside.ensures in
-    record { mounted = s.mounted; few = c.self.invariant.few; covers = c.watch-self-inside.ensures; led = s.led }
+    record { mounted = s.mounted; few = c.self.invariant.few; covers = c.watch-self-inside.ensures.covers; known = fresh_known new.live.config.cpus (done_in c.with_exchange-self-inside.result.items) c.watch-self-inside.result c.watch-self-inside.ensures.events; led = s.led }
 
 pub with_exchange-self-inside-requires : goal.with_exchange-self-inside-requires
 with_exchange-self-inside-requires c =

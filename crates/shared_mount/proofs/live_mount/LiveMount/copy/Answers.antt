@@ -6,6 +6,7 @@ use Rattle.mount_replies.specs.Watches.{Covers}
 use Rattle.shared_mount.specs.LiveMountSeen.{LiveMountSeen}
 use Rattle.shared_mount.specs.MountEntries.{DidCall, done_in}
 use Rattle.shared_mount.specs.MountHistories.{IsNext}
+use Rattle.shared_mount.proofs.KnownEvents.{covers-kept, fresh_known}
 use Rattle.shared_mount.proofs.MountSteps.{Stands, call-stands, call-steps, steps-next}
 use Rattle.shared_mount.proofs.live_mount.LiveMount.copy.Goals as goal
 
@@ -19,8 +20,12 @@ invariant_of-self c =
     call-stands c.self.inside.limit entries c.self.inside.mount new (request_of (commands.Read c.args.path.now c.args.most)) (replied c.copy_within-answer.result)
     c.args.ticket c.args.by left c.self.invariant.few (record { mounted = c.self.invariant.mounted; led = c.self.invariant.led }) is
     c.with_copy-self-inside.ensures in
-    let covers : IfSome c.self.inside.watch (Covers new.files new.parked) = rw (is.files, is.parked) c.self.invariant.covers in
-    record { mounted = s.mounted; few = c.self.invariant.few; covers = covers; led = s.led }
+    let watch = c.forget_events.new.watch in
+    let covers : IfSome watch (λ w. Covers new.files new.parked w.slots) =
+    rw (is.files, is.parked)
+    (covers-kept c.self.inside.watch watch c.self.inside.mount.files c.self.inside.mount.parked c.forget_events.ensures.slots c.self.invariant.covers) in
+    let known = fresh_known new.live.config.cpus (done_in left) watch c.forget_events.ensures.events in
+    record { mounted = s.mounted; few = c.self.invariant.few; covers = covers; known = known; led = s.led }
 
 pub returns-clause-next : goal.returns-clause-next
 returns-clause-next c =

@@ -4,6 +4,7 @@ use Rattle.shared_mount.specs.MountEntries.{DidExchange, done_in}
 use Rattle.shared_mount.specs.LiveMountSeen.{LiveMountSeen}
 use Rattle.shared_mount.specs.MountHistories.{IsNext}
 use Rattle.shared_mount.specs.declared.exchange.Exchange.{Exchange}
+use Rattle.shared_mount.proofs.KnownEvents.{fresh_known}
 use Rattle.shared_mount.proofs.MountSteps.{Stands, exchange-done, exchange-left, exchange-stands}
 use Rattle.shared_mount.proofs.live_mount.LiveMount.tell_owed.Goals as goal
 
@@ -21,7 +22,7 @@ invariant_of-self c =
     exchange-stands c.self.inside.limit e c.self.inside.past.items c.self.inside.mount c.tell_owed.new.self c.args.ticket c.args.by c.with_exchange-self-inside.result.items
     past c.of-before.ensures c.of-2.ensures (record { mounted = c.self.invariant.mounted; led = c.self.invariant.led })
     c.with_exchange-self-inside.ensures in
-    record { mounted = s.mounted; few = c.self.invariant.few; covers = c.watch-self-inside.ensures; led = s.led }
+    record { mounted = s.mounted; few = c.self.invariant.few; covers = c.watch-self-inside.ensures.covers; known = fresh_known c.tell_owed.new.self.live.config.cpus (done_in c.with_exchange-self-inside.result.items) c.watch-self-inside.result c.watch-self-inside.ensures.events; led = s.led }
 
 pub with_exchange-self-inside-requires : goal.with_exchange-self-inside-requires
 with_exchange-self-inside-requires c =
