@@ -1,4 +1,5 @@
 pub mod ConsoleLemmas
+pub mod LateNames
 pub mod ReadLemmas
 pub mod ShownLemmas
 pub mod FilesLemmas

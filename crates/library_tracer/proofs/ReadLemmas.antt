@@ -1,5 +1,5 @@
 -- What a try of a read leaves of a console.
-use Rattle.std.proofs.Common.{◌≡◌, ◌⊎◌, inl, inr, ℕ, Bool, true, List, Option, Some, None, Result, Ok, Err, refl, ap, subst, ◌∙◌}
+use Rattle.std.proofs.Common.{◌≡◌, inl, inr, ℕ, Bool, true, List, Option, Some, None, Result, Ok, Err, refl, ap, subst, ◌∙◌}
 use Rattle.refusal_explanations.specs.Words.{command_words}
 use Rattle.trace_command.specs.Paths.{address_of}
 use Rattle.trace_command.specs.Requests.{Request, request_of}
@@ -13,7 +13,7 @@ use Rattle.shared_mount.specs.MountEntries.{EntrySeen}
 use Rattle.library_tracer.specs.Consoles.{Comes, IsAnswered, says}
 use Rattle.library_tracer.specs.ConsolesSeen.{ConsoleSeen}
 use Rattle.library_tracer.specs.Inner.{words_in}
-use Rattle.library_tracer.specs.LateTexts.{LosesText, MayLoseText, Reads, shows_trace}
+use Rattle.library_tracer.specs.LateTexts.{LosesText, MayLoseText, Reads, has_late_text}
 use Rattle.library_tracer.specs.Statuses.{status_of}
 use Rattle.library_tracer.specs.declared.console.Tried.{Tried}
 use Rattle.library_tracer.specs.declared.console.Tried.TheVariants.{Told, Busy}
@@ -32,11 +32,11 @@ abbrev pub keeping : ConsoleSeen → Last → ConsoleSeen
 keeping console last = record console { last = last.outcome; words = words_in last }
 
 -- one that was answered, but whose text was lost
-loses : (path : List ℕ) (before console : ConsoleSeen) (last : Last) (reply : Reply) (owes : Bool) → shows_trace (address_of path).file ≡ true
+loses : (path : List ℕ) (before console : ConsoleSeen) (last : Last) (reply : Reply) (owes : Bool) → has_late_text (address_of path).file ≡ true
     → IsAnswered (read_whole path) (whole_words path) (Ok reply) owes before console → Answers last (whole_words path) (Err Memory)
     → LosesText path owes before (keeping console last)
-loses path before console last reply owes shows answered is = record {
-  shows = shows;
+loses path before console last reply owes late answered is = record {
+  late = late;
   was = answered.was;
   now = answered.now;
   reply = reply;
@@ -50,20 +50,20 @@ loses path before console last reply owes shows answered is = record {
 
 -- One that had its turn: whatever were kept of its answer would be told of it, and this is kept of what is told.
 pub read_told : (path : List ℕ) (before console : ConsoleSeen) (last : Last) (answer told : Result Reply Refusal) (owes : Bool) (status : ℕ)
-    → shows_trace (address_of path).file ≡ true
+    → has_late_text (address_of path).file ≡ true
     → ((other : Last) → Answers other (whole_words path) answer → IsAnswered (read_whole path) (whole_words path) answer owes before (keeping console other))
     → MayLoseText answer told → Answers last (whole_words path) told → status ≡ status_of last.outcome
     → Reads path None before (keeping console last) (Told status owes)
-read_told path before console last (Ok reply) told owes status shows answers (inl same) is status_is =
+read_told path before console last (Ok reply) told owes status late answers (inl same) is status_is =
     inl (inl (Ok reply, answers last (subst (λ (r : Result Reply Refusal). Answers last (whole_words path) r) same is)), status_is)
-read_told path before console last (Ok reply) told owes status shows answers (inr lost) is status_is =
+read_told path before console last (Ok reply) told owes status late answers (inr lost) is status_is =
     let other : Last = record last { outcome = Replied reply } in
     inr (
-      loses path before (keeping console other) last reply owes shows (answers other (refl, refl))
+      loses path before (keeping console other) last reply owes late (answers other (refl, refl))
           (subst (λ (r : Result Reply Refusal). Answers last (whole_words path) r) lost is),
       status_is,
     )
-read_told path before console last (Err refusal) told owes status shows answers same is status_is =
+read_told path before console last (Err refusal) told owes status late answers same is status_is =
     inl (inl (Err refusal, answers last (subst (λ (r : Result Reply Refusal). Answers last (whole_words path) r) same is)), status_is)
 
 -- what any command comes to a read may come to

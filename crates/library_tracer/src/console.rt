@@ -53,7 +53,7 @@ pub struct Console {
     last: Last,
     /// Where the tracer puts an answer that is more than that a call was done.
     answer: Result<Reply, Refusal>,
-    /// The number of the kernel's request for which a trace was looked for, until the request is served, and the text that was made for it, if it wants one.
+    /// The number of the kernel's request for which a text was looked for, until the request is served, and what was made for it, if it wants one.
     looked: Option<u64>,
     shown: Option<ShownText>,
 }

@@ -1,4 +1,4 @@
-//! Requests of the mount that want the text of a trace, which may be long. It is made beside the turns, of a copy, while others have theirs:
+//! Requests of the mount that want the text of a trace or of a histogram, which may be long. It is made beside the turns, of a copy, while others have theirs:
 //!
 //! ```text
 //!   turn       nothing is done         copy
@@ -27,8 +27,8 @@ use trace_command::Refusal;
 
 impl Console {
     /// Serves a request of the mount, as the kernel wrote it, in one try: `reply`, which is empty and has the room, gets the bytes of its reply, none if it
-    /// has none or waits. Where something is owed, nothing is done. It keeps what the last call came to. The text of a trace that the request wants is made
-    /// between two turns.
+    /// has none or waits. Where something is owed, nothing is done. It keeps what the last call came to. The text of a trace or a histogram that the request
+    /// wants is made between two turns.
     pub fn answer(&mut self, request: &[u8], reply: &mut Vec<u8>) -> Option<Result<Served, Refusal>>
         requires has { IsSome self.old.has }
         requires room { most_reply ≤ vec_capacity reply.old }
@@ -46,7 +46,7 @@ impl Console {
         self.answer_of(request, shown, reply)
     }
 
-    // As `answer`, of a request for which no trace was looked for.
+    // As `answer`, of a request for which no text was looked for.
     fn answer_anew(
         &mut self,
         request: &[u8],
@@ -168,7 +168,7 @@ impl Console {
         }
     }
 
-    // Copies the trace whose text a request wants, if it wants one, in one try.
+    // Copies the trace or the histogram whose text a request wants, if it wants one, in one try.
     fn copy_wanted(&mut self, request: &[u8]) -> Option<Result<Option<CopiedText>, Refusal>>
         requires { IsSome self.old.has }
         ensures comes { Looks (λ entries copied. IfSome copied (IsCopied self.old.terms.mount (done_in entries))) self.old self.new result }
@@ -215,13 +215,13 @@ impl Console {
     }
 }
 
-/// The number of a request that may want the text of a trace.
+/// The number of a request that may want a text which is made beside the turns.
 fn number_of(request: &[u8]) -> Option<u64> {
     let Ok(request) = decode(request) else {
         return None;
     };
     let may_want = match &request.operation {
-        Operation::Lookup { name } => is_of_trace(name.as_slice()),
+        Operation::Lookup { name } => has_late_text(name.as_slice()),
         Operation::GetAttr => true,
         Operation::Read { offset, .. } => *offset == 0,
         _ => false,
@@ -229,12 +229,12 @@ fn number_of(request: &[u8]) -> Option<u64> {
     if may_want { Some(request.unique) } else { None }
 }
 
-/// Whether a file of this name shows a trace.
-fn is_of_trace(name: &[u8]) -> bool {
-    name == b"trace".as_slice() || name == b"snapshot".as_slice()
+/// Whether a file of this name shows a trace or a histogram.
+fn has_late_text(name: &[u8]) -> bool {
+    name == b"trace".as_slice() || name == b"snapshot".as_slice() || name == b"hist".as_slice()
 }
 
-/// Whether a trace is to be looked for: a request may want one, and it is not the one of which that is known.
+/// Whether a text is to be looked for: a request may want one, and it is not the one of which that is known.
 fn is_to_look(looked: Option<u64>, number: Option<u64>) -> bool {
     match (looked, number) {
         (Some(looked), Some(number)) => looked != number,

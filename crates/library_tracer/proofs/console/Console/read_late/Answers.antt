@@ -6,7 +6,7 @@ use Rattle.tracer.specs.LateReads.{replied}
 use Rattle.library_tracer.specs.Inner.{seen}
 use Rattle.library_tracer.proofs.ConsoleLemmas.{Answers, idle_answered, idle_busy, too_late}
 use Rattle.library_tracer.proofs.ReadLemmas.{read_told, read_whole, whole_words}
-use Rattle.library_tracer.proofs.console.Console.read_trace.Goals as goal
+use Rattle.library_tracer.proofs.console.Console.read_late.Goals as goal
 
 pub returns-in-Err-Busy-clause-comes : goal.returns-in-Err-Busy-clause-comes
 returns-in-Err-Busy-clause-comes c =
@@ -37,7 +37,7 @@ returns-in-Ok-clause-comes c =
     let path = c.args.path.now in
     let answer = replied c.in-Ok.answer in
     rw (← c.self.view_is, c.settle.ensures) (read_told path (seen i) (seen (record i { idle = Some c.in-Ok.caller; last = last })) last answer kept.0 c.in-Ok.owes
-    c.keep_read-status.result c.requires.shows
+    c.keep_read-status.result c.requires.late
     (λ other is.
     idle_answered i c.in-Some.caller c.in-Ok.caller other (read_whole path) (whole_words path) answer c.in-Ok.owes (sym c.replace.ensures.value ∙ c.in-Some.is)
     c.self.invariant is (rw c.deref.ensures at c.in-Ok.ensures.called))

@@ -4,7 +4,7 @@ use Rattle.tracer.specs.LateReads.{replied}
 use Rattle.library_tracer.specs.Inner.{seen}
 use Rattle.library_tracer.proofs.ConsoleLemmas.{line_answered, line_busy}
 use Rattle.library_tracer.proofs.ReadLemmas.{read_told, read_whole, whole_words}
-use Rattle.library_tracer.proofs.console.Console.read_trace_in_line.Goals as goal
+use Rattle.library_tracer.proofs.console.Console.read_late_in_line.Goals as goal
 
 pub returns-in-Err-clause-comes : goal.returns-in-Err-clause-comes
 returns-in-Err-clause-comes c =
@@ -20,7 +20,7 @@ returns-in-Ok-clause-comes c =
     let path = c.args.path.now in
     let answer = replied c.in-Ok.answer in
     rw (← c.self.view_is, c.settle.ensures) (read_told path (seen i) (seen (record i { idle = Some c.in-Ok.caller; queued = rest; last = last })) last answer kept.0
-    c.in-Ok.owes c.keep_read-status.result c.requires.shows
+    c.in-Ok.owes c.keep_read-status.result c.requires.late
     (λ other is.
     line_answered i c.in-Some.queued c.in-Ok.caller rest other (read_whole path) (whole_words path) answer c.in-Ok.owes (sym c.replace.ensures.value ∙ c.in-Some.is)
     c.self.invariant c.replace.ensures.after is (rw (c.into_line.ensures, c.deref.ensures) at c.in-Ok.ensures.called))
