@@ -9,11 +9,12 @@ ghost use Rattle.tracectl_c.specs.Handles.{console_of};
 
 use crate::statuses::{BUSY, NOT_JOINED, status_of};
 use crate::thread_handle::ThreadHandle;
-use crate::value::{Value, value_in, values_in};
+use crate::value::{FEW, Value, put_few, value_in, values_in};
 use library_tracer::{Console, Mask, Tried};
 use std::alloc::{AllocError, Global};
 use std::slice;
 use trace_command::Refusal;
+use trace_format::FieldValue;
 
 /// What is wrong with a value that is neither a number nor bytes.
 const NO_KIND: &str = "a value is of none of the three kinds";
@@ -107,6 +108,31 @@ fn emit_list(
     }
 }
 
+/// Asks a console for an emission of several values, or of none. Few are put on the stack, and no list of them is allocated.
+#[inline(never)]
+fn emit_several(
+    console: &mut Console,
+    alloc: Global,
+    event: u32,
+    cpu: u32,
+    process: i32,
+    values: &[Value<'_>],
+) -> Tried
+    requires { IsSome console.old.has }
+    ensures asked { OrLacksMemory (said_given event cpu process (values_in values.now)) console.old console.new result }
+    ensures has { IsSome console.new.has }
+{
+    if values.len() > FEW {
+        return emit_list(console, alloc, event, cpu, process, values);
+    }
+    let mut room = [FieldValue::Unsigned(0); FEW];
+    if put_few(values, &mut room) {
+        console.emit_values(event, cpu, process, &room[..values.len()])
+    } else {
+        console.refuse(Refusal::BadValue, NO_KIND)
+    }
+}
+
 /// Asks a console for an emission of the values that are given.
 fn emit_given(
     console: &mut Console,
@@ -122,7 +148,7 @@ fn emit_given(
 {
     match values {
         [value] => emit_one(console, event, cpu, process, value),
-        _ => emit_list(console, alloc, event, cpu, process, values),
+        _ => emit_several(console, alloc, event, cpu, process, values),
     }
 }
 

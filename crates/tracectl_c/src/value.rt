@@ -1,6 +1,6 @@
 //! The values of an emission as C gives them.
 
-ghost use Rattle.std.specs.Prelude.{◌≡◌, IfOk};
+ghost use Rattle.std.specs.Prelude.{◌≡◌, ◌≤◌, true, false, Some, None, IfOk, length, take};
 ghost use Rattle.std.specs.Option.{option_map};
 ghost use Rattle.tracectl_c.specs.GivenValues.{value_in, values_in};
 
@@ -35,6 +35,25 @@ pub(crate) fn value_in<'a>(value: &Value<'a>) -> Option<FieldValue<'a>>
         BYTES => Some(FieldValue::Bytes(value.bytes)),
         _ => None,
     }
+}
+
+/// Of so many values at most no list is allocated.
+pub(crate) const FEW: usize = 8;
+
+/// Puts few values that are given into a room, from its beginning. `false` if one is of no kind.
+pub(crate) fn put_few<'a>(values: &[Value<'a>], room: &mut [FieldValue<'a>; FEW]) -> bool
+    requires { length values.now ≤ FEW }
+    ensures all { result ≡ true → Some (take (length values.now) room.new) ≡ values_in values.now }
+    ensures none { result ≡ false → None ≡ values_in values.now }
+    ensures size { length room.new ≡ FEW }
+{
+    for index in 0..values.len() {
+        let Some(given) = value_in(&values[index]) else {
+            return false;
+        };
+        room[index] = given;
+    }
+    true
 }
 
 /// The values that are given; `None` if one is of no kind.

@@ -15,4 +15,4 @@ returns-in-len1-clause-asked c =
 
 pub returns-in_default-clause-asked : goal.returns-in_default-clause-asked
 returns-in_default-clause-asked c =
-    let process : to_z w32 (of_z w32 c.args.process) ≡ c.args.process = to_z-of_z w32 c.args.process (search rules) in rw process at c.emit_list.ensures.asked
+    let process : to_z w32 (of_z w32 c.args.process) ≡ c.args.process = to_z-of_z w32 c.args.process (search rules) in rw process at c.emit_several.ensures.asked
