@@ -72,6 +72,8 @@ static uint32_t taken_aside(void) { return tracectl_write(&thread, TEXT("snapsho
 
 static uint32_t taken(void) { return tracectl_take(&thread, TEXT("per_cpu/cpu1/trace_pipe"), 1); }
 
+static uint32_t read_filter(void) { return tracectl_read(&thread, TEXT("events/synthetic/long_named_event/filter")); }
+
 static uint32_t read_hist(void) { return tracectl_read(&thread, TEXT("events/synthetic/long_named_event/hist")); }
 
 static uint32_t read_trace(void) { return tracectl_read(&thread, TEXT("trace")); }
@@ -94,9 +96,9 @@ static int is_done(const char *name, uint32_t (*call)(void)) {
     }
 }
 
-/* Reads a trace until it is done. Tells whether each refusal was one of memory: of the copy, and the history was left as it was; or, once there was memory
- * for that, of the text, and the read was one command more. No refusal leaves more memory taken than the one before, and the text is the one that there was
- * without refusals. */
+/* Reads a file of which a copy is taken until it is done. Tells whether each refusal was one of memory: of the copy, and the history was left as it was; or,
+ * once there was memory for that, of the text, and the read was one command more. No refusal leaves more memory taken than the one before, and the text is
+ * the one that there was without refusals. */
 static int is_read(const char *name, uint32_t (*call)(void)) {
     char text[4096], again[4096];
     if (call() != TRACECTL_DONE) return printf("%s: refused\n", name) < 0;
@@ -155,10 +157,10 @@ int main(void) {
         && tells(TEXT("trace_pipe"), 1) && tells(TEXT("per_cpu/cpu1/trace_pipe"), 1) && tells(TEXT("per_cpu/cpu0/trace_pipe"), 1)
         && tells(TEXT("per_cpu/cpu2/trace_pipe"), -TRACECTL_NO_SUCH_CPU) && tells(TEXT("no_file"), -TRACECTL_NO_SUCH_FILE)
         && tells(TEXT("trace"), -TRACECTL_BAD_VALUE) && tells(TEXT("instances/a/trace_pipe"), -TRACECTL_NO_SUCH_INSTANCE) && is_done("take", taken)
-        && tells(TEXT("per_cpu/cpu1/trace_pipe"), 0) && is_done("read", read_hist) && is_done("files", listed)
+        && tells(TEXT("per_cpu/cpu1/trace_pipe"), 0) && is_done("read", read_filter) && is_done("files", listed)
         && is_done("mkdir", made) && is_done("snapshot", swapped);
     printf("entries: %llu\n", (unsigned long long)tracectl_entries(&thread));
-    done = done && is_done("emit", emitted) && is_read("read trace", read_trace) && is_done("take a snapshot", taken_aside)
+    done = done && is_done("emit", emitted) && is_read("read trace", read_trace) && is_read("read hist", read_hist) && is_done("take a snapshot", taken_aside)
         && is_read("read snapshot", read_snapshot);
     done = is_given_back() && done;
     done = is_done("open", opened) && is_given_back() && done;

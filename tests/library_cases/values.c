@@ -84,6 +84,44 @@ static int many(void) {
     return probed("many, and one out of range", 0, values, MOST_VALUES, TEXT("n=1\0level=1000\0who=1\0=1\0=1\0=1")) && done;
 }
 
+/* Events of eight, nine and sixteen fields, whose numbers are 3, 4 and 5: numbers and strings by turns. Of up to eight values no list is allocated. */
+#define EIGHT_FIELDS "u8 a; char b[4]; s8 c; char d[4]; u8 e; char f[4]; s8 g; char h[4]"
+#define EIGHT_VALUES "a=1\0b=two\0c=-3\0d=4th\0e=5\0f=six\0g=-7\0h=8th"
+
+enum { FIRST_WIDE = 3, MOST_FIELDS = 16 };
+
+static const struct {
+    const char *name, *declared;
+    size_t count;
+    const char *fields;
+    size_t fields_length;
+} wide_events[] = {
+    {"eight", "eight " EIGHT_FIELDS, 8, TEXT(EIGHT_VALUES)},
+    {"nine", "nine " EIGHT_FIELDS "; u8 i", 9, TEXT(EIGHT_VALUES "\0i=9")},
+    {"sixteen", "sixteen " EIGHT_FIELDS "; u8 i; char j[4]; s8 k; char l[4]; u8 m; char n[4]; s8 o; char p[4]", 16,
+     TEXT(EIGHT_VALUES "\0i=9\0j=ten\0k=-11\0l=12\0m=13\0n=\0o=-15\0p=end")},
+};
+
+static int declare(tracectl_thread *thread, const char *declared) {
+    return !tracectl_append(thread, TEXT("synthetic_events"), declared, strlen(declared)) && !tracectl_write(thread, TEXT("events/enable"), TEXT("1"));
+}
+
+/* Each with all its values, and, by values alone, without the last. */
+static int wide(void) {
+    const tracectl_value values[MOST_FIELDS] = {NUMBER(1), BYTES("two"), SIGNED(-3),  BYTES("4th"), NUMBER(5),  BYTES("six"), SIGNED(-7),  BYTES("8th"),
+                                                NUMBER(9), BYTES("ten"), SIGNED(-11), BYTES("12"),  NUMBER(13), BYTES(""),    SIGNED(-15), BYTES("end")};
+    int done = 1;
+    for (uint32_t i = 0; i < sizeof wide_events / sizeof *wide_events; i++) {
+        const char *name = wide_events[i].name;
+        size_t count = wide_events[i].count;
+        done &= declare(&given, wide_events[i].declared) && declare(&told, wide_events[i].declared);
+        done &= tracectl_emit_values(&given, FIRST_WIDE + i, 1, 7, values, count - 1) == TRACECTL_BAD_ROW;
+        done &= compared(name, tracectl_emit_values(&given, FIRST_WIDE + i, 1, 7, values, count),
+                         tracectl_emit(&told, name, strlen(name), 1, 7, wide_events[i].fields, wide_events[i].fields_length));
+    }
+    return done;
+}
+
 /* Numbers that no event has. */
 static int unknown(void) {
     static const uint32_t numbers[] = {0, 3, 64, 65, UINT32_MAX};
@@ -110,6 +148,24 @@ static int unknown_kind(void) {
     return printf("unknown kind: %s\n", refused ? "refused" : "not refused") > 0 && refused;
 }
 
+/* Such a value among seven, eight and nine, in the seventh to the ninth place, after one that is no number: the kind is looked for first. In the tenth
+ * place nobody looks. */
+static int unknown_kind_of_many(void) {
+    uint64_t entries = tracectl_entries(&given);
+    int refused = 1;
+    for (size_t count = 7; count <= 9; count++) {
+        for (size_t place = 6; place <= 9; place++) {
+            tracectl_value values[10];
+            for (int i = 0; i < 10; i++) values[i] = NUMBER(1);
+            values[2] = BYTES("none");
+            values[place].kind = 3;
+            refused &= tracectl_emit_values(&given, FIRST_WIDE, 1, 7, values, count) == (place < count ? TRACECTL_BAD_VALUE : TRACECTL_BAD_ROW);
+        }
+    }
+    refused &= tracectl_entries(&given) == entries;
+    return printf("unknown kind of many: %s\n", refused ? "refused" : "not refused") > 0 && refused;
+}
+
 static int same_file(const char *path) {
     uint32_t statuses[] = {tracectl_read(&given, path, strlen(path)), tracectl_read(&told, path, strlen(path))};
     return compared(path, statuses[0], statuses[1]);
@@ -120,5 +176,6 @@ int main(void) {
     int done = tracectl_emit_values(&given, 1, 0, 7, &n, 1) == TRACECTL_NOT_JOINED && begin(&given_tracer, &given)
         && begin(&told_tracer, &told);
     done = done && right() && wrong() && many() && unknown() && unknown_kind() && same_file("trace") && same_file("per_cpu/cpu0/stats");
+    done = done && wide() && unknown_kind_of_many() && same_file("per_cpu/cpu1/trace");
     return tracectl_leave(&given) || tracectl_leave(&told) || tracectl_close(&given_tracer) || tracectl_close(&told_tracer) || !done;
 }
