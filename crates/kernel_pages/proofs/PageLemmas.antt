@@ -1,5 +1,5 @@
 -- What is read of a page, and how long it is.
-use Rattle.std.proofs.Common.{◌≡◌, ℕ, ◌+◌, ◌-◌, ◌*◌, ◌/◌, ◌%◌, ◌^◌, ◌<◌, ◌≤◌, ◌==◌, Bool, if◌then◌else◌, true, false, List, [], ◌∷◌, ◌++◌, length, take, drop, replicate, map, Some, None, IfSome, refl, sym, ap, ◌∙◌, arith, lit<, append_assoc, length-append}
+use Rattle.std.proofs.Common.{◌≡◌, ℕ, ◌+◌, ◌-◌, ◌/◌, ◌%◌, ◌^◌, ◌<◌, ◌≤◌, ◌==◌, Bool, if◌then◌else◌, true, false, List, [], ◌∷◌, ◌++◌, length, take, drop, replicate, map, Some, None, IfSome, refl, sym, ap, ◌∙◌, arith, lit<, append_assoc, length-append}
 use Rattle.std.specs.Prelude.{slice_get}
 use Rattle.std.specs.Int.{w64, to_le_bytes}
 use Rattle.std.specs.List.{AllByRecursion}
@@ -8,9 +8,9 @@ use Rattle.std.proofs.lemmas.List.{take_all, take_at, drop_at, drop-drop, length
 use Rattle.std.proofs.lemmas.Nat.{from_le_bytes-to_le_bytes_8}
 use Rattle.trace_record.specs.Record.{number_at}
 use Rattle.kernel_pages.specs.declared.page_row.PageRow.{PageRow}
-use Rattle.kernel_pages.specs.Pages.{event_bytes, events_from, events_of, lost_bytes, lost_before, first_time, commit_of, page_of, IsOnePage}
+use Rattle.kernel_pages.specs.Pages.{event_bytes, events_of, lost_bytes, lost_before, first_time, commit_of, page_of, IsOnePage}
 use Rattle.kernel_pages.specs.ReadPages.{read_events, lost_told, read_page}
-use Rattle.kernel_pages.specs.Laws.{IsPageRow, event_of, PageIsRead, PageHasItsSize, PageHasFewRows, RowFits}
+use Rattle.kernel_pages.specs.Laws.{IsPageRow, event_of, PageIsRead, PageHasItsSize, RowFits}
 use Rattle.kernel_pages.proofs.EventLemmas.{length-event_bytes}
 use Rattle.kernel_pages.proofs.TakingLemmas.{at_once, lost_is_small}
 use Rattle.kernel_pages.proofs.ReadLemmas.{read_rows}
@@ -131,14 +131,3 @@ pub first_is_taken : (rows : List PageRow) (count : ℕ) → ((n : ℕ) → n �
     → IfSome (slice_get rows 0) (λ row. length row.bytes ≤ 4056 → 0 < count)
 first_is_taken [] count all = tt
 first_is_taken (row ∷ rows) count all = λ few. let one = all 1 (omega arith) (row_fits row few) in omega arith
-
-two_words_each : (time : ℕ) (rows : List PageRow) → AllByRecursion IsPageRow rows → 8 * length rows ≤ length (events_from time rows)
-two_words_each time [] are = omega arith
-two_words_each time (row ∷ rows) are =
-    let some = are.0.some in
-    let size = length-event_bytes (row.time - time) row.bytes in
-    let head : 4 + length row.bytes ≤ length (event_bytes (row.time - time) row.bytes) = grind (arith, nat_tests) in
-    omega (arith, length-append (event_bytes (row.time - time) row.bytes) (events_from row.time rows), two_words_each row.time rows are.1)
-
-pub page_has_few_rows : PageHasFewRows
-page_has_few_rows rows page are = omega (arith, page.room, two_words_each (first_time rows) rows are)

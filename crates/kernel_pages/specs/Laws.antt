@@ -28,7 +28,3 @@ PageHasItsSize = (rows : List PageRow) → IsOnePage rows → length (page_of ro
 -- a row alone is a page, if its data have at most 4,056 bytes
 abbrev pub RowFits : Type 0
 RowFits = (row : PageRow) → length row.bytes ≤ 4056 → IsOnePage (row ∷ [])
-
--- a page has at most 510 rows, each of two words or more
-abbrev pub PageHasFewRows : Type 0
-PageHasFewRows = (rows : List PageRow) → IsOnePage rows → AllByRecursion IsPageRow rows → length rows ≤ 510

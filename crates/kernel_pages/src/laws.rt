@@ -13,11 +13,6 @@ pub fn page_has_its_size()
     ensures { laws.PageHasItsSize }
 {}
 
-/// No page takes more than 510 rows, so whoever gives it so many has left out none that fits.
-pub fn page_has_few_rows()
-    ensures { laws.PageHasFewRows }
-{}
-
 /// No page tells more than 340 records of a ring, so whoever gives it so many has left out none that fits.
 pub fn page_has_few_records()
     ensures { formats.PageHasFewRecords }
