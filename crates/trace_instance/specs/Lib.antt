@@ -9,6 +9,7 @@ pub mod Deliveries
 pub mod Files
 pub mod FileAnswers
 pub mod LateReplies
+pub mod RecordTakes
 pub mod TriggerLists
 pub mod EventLists
 pub mod private

@@ -1,6 +1,6 @@
 -- What calls come to.
 use Rattle.std.proofs.Common.{◌≡◌, ℕ, ◌<◌, List, ◌∷◌, length, Result, Ok, Err, IfOk, IfErr, OnOk, OnErr, refl, sym, subst, arith}
-use Rattle.trace_command.specs.Refusals.{IsFoundEarly, IsRefusal}
+use Rattle.trace_command.specs.Refusals.{IsRefusal}
 use Rattle.trace_command.specs.Requests.{Request}
 use Rattle.trace_command.specs.declared.command.Config.{Config}
 use Rattle.trace_command.specs.declared.command.Reply.{Reply}
@@ -14,7 +14,7 @@ use Rattle.tracer_state.specs.States.{IsPrepared, TakesMemory}
 use Rattle.tracer_state.specs.declared.state.Prepared.{Prepared}
 use Rattle.tracer.specs.LiveSeen.{LiveSeen}
 use Rattle.tracer.specs.Lives.{IsCallWithin, IsLive, limited_answer}
-use Rattle.tracer.proofs.Limits.{early-with_room, limited-done, limited-late}
+use Rattle.tracer.proofs.Limits.{limited-done, limited-late}
 
 -- one that is done
 pub call-done : (limit : ℕ) (g : Config) (past : List Request) (new : LiveSeen) (request : Request) (reply : Reply) → new.config ≡ g

@@ -1,5 +1,5 @@
 -- A tracer that keeps no history: what it is fit for, and what led to it after one command more.
-use Rattle.std.proofs.Common.{◌≡◌, ℕ, ℤ, ◌+◌, ◌<◌, List, [], ◌∷◌, All, IsOk, Ok, refl, sym, ◌∙◌, subst, arith}
+use Rattle.std.proofs.Common.{◌≡◌, ◌+◌, ◌<◌, List, [], ◌∷◌, All, IsOk, Ok, refl, ◌∙◌, arith}
 use Rattle.trace_command.specs.Configs.{IsInRange}
 use Rattle.trace_command.specs.Requests.{Request}
 use Rattle.trace_command.specs.declared.command.Config.{Config}
@@ -7,11 +7,9 @@ use Rattle.trace_command.specs.declared.command.Reply.{Reply}
 use Rattle.trace_command.specs.declared.command.Reply.TheVariants.{Done}
 use Rattle.tracer_specification.specs.History.{answer_with_room}
 use Rattle.trace_instance.specs.Deliveries.{HasFew, HasFewRows}
-use Rattle.trace_instance.specs.declared.change.Delivery.{Delivery}
 use Rattle.tracer_state.specs.States.{IsEmitted, IsPrepared, IsPreparedEmission, IsStateAlike, IsStep, IsUnchanged, IsUsable, StandsFor}
 use Rattle.tracer_state.specs.declared.state.Named.{Named}
 use Rattle.tracer_state.specs.declared.state.Prepared.{Prepared}
-use Rattle.tracer_state.specs.declared.state.State.{State}
 use Rattle.tracer_state.proofs.Alike.{state_alike-stands, unchanged-stands}
 use Rattle.tracer_state.proofs.Stands.{stands_after, stands_after_emission}
 use Rattle.tracer_state.proofs.Usable.{few_from_stands, few_rows_from_stands, usable_from_stands}

@@ -4,3 +4,4 @@ pub mod LiveFields
 pub mod LiveLaws
 pub mod LiveMasks
 pub mod LateReads
+pub mod TakingCalls

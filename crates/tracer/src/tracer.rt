@@ -16,13 +16,14 @@
 //! never looks at the command again: it makes a step of the state, and the first has shown that this is the step that the definitions give the command.
 //!
 //! The phases are public (`phases.rt`), for a caller that has something of its own to do between them, as a book writes its entry ahead. `ask.rt` has
-//! whole calls, `late.rt` a read whose text is made after the call.
+//! whole calls, `late.rt` a read whose text is made after the call, `take.rt` one of records of which no text is made.
 //!
 //! No clause speaks of a history, since none is kept. Each holds for every list of requests of which `IsLive` held before the call.
 
 mod ask;
 mod late;
 mod phases;
+mod take;
 
 ghost use Rattle.std.specs.Prelude.{◌≡◌, ◌≢◌, ◌<◌, [], List, drop, length, is_some, IfOk, IfErr, IfSome, OnOk};
 ghost use Rattle.std.specs.List.{slice_get};

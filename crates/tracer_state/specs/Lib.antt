@@ -3,5 +3,6 @@ pub mod EventPlans
 pub mod WantedMasks
 pub mod States
 pub mod LateReads
+pub mod PreparedTakes
 pub mod ValueEmissions
 pub mod private

@@ -41,7 +41,7 @@ impl PreparedLate {
 }
 
 impl State {
-    /// As `prepare_read`, but of a file that shows a trace only a copy is taken.
+    /// As `prepare_read`, but of a file that shows a long text only a copy is taken.
     pub fn prepare_copy(
         &self,
         alloc: Global,

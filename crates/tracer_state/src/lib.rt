@@ -11,6 +11,7 @@ mod reach;
 mod resolve;
 mod row;
 mod state;
+mod take;
 mod waiting;
 mod wanted;
 

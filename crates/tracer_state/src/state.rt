@@ -94,7 +94,7 @@ impl State {
 
     /// Applies a change, and works out the plans that it may change. It may still allocate for the lists of events and of instances, a spare side, or
     /// a hist trigger; if that is refused, nothing changes.
-    pub(crate) fn commit(&mut self, config: &Config, change: Change) -> Result<(), Refusal>
+    pub fn commit(&mut self, config: &Config, change: Change) -> Result<(), Refusal>
         requires usable { states.IsUsable config.now self.old }
         requires ready { states.IsReady config.now self.old change }
         ensures done { OnOk result (states.IsStep self.old self.new change) }

@@ -16,8 +16,9 @@ use trace_instance::LateReply;
 use tracer_state::PreparedLate;
 
 impl Tracer {
-    /// As `read_at`, but of a file that shows a trace only a copy is taken, and the reply is made of it later (`LateReply::reply`), whatever is done to the
-    /// tracer until then. The copy takes at most the memory of the pages of the rings that are shown, and that of the declared events.
+    /// As `read_at`, but of a file that shows a long text, a trace or histograms, only a copy is taken, and the reply is made of it later
+    /// (`LateReply::reply`), whatever is done to the tracer until then. The copy of a trace takes at most the memory of the pages of the rings that are shown,
+    /// and that of the declared events; that of histograms the memory of their entries.
     pub fn copy_at(&mut self, address: Address<'_>, most: Option<u64>) -> Result<LateReply, Refusal>
         requires { DeclaresAtTop address }
         ensures call { (past : List Request) → IsLive self.old.config past self.old
@@ -28,7 +29,7 @@ impl Tracer {
         self.carry_out_late(prepared)
     }
 
-    /// As `prepare_read_at`, but of a file that shows a trace only a copy is taken.
+    /// As `prepare_read_at`, but of a file that shows a long text only a copy is taken.
     pub fn prepare_copy_at(
         &self,
         limit: u64,
