@@ -6,6 +6,7 @@ pub mod PipeLemmas
 pub mod ReadLemmas
 pub mod PageReads
 pub mod PageLaws
+pub mod WaitingPages
 pub mod OpenLemmas
 pub mod LineLemmas
 pub mod ListingLemmas
@@ -18,6 +19,7 @@ pub mod NewEvents
 pub mod TurnLemmas
 pub mod DoneLemmas
 pub mod AddressLemmas
+pub mod TakeLemmas
 pub mod CallLemmas
 pub mod CopyLemmas
 pub mod UnwantedEmissions

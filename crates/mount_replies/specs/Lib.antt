@@ -12,6 +12,7 @@ pub mod Served
 pub mod Owed
 pub mod Watches
 pub mod Mounted
+pub mod UntoldAnswers
 pub mod EntryNumbers
 pub mod ShownTexts
 pub mod Calls

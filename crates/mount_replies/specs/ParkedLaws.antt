@@ -160,7 +160,7 @@ abbrev pub given_to : (handle : ℕ) (g : Terms) (before : Service) (asked bytes
 given_to handle g before [] bytes after told = given_told handle g before (owed g before) bytes after told
 given_to handle g before (byte ∷ asked) bytes after (quiet, served) = given_asked handle g before (byte ∷ asked) bytes after served
 
--- in a turn; a call takes nothing for a handle, whatever it reads, and what a trace shows is taken of no pipe
+-- in a turn; a call takes nothing for a handle, whatever it reads, and a long text is taken of no pipe
 abbrev pub taken_in : (handle : ℕ) (g : Terms) (before : Service) (turn : Turn) (after : Service) → IsTurned g before turn after → List ℕ
 taken_in handle g before (Exchanged asked bytes) after one = taken_for handle g before asked bytes after one
 taken_in handle g before (Called limit request answer) after one = []

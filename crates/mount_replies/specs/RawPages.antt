@@ -22,7 +22,7 @@ next_rows g s owner cpu =
     rows_of (declared_events s.past)
     (cpu_pipe_read g.config cpu (Some 340) (rings g.config (owner_name (scene_of g s) owner) s.past)).taken
 
--- as many of them as one page tells, and that page
+-- as many of them as one page tells, so many as are in the longest prefix that is one page (law `longest`), and that page
 abbrev pub next_count : Terms → Service → Owner → ℕ → ℕ
 next_count g s owner cpu = taken_of (next_rows g s owner cpu)
 

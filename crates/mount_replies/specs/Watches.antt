@@ -44,7 +44,8 @@ pub record WatchSeen : Type 0 where
 abbrev pub slots_of : WatchSeen → List (Option DryPipe)
 slots_of watch = watch.slots
 
--- after these requests, which led to a tracer with so many CPUs, the instance of a pipe does not want the event of this number, if there is one
+-- after these requests, which led to a tracer with so many CPUs, the instance of a pipe does not want the event of this number, if there is one. (Of an
+-- instance that was removed it speaks of the top one: then a read is due, and the watch ends.)
 abbrev pub IsUnwantedBy : ℕ → List Request → ℕ → Option DryPipe → Type 0
 IsUnwantedBy cpus past number None = Unit {0}
 IsUnwantedBy cpus past number (Some pipe) =

@@ -16,6 +16,7 @@ ghost use Rattle.mount_tree.specs.declared.node.Node.TheVariants as nodes;
 ghost use Rattle.mount_replies.specs.Lines.{noted_answer};
 ghost use Rattle.mount_replies.specs.Mounted.{AsksBy, HasLedTo, IsAsked, IsQuiet};
 ghost use Rattle.mount_replies.specs.Steps.{read_of, write_of};
+ghost use Rattle.mount_replies.specs.UntoldAnswers.{AsksUntold};
 ghost use Rattle.mount_replies.specs.private.Commandings.{CommandsBy};
 ghost use Rattle.mount_replies.specs.private.LineRuns.{StaysThere};
 ghost use Rattle.mount_replies.specs.private.Notings.{AsksNoted};
@@ -64,6 +65,15 @@ impl Mount {
     {
         let address = self.scene.address(owner, file);
         self.live.read_at(address, limit)
+    }
+
+    /// Reads at most so many records of a file that is there, of which no text is made.
+    pub(crate) fn ask_take(&mut self, owner: Owner, file: File, most: u64) -> Result<(), Refusal>
+        requires { is_there self.old.scene (nodes.File owner file) ≡ true }
+        ensures { AsksUntold self.old self.new (read_of self.old.scene (nodes.File owner file) (Some most)) result }
+    {
+        let address = self.scene.address(owner, file);
+        self.live.take_at(address, most)
     }
 
     /// Writes a text to a file that is there, by `>` or, to append, by `>>`.

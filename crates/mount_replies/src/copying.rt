@@ -1,5 +1,5 @@
-//! Reads of the program that has the mounted tracer whose replies are made later: they are calls (`calls.rt`), but of a file that shows a trace only a
-//! copy is taken, so that whoever shares the mounted tracer gives it back before the text is made.
+//! Reads of the program that has the mounted tracer whose replies are made later: they are calls (`calls.rt`), but of a file that shows a long text only
+//! a copy is taken, so that whoever shares the mounted tracer gives it back before the text is made.
 
 ghost use Rattle.std.specs.Prelude.{◌≤◌, List};
 ghost use Rattle.trace_command.specs.Requests.{Request, request_of};
@@ -15,8 +15,8 @@ use trace_command::{Refusal, address_of};
 use trace_instance::LateReply;
 
 impl Mount {
-    /// As `call_within`, for a read of the file at this path, of a pipe of at most so many records; but of a file that shows a trace only a copy is taken,
-    /// and the reply is made of it later (`LateReply::reply`), whatever is done to the mounted tracer until then.
+    /// As `call_within`, for a read of the file at this path, of a pipe of at most so many records; but of a file that shows a long text only a copy is
+    /// taken, and the reply is made of it later (`LateReply::reply`), whatever is done to the mounted tracer until then.
     pub fn copy_within(
         &mut self,
         limit: u64,

@@ -6,7 +6,7 @@ ghost use Rattle.mount_replies.specs.ComputedSteps.{StepsAreComputed};
 ghost use Rattle.mount_replies.specs.EntryNumbers.{EntryNumbersDiffer, EntryNumbersName};
 ghost use Rattle.mount_replies.specs.MountExamples.{SessionsAreServed};
 ghost use Rattle.mount_replies.specs.MountLaws.{CutsDontMatter, LinesEndAtNewlines, NothingLeftIsAll, OthersFlushNothing, ReadsGoOn, StepsDoCommands, StreamsLoseNothing};
-ghost use Rattle.mount_replies.specs.PageLaws.{PageCacheGetsPages, PageReadsTake, PagesAreReadAsTaken, PagesTakeAllThatFits, PagesTakeSome};
+ghost use Rattle.mount_replies.specs.PageLaws.{PageCacheGetsPages, PageReadsGiveSome, PageReadsTake, PagesAreReadAsTaken, PagesTakeAllThatFits, PagesTakeSome, PagesTakeWhatWaits};
 ghost use Rattle.mount_replies.specs.PageTurns.{CachedReadsKeepNothing, NoPageIsLostOrToldTwice, PagesAreOfOneRead};
 ghost use Rattle.mount_replies.specs.ParkedLaws.{ClosedReadsTakeNothing, InterruptedReadsTakeNothing, NoPollWaitsForWhatIsThere, NoReadWaitsForWhatIsThere, NoRecordIsLostOrToldTwice, OldestIsAnsweredFirst, ParkedReadsArmPolls, ReadsAreAnsweredOnce, ReadsArmPolls, TakenTextIsGivenOrKept, TellingDoesOneCommandAtMost};
 ghost use Rattle.mount_replies.specs.PastLaws.{ErrorsAreOfInstances, LaterReadsGoOn, PastsAreDone, PastsFitTheirTypes, ReadsEndWithTheText, ReadsShowThePast, RemovedFilesAreMissing, ServedScenesAreSound, SizesAreLengths, StatsShowThePast, ToolReadsShowThePast, WritesAreCommands};
@@ -72,18 +72,21 @@ pub fn pages_go_to_one_reader()
 
 /// Of a CPU's binary pages the page cache gets whole ones (`whole`). A READ of them does no command, or the one that takes as many records of the CPU's pipe
 /// as the next page has, and gives the beginning of that page (`take`), which is read, by Linux's rules alone, as these records (`read`). So a page has
-/// what a `take` of it would have told, each record once.
+/// what a `take` of it would have told, each record once. Where a record waits, whatever was served, and nothing is left of the page before, a READ gives one
+/// at least, unless that command is refused, or the page cache has no room for a page (`gives`).
 pub fn pages_show_what_is_taken()
     ensures whole { PageCacheGetsPages }
     ensures take { PageReadsTake }
     ensures read { PagesAreReadAsTaken }
+    ensures gives { PageReadsGiveSome }
 {}
 
 /// What is taken for a page is the longest prefix of the records that wait which is one page (`longest`): all that fit, and one at least where one waits whose
-/// data fit a page, as those of any event that can be declared do (`some`).
+/// data fit a page (`some`), as those of each record that waits do, whatever was served (`waits`).
 pub fn pages_take_all_that_fits()
     ensures longest { PagesTakeAllThatFits }
     ensures some { PagesTakeSome }
+    ensures waits { PagesTakeWhatWaits }
 {}
 
 /// Where something waits, no read does that could take it, and no poll that is to be told of it, whenever nothing is owed, as where a request is answered;
@@ -171,7 +174,7 @@ pub fn sizes_are_lengths()
 {}
 
 /// By the number that a look-up told of a file or folder a request names it, and two look-ups of binary pages tell two numbers, unless 2^17 requests or
-/// more lie between them. So no two look-ups share what the page cache keeps for a number.
+/// more lie between them. So none share what the page cache keeps for a number, unless so many lie between them.
 pub fn entry_numbers_name_nodes()
     ensures named { EntryNumbersName }
     ensures differ { EntryNumbersDiffer }

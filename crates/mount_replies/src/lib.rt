@@ -3,6 +3,7 @@
 
 mod asking;
 mod calls;
+mod closing;
 mod commands;
 mod copying;
 mod counted;
@@ -11,6 +12,7 @@ mod errno;
 mod fault;
 mod files;
 mod following;
+mod injected_line;
 mod injection;
 pub mod laws;
 mod listing;

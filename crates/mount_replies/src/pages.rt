@@ -139,10 +139,8 @@ impl Mount {
             return tell_error(read.unique, Errno::ENOMEM, out);
         };
         let pipe = File::OfCpu(cpu, CpuFile::TracePipe);
-        match self.ask_read(owner, pipe, Some(page.taken as u64)) {
-            Ok(answer) => {
-                // It is let go by a call, so that the proof doesn't follow its parts.
-                drop(answer);
+        match self.ask_take(owner, pipe, page.taken as u64) {
+            Ok(()) => {
                 let size = read.size.min(MOST_DATA) as usize;
                 tell_part(read.unique, page.bytes.as_bytes(), 0, read.size, out);
                 self.files.keep_records(read.handle, page.bytes, size);

@@ -1,5 +1,5 @@
 use Rattle.std.proofs.Common.{◌≡◌, ◌≤◌, ◌+◌, ◌-◌, ◌++◌, length, drop, vec_len, vec_capacity}
-use Rattle.mount_replies.proofs.injection.listed.Given as goal
+use Rattle.mount_replies.proofs.injected_line.listed.Given as goal
 
 -- there is room for all pairs; the pairs so far and those that are left are all
 abbrev pub invariant-loop-pair : goal.invariant-loop-pair

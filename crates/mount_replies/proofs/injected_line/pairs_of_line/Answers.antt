@@ -1,5 +1,5 @@
 use Rattle.mount_replies.proofs.LineLemmas.{asked, faulty}
-use Rattle.mount_replies.proofs.injection.pairs_of_line.Goals as goal
+use Rattle.mount_replies.proofs.injected_line.pairs_of_line.Goals as goal
 
 pub returns-in-Ok : goal.returns-in-Ok
 returns-in-Ok c = λ line is. rw c.pairs_asked.ensures (asked line c.args.text.now c.in-Ok.line is c.in-Ok.ensures)

@@ -1,6 +1,6 @@
 use Rattle.std.proofs.Common.{arith}
 use Rattle.mount_replies.proofs.LineLemmas.{all_left, one_more}
-use Rattle.mount_replies.proofs.injection.left_out.Goals as goal
+use Rattle.mount_replies.proofs.injected_line.left_out.Goals as goal
 
 pub loop-field-preserved : goal.loop-field-preserved
 loop-field-preserved c =
