@@ -10,7 +10,7 @@ use Rattle.shared_mount.specs.MountHistories.{IsOwing}
 use Rattle.shared_mount.specs.declared.served.Served.{Served}
 use Rattle.shared_mount.specs.declared.served.Served.TheVariants.{Done, NotNow}
 
--- a trace showed this after some of the turns that were seen
+-- a file showed this long text after some of the turns that were seen
 pub record IsShownIn (g : SharedTerms) (seen : List EntrySeen) (shown : ShownText) : Type 0 where
   pub earlier : List EntrySeen
   pub later : List EntrySeen

@@ -32,7 +32,7 @@ use trace_command::{Config, Refusal, Reply};
 use tracer::Tracer;
 
 /// A mounted tracer and the history of all turns, of which it keeps nothing in memory. While reads wait, also the pipes that they wait for: these stay the
-/// same over calls, so an emission costs a look at each pipe, and not at each read.
+/// same over calls, so an emission costs a look at each pipe, and not at each read; and none where no instance of these pipes wants the event.
 pub struct LiveMount {
     mount: Mount,
     watch: Option<Watch>,
@@ -75,7 +75,7 @@ pub(crate) fn forget_events(watch: &mut Option<Watch>)
 }
 
 // Has the mounted tracer run what is asked, unless so many commands were done. Where the parked reads wait for some pipes, an emission by values looks at
-// these.
+// these, if an instance of theirs may want its event.
 #[inline(always)]
 #[tactic(auto, using(crate::proofs::KnownEvents::fresh_known))]
 fn run(

@@ -21,7 +21,7 @@ use mount_replies::{CopiedText, ShownText};
 use std::snapshot::Snapshot;
 use ticket_lock::{Held, TicketLock};
 
-/// Copies the trace whose text a request wants, if it wants one, and ends the turn. Nothing is done.
+/// Copies that whose long text a request wants, if it wants one, and ends the turn. Nothing is done.
 pub(crate) fn copy_wanted_in_turn(
     lock: &TicketLock<LiveMount>,
     held: Held<LiveMount>,

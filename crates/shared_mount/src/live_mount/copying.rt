@@ -13,7 +13,7 @@ use trace_command::Refusal;
 use trace_instance::LateReply;
 
 impl LiveMount {
-    /// As `call`, of a read of the file at this path, of a pipe of at most so many records; but of a file that shows a trace only a copy is taken, and the
+    /// As `call`, of a read of the file at this path, of a pipe of at most so many records; but of a file that shows a long text only a copy is taken, and the
     /// reply is made of it later (`LateReply::reply`). The answer in the history is the one that the copy means.
     pub fn copy(
         &mut self,

@@ -15,7 +15,7 @@ use mount_replies::{CopiedText, ShownText};
 use std::snapshot::Snapshot;
 
 impl LiveMount {
-    /// A copy of the trace whose text a request wants, if it wants one. Nothing is done.
+    /// A copy of that whose long text a request wants, if it wants one. Nothing is done.
     pub fn copy_wanted(&self, asked: &[u8]) -> Option<CopiedText>
         ensures copied { IfSome result (IsCopied self.now.terms.mount (done_in self.now.entries)) }
         ensures taken { WereTaken self.now.terms self.now.entries }
@@ -23,7 +23,7 @@ impl LiveMount {
         self.mount.copy_wanted(asked)
     }
 
-    /// As `answer`, of a text that a trace showed after earlier turns, if the request wants it.
+    /// As `answer`, of a long text that its file showed after earlier turns, if the request wants it.
     pub fn answer_shown(
         &mut self,
         ticket: u64,

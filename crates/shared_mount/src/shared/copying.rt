@@ -14,8 +14,8 @@ use trace_command::Refusal;
 use trace_instance::LateReply;
 
 impl SharedMount {
-    /// As `try_call`, of a read of the file at this path, of a pipe of at most so many records; but of a file that shows a trace only a copy is taken, and the
-    /// caller makes the reply of it after the turn (`LateReply::reply`). The answer in the history is the one that the copy means, whether the reply is made
+    /// As `try_call`, of a read of the file at this path, of a pipe of at most so many records; but of a file that shows a long text only a copy is taken, and
+    /// the caller makes the reply of it after the turn (`LateReply::reply`). The answer in the history is the one that the copy means, whether the reply is made
     /// or not.
     pub fn try_copy(
         &self,

@@ -14,7 +14,7 @@ use crate::showing::{copy_wanted_in_turn, show_in_turn};
 use mount_replies::{CopiedText, ShownText};
 
 impl SharedMount {
-    /// Copies the trace whose text a request wants, if it wants one, in a turn, if nobody has one or is in line for one. Nothing is done. The caller makes
+    /// Copies that whose long text a request wants, if it wants one, in a turn, if nobody has one or is in line for one. Nothing is done. The caller makes
     /// the text after the turn (`CopiedText::text`), while others have theirs, and then has the request served of it (`try_answer_shown`).
     pub fn try_copy_wanted(
         &self,
@@ -54,7 +54,7 @@ impl SharedMount {
         }
     }
 
-    /// As `try_answer`, of a text that a trace showed after turns that the caller has seen, if the request wants it. The text comes back where there was no
+    /// As `try_answer`, of a long text that its file showed after turns that the caller has seen, if the request wants it. The text comes back where there was no
     /// turn.
     pub fn try_answer_shown(
         &self,
