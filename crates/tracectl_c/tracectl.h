@@ -33,8 +33,8 @@
  *  - No call comes from a signal handler, nor from the child of a fork in a process with threads. (Of a tracer that was opened before the fork, all calls in
  *    the child are refused with TRACECTL_FORKED.)
  *  - malloc, realloc and free come from one allocator, and align blocks to 16 bytes. They may refuse memory: the call is then refused
- *    (TRACECTL_MEMORY), and has changed nothing. But tracectl_read of a trace or a snapshot may be refused it also after the read was done, which counts as a
- *    command and changes nothing else.
+ *    (TRACECTL_MEMORY), and has changed nothing. But tracectl_read of a trace, a snapshot or a `hist` may be refused it also after the read was done, which
+ *    counts as a command and changes nothing else.
  */
 #ifndef TRACECTL_H
 #define TRACECTL_H
@@ -382,7 +382,8 @@ TRACECTL_FUNCTION uint32_t tracectl_read_by(tracectl_thread *thread, const char 
 }
 
 /* Reads a file to its end, as `cat PATH` does, and at most so many records of a pipe, as `take LIMIT PATH`. What was read is the reply. Of `trace`,
- * `per_cpu/cpuN/trace` and `snapshot` only a copy is taken while other threads' calls wait; its text, which is that of this moment, is made beside them. */
+ * `per_cpu/cpuN/trace`, `snapshot` and an event's `hist` only a copy is taken while other threads' calls wait; its text, which is that of this moment, is
+ * made beside them. */
 TRACECTL_FUNCTION uint32_t tracectl_read(tracectl_thread *thread, const char *path, size_t path_length) {
     return tracectl_read_by(thread, path, path_length, 0, 0);
 }

@@ -1,7 +1,7 @@
 /* Each call while memory is refused: its first allocation, its second and so on, until the call is done. A call that was refused has changed nothing, and
- * the next one may be done; but a read of a trace that was refused memory for its text was done. A look at a pipe, or at what is wanted, takes no memory. All
- * that was given out has been given back after an open or a join that was refused, and after a close. Linked with --wrap=malloc, --wrap=realloc and
- * --wrap=free. */
+ * the next one may be done; but a read of a trace, a snapshot or a `hist` that was refused memory for its text was done. A look at a pipe, or at what is
+ * wanted, takes no memory. All that was given out has been given back after an open or a join that was refused, and after a close. Linked with
+ * --wrap=malloc, --wrap=realloc and --wrap=free. */
 #include <stdio.h>
 #include <string.h>
 

@@ -1,6 +1,7 @@
 pub mod ConsoleLemmas
 pub mod LateNames
 pub mod ReadLemmas
+pub mod TryLemmas
 pub mod ShownLemmas
 pub mod FilesLemmas
 pub mod LeavingLemmas

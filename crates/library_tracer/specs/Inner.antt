@@ -38,7 +38,7 @@ seen c = record {
   words = words_in c.last;
 }
 
--- The caller is one of its tracer's, and idle or in line. A text that is kept was shown after turns that it has seen.
+-- The caller is one of its tracer's, and idle or in line. A text that is kept is its file's after all turns that the caller has seen.
 pub record IsSound (c : Inside) : Type 0 where
   pub idle : IfSome c.idle (IsCallerOf (arc_value c.tracer))
   pub in_line : IfSome c.queued (λ queued. IsInLineOf (arc_value c.tracer) queued.line)

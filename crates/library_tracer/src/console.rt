@@ -25,6 +25,7 @@ ghost use Rattle.library_tracer.specs.Consoles.{Tells, Comes, HasLeft, IsBusy, I
 ghost use Rattle.library_tracer.specs.Inner.{known_by};
 ghost use Rattle.library_tracer.specs.Sentences.{explanation_in};
 ghost use Rattle.library_tracer.specs.Statuses.{offset_in, reply_in, status_of};
+ghost use Rattle.library_tracer.specs.private.Tries.{caller_back, idle_after, queued_after, told_in_line, told_of};
 
 use crate::last::Last;
 use crate::queued::Queued;
@@ -53,7 +54,7 @@ pub struct Console {
     last: Last,
     /// Where the tracer puts an answer that is more than that a call was done.
     answer: Result<Reply, Refusal>,
-    /// The number of the kernel's request for which a text was looked for, until the request is served, and what was made for it, if it wants one.
+    /// The number of the kernel's request for which a text was looked for last, until it is served of one, and what was made for it, if it wants one.
     looked: Option<u64>,
     shown: Option<ShownText>,
 }
@@ -246,6 +247,54 @@ fn line_up(queued: &mut Option<Queued>, line: InLine)
     ensures { queued.new ≡ Some (record { line = line }) }
 {
     *queued = Some(Queued { line });
+}
+
+/// Puts back the caller that a try gave back, and tells what the try came to: nothing, where somebody else has a turn.
+#[inline(always)]
+fn settle_tried<T>(
+    idle: &mut Option<Caller>,
+    tried: Result<(Caller, T), NoTurn>,
+) -> Option<Result<T, Refusal>>
+    ensures idle { idle.new ≡ Some (caller_back tried) }
+    ensures told { result ≡ told_of tried }
+{
+    match tried {
+        Ok((caller, told)) => {
+            settle(idle, caller);
+            Some(Ok(told))
+        }
+        Err(NoTurn::Busy(caller)) => {
+            settle(idle, caller);
+            None
+        }
+        Err(NoTurn::Worn(caller)) => {
+            settle(idle, caller);
+            Some(Err(Refusal::Worn))
+        }
+    }
+}
+
+/// As `settle_tried`, of one that was in line, and is again where its ticket is not served yet.
+#[inline(always)]
+fn settle_in_line<T>(
+    idle: &mut Option<Caller>,
+    queued: &mut Option<Queued>,
+    tried: Result<(Caller, T), InLine>,
+) -> Option<Result<T, Refusal>>
+    ensures idle { idle.new ≡ idle_after idle.old tried }
+    ensures queued { queued.new ≡ queued_after queued.old tried }
+    ensures told { result ≡ told_in_line tried }
+{
+    match tried {
+        Ok((caller, told)) => {
+            settle(idle, caller);
+            Some(Ok(told))
+        }
+        Err(line) => {
+            line_up(queued, line);
+            None
+        }
+    }
 }
 
 /// Drops a text that is kept for a request.

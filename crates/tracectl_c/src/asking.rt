@@ -200,8 +200,8 @@ fn limit_if(is_limited: u32, limit: u64) -> Option<u64>
     if is_limited == 0 { None } else { Some(limit) }
 }
 
-/// Reads a file to its end, as `cat PATH` does; or, unless `is_limited` is 0, at most so many records of a pipe, as `take LIMIT PATH`. The text of a trace is
-/// made after the turn, while others have theirs.
+/// Reads a file to its end, as `cat PATH` does; or, unless `is_limited` is 0, at most so many records of a pipe, as `take LIMIT PATH`. The text of `trace`,
+/// `per_cpu/cpuN/trace`, `snapshot` or an event's `hist` is made after the turn, while others have theirs.
 #[unsafe(no_mangle)]
 pub extern "C" fn tracectl_try_read(
     alloc: Global,

@@ -6,10 +6,10 @@ ghost use Rattle.shared_mount.specs.MountCallers.{IsToldOf};
 ghost use Rattle.library_tracer.specs.Consoles.{Lists, Looks, TellsWaiting};
 ghost use Rattle.library_tracer.specs.Masks.{IsMaskOf};
 
-use super::{ALL_DRAWN, Console, NO_MEMORY, Tried, forget, line_up, settle};
+use super::{ALL_DRAWN, Console, NO_MEMORY, Tried, forget, settle_in_line, settle_tried};
 use crate::looks::{Files, Waiting, Wanted};
 use crate::mask::Mask;
-use shared_mount::{Look, NoTurn};
+use shared_mount::Look;
 use std::alloc::AllocError;
 use std::mem;
 use trace_command::{Refusal, Reply};
@@ -65,20 +65,10 @@ impl Console {
     {
         forget(&mut self.shown);
         match mem::replace(&mut self.idle, None) {
-            Some(caller) => match self.tracer.try_look(caller, look) {
-                Ok((caller, answer)) => {
-                    settle(&mut self.idle, caller);
-                    Some(Ok(answer))
-                }
-                Err(NoTurn::Busy(caller)) => {
-                    settle(&mut self.idle, caller);
-                    None
-                }
-                Err(NoTurn::Worn(caller)) => {
-                    settle(&mut self.idle, caller);
-                    Some(Err(Refusal::Worn))
-                }
-            },
+            Some(caller) => {
+                let tried = self.tracer.try_look(caller, look);
+                settle_tried(&mut self.idle, tried)
+            }
             None => self.look_in_line(look),
         }
     }
@@ -93,16 +83,8 @@ impl Console {
     {
         forget(&mut self.shown);
         let queued = mem::replace(&mut self.queued, None)?;
-        match self.tracer.look_in_line(queued.into_line(), look) {
-            Ok((caller, answer)) => {
-                settle(&mut self.idle, caller);
-                Some(Ok(answer))
-            }
-            Err(line) => {
-                line_up(&mut self.queued, line);
-                None
-            }
-        }
+        let tried = self.tracer.look_in_line(queued.into_line(), look);
+        settle_in_line(&mut self.idle, &mut self.queued, tried)
     }
 }
 

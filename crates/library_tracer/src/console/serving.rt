@@ -4,8 +4,8 @@ ghost use Rattle.std.specs.Prelude.{◌≡◌, ◌≢◌, ◌≤◌, [], vec_cap
 ghost use Rattle.mount_replies.specs.Mounted.{most_reply};
 ghost use Rattle.library_tracer.specs.Consoles.{ServesOnce};
 
-use super::{Console, forget, line_up, settle};
-use shared_mount::{NoTurn, Served};
+use super::{Console, forget, settle_in_line, settle_tried};
+use shared_mount::Served;
 use std::mem;
 use trace_command::Refusal;
 
@@ -26,20 +26,10 @@ impl Console {
     {
         forget(&mut self.shown);
         match mem::replace(&mut self.idle, None) {
-            Some(caller) => match self.tracer.try_answer(caller, request, reply) {
-                Ok((caller, served)) => {
-                    settle(&mut self.idle, caller);
-                    Some(Ok(served))
-                }
-                Err(NoTurn::Busy(caller)) => {
-                    settle(&mut self.idle, caller);
-                    None
-                }
-                Err(NoTurn::Worn(caller)) => {
-                    settle(&mut self.idle, caller);
-                    Some(Err(Refusal::Worn))
-                }
-            },
+            Some(caller) => {
+                let tried = self.tracer.try_answer(caller, request, reply);
+                settle_tried(&mut self.idle, tried)
+            }
             None => self.answer_in_line(request, reply),
         }
     }
@@ -60,19 +50,10 @@ impl Console {
     {
         forget(&mut self.shown);
         let queued = mem::replace(&mut self.queued, None)?;
-        match self
+        let tried = self
             .tracer
-            .answer_in_line(queued.into_line(), request, reply)
-        {
-            Ok((caller, served)) => {
-                settle(&mut self.idle, caller);
-                Some(Ok(served))
-            }
-            Err(line) => {
-                line_up(&mut self.queued, line);
-                None
-            }
-        }
+            .answer_in_line(queued.into_line(), request, reply);
+        settle_in_line(&mut self.idle, &mut self.queued, tried)
     }
 
     /// Tells something that is owed to the mount, in one try: `reply`, which is empty and has the room, gets the bytes. Where nothing is owed, nothing is
@@ -87,20 +68,10 @@ impl Console {
     {
         forget(&mut self.shown);
         match mem::replace(&mut self.idle, None) {
-            Some(caller) => match self.tracer.try_tell(caller, reply) {
-                Ok((caller, served)) => {
-                    settle(&mut self.idle, caller);
-                    Some(Ok(served))
-                }
-                Err(NoTurn::Busy(caller)) => {
-                    settle(&mut self.idle, caller);
-                    None
-                }
-                Err(NoTurn::Worn(caller)) => {
-                    settle(&mut self.idle, caller);
-                    Some(Err(Refusal::Worn))
-                }
-            },
+            Some(caller) => {
+                let tried = self.tracer.try_tell(caller, reply);
+                settle_tried(&mut self.idle, tried)
+            }
             None => self.tell_in_line(reply),
         }
     }
@@ -116,15 +87,7 @@ impl Console {
     {
         forget(&mut self.shown);
         let queued = mem::replace(&mut self.queued, None)?;
-        match self.tracer.tell_in_line(queued.into_line(), reply) {
-            Ok((caller, served)) => {
-                settle(&mut self.idle, caller);
-                Some(Ok(served))
-            }
-            Err(line) => {
-                line_up(&mut self.queued, line);
-                None
-            }
-        }
+        let tried = self.tracer.tell_in_line(queued.into_line(), reply);
+        settle_in_line(&mut self.idle, &mut self.queued, tried)
     }
 }

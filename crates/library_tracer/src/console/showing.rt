@@ -17,7 +17,7 @@ ghost use Rattle.library_tracer.specs.Consoles.{Looks};
 ghost use Rattle.library_tracer.specs.ShownReplies.{Answers, AnswersOnce, IsShownTo};
 ghost use Rattle.library_tracer.specs.private.MadeTexts.{IsMadeOf};
 
-use super::{Console, forget, line_up, settle};
+use super::{Console, forget, line_up, settle, settle_in_line, settle_tried};
 use fuse_wire::{Operation, decode};
 use mount_replies::{CopiedText, ShownText};
 use shared_mount::{NoTurn, Served};
@@ -176,20 +176,10 @@ impl Console {
     {
         forget(&mut self.shown);
         match mem::replace(&mut self.idle, None) {
-            Some(caller) => match self.tracer.try_copy_wanted(caller, request) {
-                Ok((caller, copied)) => {
-                    settle(&mut self.idle, caller);
-                    Some(Ok(copied))
-                }
-                Err(NoTurn::Busy(caller)) => {
-                    settle(&mut self.idle, caller);
-                    None
-                }
-                Err(NoTurn::Worn(caller)) => {
-                    settle(&mut self.idle, caller);
-                    Some(Err(Refusal::Worn))
-                }
-            },
+            Some(caller) => {
+                let tried = self.tracer.try_copy_wanted(caller, request);
+                settle_tried(&mut self.idle, tried)
+            }
             None => self.copy_wanted_in_line(request),
         }
     }
@@ -202,16 +192,8 @@ impl Console {
     {
         forget(&mut self.shown);
         let queued = mem::replace(&mut self.queued, None)?;
-        match self.tracer.copy_wanted_in_line(queued.into_line(), request) {
-            Ok((caller, copied)) => {
-                settle(&mut self.idle, caller);
-                Some(Ok(copied))
-            }
-            Err(line) => {
-                line_up(&mut self.queued, line);
-                None
-            }
-        }
+        let tried = self.tracer.copy_wanted_in_line(queued.into_line(), request);
+        settle_in_line(&mut self.idle, &mut self.queued, tried)
     }
 }
 

@@ -1,21 +1,11 @@
-use Rattle.std.proofs.Common.{true, refl, sym, ap, ◌∙◌}
-use Rattle.shared_mount.specs.MountCallers.{line_view}
-use Rattle.library_tracer.proofs.ConsoleLemmas.{line_busy, line_served}
+use Rattle.std.proofs.Common.{true, sym, ◌∙◌}
+use Rattle.library_tracer.proofs.TryLemmas.{line_serves}
 use Rattle.library_tracer.proofs.console.Console.answer_in_line.Goals as goal
 
-pub returns-in-Err-clause-serves : goal.returns-in-Err-clause-serves
-returns-in-Err-clause-serves c =
-    let says = c.in-Err.ensures.busy in (
-      rw (← c.self.view_is, c.line_up.ensures) (line_busy c.self.inside c.in_ok-queued.queued (record { line = c.in-Err.line })
-          (sym c.replace.ensures.value ∙ c.in_ok-queued.was) c.self.invariant (says.0 ∙ ap line_view c.into_line.ensures)),
-      says.1,
-    )
-
-pub returns-in-Ok-clause-serves : goal.returns-in-Ok-clause-serves
-returns-in-Ok-clause-serves c =
-    rw (← c.self.view_is, c.replace.ensures.after, c.settle.ensures) (line_served c.self.inside c.in_ok-queued.queued c.in-Ok.caller c.args.request.now
-    c.answer_in_line.new.reply.items true c.in-Ok.served (sym c.replace.ensures.value ∙ c.in_ok-queued.was) c.self.invariant
-    (rw (c.into_line.ensures, c.deref.ensures) at c.in-Ok.ensures.serves))
-
-pub returns-in-Ok-clause-has : goal.returns-in-Ok-clause-has
-returns-in-Ok-clause-has c = rw c.settle.ensures refl
+pub returns-clause-serves : goal.returns-clause-serves
+returns-clause-serves c =
+    let says = c.answer_in_line-tried.ensures in
+    let left = c.settle_in_line.ensures in
+    rw (← c.self.view_is, left.told, left.idle, left.queued) (line_serves c.self.inside c.in_ok-queued.queued c.replace.new.dest
+    c.args.request.now c.answer_in_line-tried.new.reply.items true c.answer_in_line-tried.result (sym c.replace.ensures.value ∙ c.in_ok-queued.was)
+    c.self.invariant c.replace.ensures.after (rw (c.into_line.ensures, c.deref.ensures) at says.serves) (rw c.into_line.ensures at says.busy))

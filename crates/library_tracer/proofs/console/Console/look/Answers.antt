@@ -1,20 +1,9 @@
-use Rattle.std.proofs.Common.{refl, sym, ◌∙◌}
-use Rattle.library_tracer.proofs.ConsoleLemmas.{idle_busy, idle_looked, idle_worn}
+use Rattle.std.proofs.Common.{sym, ◌∙◌}
+use Rattle.library_tracer.proofs.TryLemmas.{idle_sees}
 use Rattle.library_tracer.proofs.console.Console.look.Goals as goal
 
-pub returns-in-Err-Busy-clause-comes : goal.returns-in-Err-Busy-clause-comes
-returns-in-Err-Busy-clause-comes g c =
-    rw (← c.self.view_is, c.settle-in-Err-Busy.ensures) (idle_busy c.self.inside c.in-Some.caller c.in-Err-Busy.caller (sym c.replace.ensures.value ∙ c.in-Some.is)
-    c.self.invariant (rw c.in-Err-Busy.field-0-is at c.in-Err-Busy.ensures.failed))
-
-pub returns-in-Err-Worn-clause-comes : goal.returns-in-Err-Worn-clause-comes
-returns-in-Err-Worn-clause-comes g c = (
-  refl,
-  rw (← c.self.view_is, c.settle-in-Err-Worn.ensures) (idle_worn c.self.inside c.in-Some.caller c.in-Err-Worn.caller (sym c.replace.ensures.value ∙ c.in-Some.is)
-      c.self.invariant (rw c.in-Err-Worn.field-0-is at c.in-Err-Worn.ensures.failed)),
-)
-
-pub returns-in-Ok-clause-comes : goal.returns-in-Ok-clause-comes
-returns-in-Ok-clause-comes g c =
-    rw (← c.self.view_is, c.settle.ensures) (idle_looked c.self.inside c.in-Some.caller c.in-Ok.caller (g.L.Look.tells c.args.look.now) c.in-Ok.answer
-    (sym c.replace.ensures.value ∙ c.in-Some.is) c.self.invariant (rw c.deref.ensures at c.in-Ok.ensures.looked))
+pub returns-in-Some-clause-comes : goal.returns-in-Some-clause-comes
+returns-in-Some-clause-comes g c =
+    let says = c.try_look-tried.ensures in
+    rw (← c.self.view_is, c.settle_tried.ensures.told, c.settle_tried.ensures.idle) (idle_sees c.self.inside c.in-Some.caller (g.L.Look.tells c.args.look.now)
+    c.try_look-tried.result (sym c.replace.ensures.value ∙ c.in-Some.is) c.self.invariant (rw c.deref.ensures at says.looked) says.failed)

@@ -1,26 +1,21 @@
-use Rattle.std.proofs.Common.{refl, sym, ap, ◌∙◌}
-use Rattle.shared_mount.specs.MountCallers.{line_view}
-use Rattle.library_tracer.proofs.ConsoleLemmas.{line_busy, line_looked, line_stays}
+use Rattle.std.proofs.Common.{sym, ◌∙◌}
+use Rattle.library_tracer.proofs.TryLemmas.{line_answers, line_sees, line_waits}
 use Rattle.library_tracer.proofs.console.Console.look_in_line.Goals as goal
 
-pub returns-in-Err-clause-comes : goal.returns-in-Err-clause-comes
-returns-in-Err-clause-comes g c =
-    let says = c.in-Err.ensures in
-    rw (← c.self.view_is, c.line_up.ensures) (line_busy c.self.inside c.in_ok-queued.queued (record { line = c.in-Err.line })
-    (sym c.replace.ensures.value ∙ c.in_ok-queued.was) c.self.invariant (says.busy ∙ ap line_view c.into_line.ensures))
+pub returns-clause-comes : goal.returns-clause-comes
+returns-clause-comes g c =
+    let says = c.look_in_line-tried.ensures in
+    let left = c.settle_in_line.ensures in
+    rw (← c.self.view_is, left.told, left.idle, left.queued) (line_sees c.self.inside c.in_ok-queued.queued c.replace.new.dest
+    (g.L.Look.tells c.args.look.now) c.look_in_line-tried.result (sym c.replace.ensures.value ∙ c.in_ok-queued.was) c.self.invariant c.replace.ensures.after
+    (rw (c.into_line.ensures, c.deref.ensures) at says.looked) (rw c.into_line.ensures at says.busy))
 
-pub returns-in-Err-clause-waits : goal.returns-in-Err-clause-waits
-returns-in-Err-clause-waits g c =
-    let says = c.in-Err.ensures in
-    rw (← c.self.view_is, c.line_up.ensures) (line_stays c.self.inside c.in_ok-queued.queued (record { line = c.in-Err.line })
-    (sym c.replace.ensures.value ∙ c.in_ok-queued.was) c.self.invariant (says.busy ∙ ap line_view c.into_line.ensures))
+pub returns-clause-in_line : goal.returns-clause-in_line
+returns-clause-in_line g c = rw c.settle_in_line.ensures.told (line_answers c.look_in_line-tried.result)
 
-pub returns-in-Ok-clause-comes : goal.returns-in-Ok-clause-comes
-returns-in-Ok-clause-comes g c =
-    let says = c.in-Ok.ensures in
-    let of = c.into_line.ensures in
-    rw (← c.self.view_is, c.replace.ensures.after, c.settle.ensures) (line_looked c.self.inside c.in_ok-queued.queued c.in-Ok.caller (g.L.Look.tells c.args.look.now) c.in-Ok.answer
-    (sym c.replace.ensures.value ∙ c.in_ok-queued.was) c.self.invariant (rw (of, c.deref.ensures) at says.looked))
-
-pub returns-in-Ok-clause-has : goal.returns-in-Ok-clause-has
-returns-in-Ok-clause-has g c = rw c.settle.ensures refl
+pub returns-clause-waits : goal.returns-clause-waits
+returns-clause-waits g c =
+    let says = c.look_in_line-tried.ensures in
+    let left = c.settle_in_line.ensures in
+    rw (← c.self.view_is, left.told, left.idle, left.queued) (line_waits c.self.inside c.in_ok-queued.queued c.replace.new.dest
+    c.look_in_line-tried.result (sym c.replace.ensures.value ∙ c.in_ok-queued.was) c.self.invariant (rw c.into_line.ensures at says.busy))
