@@ -204,6 +204,7 @@ static struct tracectl_mounted *new_mount(tracectl *tracer, char *folder) {
     mount->file_system = 0;
     mount->device = -1;
     mount->stops = 0;
+    mount->contended_reads = 0;
     mount->thread = (tracectl_thread)TRACECTL_LEFT;
     mount->parked = mount->opened = (struct tracectl_numbers){NULL, 0, 0};
     pthread_mutex_lock(&devices);

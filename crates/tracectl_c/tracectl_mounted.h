@@ -30,6 +30,7 @@ struct tracectl_mounted {
     int device;      /* -1 once it is closed. It changes under a lock of tracectl_mount.c; the server, which closes it, reads it without */
     int stops;       /* the server is to end */
     tracectl_thread thread;
+    uint32_t contended_reads;       /* how many of the latest READs found the tracer taken, at most as many as make the server rest */
     struct tracectl_numbers parked; /* reads that wait */
     struct tracectl_numbers opened; /* handles of open files */
     char request[TRACECTL_MOST_BYTES], reply[TRACECTL_MOST_BYTES];

@@ -7,7 +7,8 @@
  *     poll ──> eventfd: read it ───────────────> tell what is owed, until nothing is ──> poll
  *          ──> /dev/fuse: read one request ──> serve it ──> take the mask ──> write the reply ──> tell what is owed ──> poll
  *
- * A request that takes memory, and is refused it, is told ENOMEM. What can't be refused is tried again a millisecond later, until the mount ends. */
+ * A request that takes memory, and is refused it, is told ENOMEM. What can't be refused is tried again a millisecond later, until the mount ends. Where READs
+ * find the tracer taken again and again, there is a rest after each. */
 #define _GNU_SOURCE
 #include "tracectl_mounted.h"
 
@@ -21,6 +22,8 @@
 /* Of linux/fuse.h, which not every system has. */
 enum { FUSE_SETATTR = 4, FUSE_MKDIR = 9, FUSE_RMDIR = 11, FUSE_OPEN = 14, FUSE_READ = 15, FUSE_WRITE = 16, FUSE_RELEASE = 18 };
 enum { FUSE_INIT = 26, FUSE_INTERRUPT = 36 };
+
+enum { READS_BEFORE_RESTS = 8, REST_NANOSECONDS = 100000 };
 
 struct in_header {
     uint32_t length, opcode;
@@ -166,6 +169,21 @@ static int is_told(struct tracectl_mounted *mount) {
     return 1;
 }
 
+/* Notes how often a READ was tried in vain. */
+static void note_tries(struct tracectl_mounted *mount, uint32_t tries) {
+    if (header_of(mount).opcode != FUSE_READ) return;
+    if (!tries) mount->contended_reads /= 2;
+    else if (mount->contended_reads < READS_BEFORE_RESTS) mount->contended_reads++;
+}
+
+/* A READ has the tracer for as long as hundreds of emissions, and its reader asks for the next at once. Where threads emit as fast as they can, so that rings
+ * are overwritten anyway, the server rests after a READ, and their emissions take little longer than without a reader. It is woken as by `poll`. */
+static void rest(const struct tracectl_mounted *mount) {
+    struct pollfd wakes = {mount->tracer->wakes - 1, POLLIN, 0};
+    const struct timespec time = {0, REST_NANOSECONDS};
+    if (mount->contended_reads == READS_BEFORE_RESTS) ppoll(&wakes, 1, &time, NULL);
+}
+
 /* Has the tracer serve a request of so many bytes: its status, which is TRACECTL_TRY_NOT_NOW where what was owed before it can't be told. */
 static uint32_t ask(struct tracectl_mounted *mount, size_t length, size_t *reply_length, uint32_t *owes) {
     struct tracectl_console *console = &mount->thread.seat->console;
@@ -177,6 +195,7 @@ static uint32_t ask(struct tracectl_mounted *mount, size_t length, size_t *reply
         else if (status != TRACECTL_TRY_NOT_NOW || !is_told(mount)) return status;
     }
     note_answered(mount, length, *reply_length);
+    note_tries(mount, tries);
     return TRACECTL_DONE;
 }
 
@@ -215,7 +234,9 @@ static int is_answered(struct tracectl_mounted *mount, size_t length) {
         if (!is_to_try_again(mount)) return 0;
     }
     if (may_change(opcode)) take_latest_mask(mount);
-    return is_written(mount, reply_length) && (!owes || is_told(mount));
+    if (!is_written(mount, reply_length) || (owes && !is_told(mount))) return 0;
+    if (opcode == FUSE_READ) rest(mount);
+    return 1;
 }
 
 /* Reads a request and serves it, if there is one. Whether the device is there: no kernel's request is shorter than its header. */
