@@ -1,5 +1,5 @@
 # What a starter knows of its program where ./install has put both, in place of tools/building.bash. `versions` has for each tool the line that its
-# --version prints, as "tracectl 0.4.1, proved, commit 5a43174a1b2c".
+# --version prints, as "tracectl 0.4.2, proved, commit 5a43174a1b2c".
 
 readonly shown=$tool # how help shows the starter
 

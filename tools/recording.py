@@ -3,7 +3,7 @@
 It begins with lines: FORMAT, the version of who recorded, the kernel, each option of the program, and a checksum of these lines.
 
     tracectl recording 1
-    tracectl-mount 0.4.1, proved, commit 5a43174a1b2c
+    tracectl-mount 0.4.2, proved, commit 5a43174a1b2c
     Linux 6.18.44
     --cpus=2
     checksum 8c736521

@@ -23,4 +23,4 @@ from .statistics import Statistics
 from .tracer import Tracer
 
 __all__ = ["NAMES", "Bucket", "Event", "Field", "FieldValue", "Fields", "Histogram", "Refused", "Row", "Statistics", "Text", "Tracer"]
-__version__ = "0.4.1"
+__version__ = "0.4.2"

@@ -21,7 +21,7 @@ import replay
 
 PROGRAM = os.environ.get("TRACECTL_MOUNT_PROGRAM", TOP / "crates/tracectl_mount/out/tracectl_mount")
 RECORDER, REPLAY = TOP / "tools/recorder.py", TOP / "tools/replay.py"
-VERSION = "tracectl-mount 0.4.1, proved, commit 0123456789ab"
+VERSION = "tracectl-mount 0.4.2, proved, commit 0123456789ab"
 OPTIONS = ["--cpus=1", "--pages=16", "--uid=0", "--gid=0"]
 TICK = "events/synthetic/tick/"
 

@@ -11,7 +11,7 @@ import fuse
 from kernel_page_rules import PAGE, events_in
 from recording_cases.making import OPTIONS, PROGRAM, TICK, VERSION, Session, inject, records_of, recorded, recording, replay, replayed, server_of
 
-OTHER = "tracectl-mount 0.4.1, proved, commit ba9876543210"
+OTHER = "tracectl-mount 0.4.2, proved, commit ba9876543210"
 CUTS = 1_000
 CHANGED, REPLAYED = 1_000, 20
 SECONDS = 60
@@ -193,7 +193,7 @@ def other_versions():
         got = replayed(made.file, version=OTHER)
         assert got == (5, b"", ("tracectl-mount: %s was recorded by %s; this is %s\n" % (made.file, VERSION, OTHER)).encode()), got
         assert replayed(made.file, version="tracectl-mount 0.5.0, proved").status == 5
-        for words, version in ((["--any-version"], OTHER), ([], VERSION.replace("proved", "unproved")), ([], "tracectl-mount 0.4.1, unproved")):
+        for words, version in ((["--any-version"], OTHER), ([], VERSION.replace("proved", "unproved")), ([], "tracectl-mount 0.4.2, unproved")):
             got = replayed(made.file, *words, version=version)
             assert got.status == 0 and b": as recorded; " in got.stdout and not got.stderr, got
         copied(made.file, made.folder / "other", ["--help"])

@@ -6,7 +6,7 @@ use clap::{Arg, Command, Error};
 use std::alloc::{AllocError, Global};
 use std::{env, io};
 
-const VERSION: &str = "0.4.1";
+const VERSION: &str = "0.4.2";
 
 const NOT_UNICODE: &str = "invalid UTF-8 was detected in one or more arguments";
 
