@@ -92,20 +92,21 @@ static const char SHOWN_BY_DEFAULT[] = "events/synthetic/malloc/hist";
 
 static int state;
 static tracectl tracer = TRACECTL_CLOSED;
-static pthread_key_t key; /* of threads that have joined */
+static pthread_key_t key; /* of threads that joined, or could not */
 
 OF_THREAD tracectl_thread handle;
 OF_THREAD int inside; /* a call within another one is the tracer's own */
 OF_THREAD int has_ended;
 
-/* ---- How many calls were traced. Each thread counts its own, so that none waits for another. ---- */
+/* ---- How many calls were traced. Each thread counts its own, so that none waits for another. A thread's own memory goes when it ends, so counts are not
+ * there. ---- */
 
 struct counts {
     uint64_t of[FREE + 1]; /* of each event */
     struct counts *next;
 };
 
-OF_THREAD struct counts own;
+OF_THREAD struct counts *own;     /* once it has joined */
 static struct counts *of_threads; /* that have joined */
 static uint64_t of_ended[FREE + 1];
 static uint64_t untraced;
@@ -119,25 +120,29 @@ static void unlock_counts(void) {
     __atomic_store_n(&counts_lock, 0, __ATOMIC_RELEASE);
 }
 
-static void begin_counts(void) {
+static int has_begun_counts(void) {
+    if (!(own = __wrap_malloc(sizeof *own))) return 0;
+    memset(own, 0, sizeof *own);
     lock_counts();
-    own.next = of_threads;
-    of_threads = &own;
+    own->next = of_threads;
+    of_threads = own;
     unlock_counts();
+    return 1;
 }
 
 static void end_counts(void) {
     lock_counts();
     struct counts **at = &of_threads;
-    while (*at && *at != &own) at = &(*at)->next;
-    if (*at) *at = own.next;
-    for (int event = 0; event <= FREE; event++) of_ended[event] += own.of[event];
+    while (*at != own) at = &(*at)->next;
+    *at = own->next;
+    for (int event = 0; event <= FREE; event++) of_ended[event] += own->of[event];
     unlock_counts();
+    __wrap_free(own);
 }
 
 /* A report of another thread may read the count meanwhile. */
 static inline void count_call(uint32_t event) {
-    __atomic_store_n(&own.of[event], own.of[event] + 1, __ATOMIC_RELAXED);
+    __atomic_store_n(&own->of[event], own->of[event] + 1, __ATOMIC_RELAXED);
 }
 
 /* The calls of all threads. */
@@ -160,26 +165,26 @@ static void tell(const char *format, ...) {
     if (length > 0 && write(STDERR_FILENO, line, (size_t)length < sizeof line ? (size_t)length : sizeof line - 1) < 0) return;
 }
 
-/* A thread ends that has joined. It leaves before tracectl.c would let it, as that would not tell this handle; what comes after this is not traced. */
-static void leave(void *joined) {
-    (void)joined;
+/* A thread ends. If it has joined, it leaves before tracectl.c would let it, as that would not tell this handle; what comes after this is not traced. */
+static void leave(void *unused) {
+    (void)unused;
     inside = 1;
     has_ended = 1;
-    end_counts();
-    tracectl_leave(&handle);
+    if (handle.seat) {
+        end_counts();
+        tracectl_leave(&handle);
+    }
     inside = 0;
 }
 
-/* Whether this thread has joined. */
+/* Whether this thread has joined. `leave` is called even if it could not: else it might join for what glibc frees once its keys are gone, and nobody would let
+ * it leave. */
 static int is_joined(void) {
     if (handle.seat) return 1;
-    if (has_ended || tracectl_join(&tracer, &handle)) return 0;
-    if (pthread_setspecific(key, &handle)) {
-        tracectl_leave(&handle);
-        return 0;
-    }
-    begin_counts();
-    return 1;
+    if (has_ended || pthread_setspecific(key, &handle) || tracectl_join(&tracer, &handle)) return 0;
+    if (has_begun_counts()) return 1;
+    tracectl_leave(&handle);
+    return 0;
 }
 
 static void stop_in_child(void) {
@@ -302,10 +307,11 @@ EXPORTED void *realloc(void *old, size_t bytes) {
     return block;
 }
 
+/* No thread joins for a null pointer: glibc frees some of each thread that has ended, also of one that did nothing. */
 EXPORTED void free(void *block) {
     if (__builtin_expect(is_early(block), 0)) return;
     if (__builtin_expect(!next.free, 0)) begin();
-    if (is_emitted(FREE)) emit_free(HERE, block);
+    if ((block || handle.seat) && is_emitted(FREE)) emit_free(HERE, block);
     if (next.free) next.free(block);
 }
 

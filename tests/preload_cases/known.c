@@ -1,6 +1,6 @@
 /* A program that allocates as often as it says at each moment of its life, by each function, with a size for each, from 100,001 on. `known` is what
- * tests/preload counts. `known crowd` has more threads that allocate at a time than a tracer has passes. `known lines` does what lines of standard input say,
- * and tells when it is done: `SIZE TIMES` allocates, and `child` has a child that does. */
+ * tests/preload counts. `known crowd` has more threads that allocate at a time than a tracer has passes, `known idle` as many that call nothing, one after
+ * another. `known lines` does what lines of standard input say, and tells when it is done: `SIZE TIMES` allocates, and `child` has a child that does. */
 #define _GNU_SOURCE
 #include <malloc.h>
 #include <pthread.h>
@@ -51,6 +51,10 @@ static void *be_one_of_crowd(void *unused) {
     char *block = filled(malloc(IN_CROWD), 1);
     pthread_barrier_wait(&barrier);
     free(block);
+    return unused;
+}
+
+static void *be_idle(void *unused) {
     return unused;
 }
 
@@ -107,6 +111,10 @@ static int do_lines(void) {
 
 int main(int count, char **words) {
     if (count > 1 && !strcmp(words[1], "lines")) return do_lines();
+    if (count > 1 && !strcmp(words[1], "idle")) {
+        for (int i = 0; i < CROWD; i++) start(1, be_idle);
+        return 0;
+    }
     if (count > 1) {
         pthread_barrier_init(&barrier, NULL, CROWD);
         start(CROWD, be_one_of_crowd);
